@@ -1,0 +1,2 @@
+pub mod RoundingFacts
+pub mod NumeralFacts

@@ -1,0 +1,5 @@
+use Rattle.money_units.proofs.NumeralFacts.{shares-shares_text}
+use Rattle.money_units.proofs.laws.printed_mils_read_back.Goals as goal
+
+pub returns : goal.returns
+returns c = shares-shares_text c.args.mils c.requires

@@ -1,0 +1,23 @@
+//! The units of a transfer agent: cents, mils, basis points and net asset values, how they are rounded, and how
+//! they are written and read.
+#![tactic(auto)]
+
+mod faults;
+pub mod laws;
+mod lists;
+mod moment;
+mod printing;
+mod reading;
+mod rounding;
+#[cfg(test)]
+mod tests;
+mod units;
+pub mod worked;
+
+pub use crate::faults::{NoMemory, TextFault};
+pub use crate::lists::Bytes;
+pub use crate::moment::{MAX_MOMENT_SECONDS, Moment};
+pub use crate::printing::{print_cents, print_mils, print_number, print_signed};
+pub use crate::reading::{read_cents, read_mils, read_number, read_rate};
+pub use crate::rounding::{ceil_div, half, signed_half};
+pub use crate::units::{Bps, Cents, MAX_NAV_CENTS, Mils, Nav};
