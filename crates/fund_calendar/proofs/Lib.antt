@@ -1,0 +1,5 @@
+pub mod DateLemmas
+pub mod JiffLemmas
+pub mod InstantLemmas
+pub mod ScheduleLemmas
+pub mod LookUpLemmas

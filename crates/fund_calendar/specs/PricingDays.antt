@@ -1,0 +1,137 @@
+-- The pricing days of a calendar (17 CFR 270.22c-1(b)(1)): Monday to Friday, without the holidays that the prospectus
+-- lists, each priced at the instant of the calendar's time of day in its zone.
+use Rattle.std.specs.Prelude.{ℕ, zero, suc, ◌+◌, ◌-◌, ◌*◌, ◌<◌, ◌≤◌, Bool, not, ◌&&◌, ◌||◌, ◌==◌, nat_lt, nat_le, if◌then◌else◌, ℤ, pos, negsuc, ◌<ℤ◌, ◌≤ℤ◌, List, [], ◌∷◌, map, filter, find, All, AllPairs, Option, Some, None, option_map, unwrap_or, Result, Ok, Err}
+use Rattle.std.specs.List.{list_any}
+use Rattle.std.specs.Option.{option_map_or}
+use Rattle.fund_calendar.specs.declared.calendar.CalendarFault.{CalendarFault}
+use Rattle.fund_calendar.specs.declared.calendar.CalendarFault.TheVariants.{BadZone, BadSpan, NotRising}
+use Rattle.fund_calendar.specs.declared.pricing_day.PricingDay.{PricingDay}
+use Rattle.fund_calendar.specs.declared.zone.ZoneRule.{ZoneRule}
+use Rattle.fund_calendar.specs.Dates.{weekday_of}
+use Rattle.fund_calendar.specs.ZoneText.{read_zone}
+use Rattle.fund_calendar.specs.ZoneRules.{instant}
+
+-- moments are seconds from 1970-01-01 00:00 UTC up to 2199-12-31 23:59:59
+abbrev pub last_moment : ℕ
+last_moment = 7258118399
+
+-- the most days from a calendar's first date to its last
+abbrev pub longest_span : ℕ
+longest_span = 3660
+
+-- a calendar: its number, and its pricing days with their moments
+pub record Listing : Type 0 where
+  pub number : ℕ
+  pub days : List PricingDay
+
+-- the days and their moments rise, and the moments are in range
+pub record IsListing (days : List PricingDay) : Type 0 where
+  pub days_rise : AllPairs (λ a b. a.day < b.day) days
+  pub moments_rise : AllPairs (λ a b. a.moment < b.moment) days
+  pub within : All (λ e. e.moment ≤ last_moment) days
+
+-- so many days from the first on
+unfoldable pub days_from : ℕ → ℕ → List ℕ
+days_from zero first = []
+days_from (suc n) first = first ∷ days_from n (first + 1)
+
+-- Monday to Friday, and no holiday
+abbrev pub is_priced : List ℕ → ℕ → Bool
+is_priced holidays day = nat_lt (weekday_of day) 5 && not (list_any (λ holiday. holiday == day) holidays)
+
+-- the dates from first to last that are priced
+unfoldable pub pricing_dates : List ℕ → ℕ → ℕ → List ℕ
+pricing_dates holidays first last = filter (is_priced holidays) (days_from (last + 1 - first) first)
+
+-- the instant, where it is a moment and not before the least one that may come
+abbrev pub rising : ℕ → Option ℕ → Option ℕ
+rising least None = None
+rising least (Some moment) = if nat_le least moment && nat_le moment last_moment then Some moment else None
+
+-- the place of the first instant that is no moment or isn't greater than the one before it
+unfoldable pub first_not_rising : ℕ → List (Option ℕ) → Option ℕ
+first_not_rising least [] = None
+first_not_rising least (instant ∷ later) =
+    option_map_or (λ moment. option_map (λ place. place + 1) (first_not_rising (moment + 1) later)) (rising least instant) (Some 0)
+
+-- a date with the moment of its instant
+abbrev pub priced_at : (ℕ → Option ℕ) → ℕ → PricingDay
+priced_at instant_of day = record { day = day; moment = unwrap_or (instant_of day) 0 }
+
+-- the dates with their moments, or the place at which these don't rise
+abbrev pub days_or_fault : (ℕ → Option ℕ) → List ℕ → Option ℕ → Result (List PricingDay) CalendarFault
+days_or_fault instant_of dates None = Ok (map (priced_at instant_of) dates)
+days_or_fault instant_of dates (Some place) = Err (NotRising place)
+
+unfoldable pub days_on : (ℕ → Option ℕ) → List ℕ → Result (List PricingDay) CalendarFault
+days_on instant_of dates = days_or_fault instant_of dates (first_not_rising 0 (map instant_of dates))
+
+-- the instant of the time of day, `minute` minutes after midnight, on each day
+abbrev pub instant_on : ZoneRule → ℕ → ℕ → Option ℕ
+instant_on rule minute day = instant rule (1440 * day + minute)
+
+abbrev pub numbered : ℕ → Result (List PricingDay) CalendarFault → Result Listing CalendarFault
+numbered number (Ok days) = Ok (record { number = number; days = days })
+numbered number (Err fault) = Err fault
+
+-- the last date is before the first, or the calendar is too long
+abbrev pub is_bad_span : ℕ → ℕ → Bool
+is_bad_span first last = nat_lt last first || nat_lt longest_span (last + 1 - first)
+
+-- the calendar by its zone rule, where there is one
+abbrev pub calendar_by : Option ZoneRule → ℕ → ℕ → ℕ → ℕ → List ℕ → Result Listing CalendarFault
+calendar_by None number minute first last holidays = Err BadZone
+calendar_by (Some rule) number minute first last holidays =
+    if is_bad_span first last then Err BadSpan
+    else numbered number (days_on (instant_on rule minute) (pricing_dates holidays first last))
+
+-- a new calendar, or the first fault: its zone, its span, a moment that doesn't rise
+unfoldable pub new_calendar : ℕ → List ℕ → ℕ → ℕ → ℕ → List ℕ → Result Listing CalendarFault
+new_calendar number zone minute first last holidays = calendar_by (read_zone zone) number minute first last holidays
+
+-- the day is one of the calendar's
+abbrev pub lists_day : Listing → ℕ → Bool
+lists_day c day = list_any (λ e. e.day == day) c.days
+
+-- the calendar without a day
+abbrev pub without_day : Listing → ℕ → Listing
+without_day c day = record { number = c.number; days = filter (λ e. not (e.day == day)) c.days }
+
+-- the least moment above
+abbrev pub above : ℤ → ℕ
+above (pos n) = n + 1
+above (negsuc n) = 0
+
+-- the first listed moment above
+abbrev pub first_above : List PricingDay → ℤ → Option ℤ
+first_above days moment = option_map (λ e. pos e.moment) (find (λ e. nat_le (above moment) e.moment) days)
+
+abbrev pub next_after : Listing → ℤ → Option ℤ
+next_after c moment = first_above c.days moment
+
+-- it is the least one above, since the moments rise
+pub record IsLeastAbove (days : List PricingDay) (moment next : ℤ) : Type 0 where
+  pub above_it : moment <ℤ next
+  pub least : All (λ e. moment <ℤ pos e.moment → next ≤ℤ pos e.moment) days
+
+-- no listed moment is above
+abbrev pub HasNoneAbove : List PricingDay → ℤ → Type 0
+HasNoneAbove days moment = All (λ e. pos e.moment ≤ℤ moment) days
+
+-- the number of a moment, where it isn't before 1970
+abbrev pub moment_number : ℤ → Option ℕ
+moment_number (pos n) = Some n
+moment_number (negsuc n) = None
+
+-- the listed day of a moment, where the moment isn't before 1970
+abbrev pub day_at : List PricingDay → Option ℕ → Option ℕ
+day_at days None = None
+day_at days (Some moment) = option_map (λ e. e.day) (find (λ e. e.moment == moment) days)
+
+-- the day that is priced at a moment
+abbrev pub date_at : Listing → ℤ → Option ℕ
+date_at c moment = day_at c.days (moment_number moment)
+
+-- the moment of a day
+abbrev pub moment_on : Listing → ℕ → Option ℤ
+moment_on c day = option_map (λ e. pos e.moment) (find (λ e. e.day == day) c.days)

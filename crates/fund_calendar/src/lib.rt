@@ -1,0 +1,22 @@
+//! Pricing days of a fund: dates, calendars with zone rules, holidays and closures, and the dates on which loads
+//! and letters come due.
+#![tactic(auto)]
+
+mod calendar;
+mod day;
+mod day_text;
+mod instant;
+mod look_up;
+mod months;
+mod pricing_day;
+mod schedule;
+#[cfg(test)]
+mod tests;
+pub mod worked;
+mod zone;
+mod zone_text;
+
+pub use calendar::{Calendar, CalendarFault};
+pub use day::Day;
+pub use day_text::read_day;
+pub use months::{add_months, anniversaries};
