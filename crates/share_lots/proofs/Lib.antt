@@ -1,0 +1,6 @@
+pub mod LotLemmas
+pub mod RankedLemmas
+pub mod PayingLemmas
+pub mod KeptLemmas
+pub mod PaidLemmas
+pub mod RelationLemmas

@@ -1,0 +1,88 @@
+-- The amounts of a taking by rank are the only ones that the relation allows.
+use Rattle.std.proofs.Common.{◌≡◌, ℕ, zero, suc, ◌-◌, ◌<◌, ◌≤◌, min, List, [], ◌∷◌, length, get_or, sum, sum_by, refl, ap, ◌∙◌, inl, inr, arith}
+use Rattle.std.proofs.lemmas.Bool.{cases_lt}
+use Rattle.std.proofs.lemmas.List.Sums.{sum_by-cons}
+use Rattle.share_lots.specs.declared.lot.Lot.{Lot}
+use Rattle.share_lots.specs.Taking.{IsTaking, amounts}
+
+length-amounts : (asked : ℕ) (lots : List Lot) → length (amounts asked lots) ≡ length lots
+unfolding amounts
+length-amounts asked [] = refl
+length-amounts asked (x ∷ xs) = ap suc (length-amounts (asked - x.loose) xs)
+
+sum-amounts : (asked : ℕ) (lots : List Lot) → asked ≤ sum_by (λ l. l.loose) lots → sum (amounts asked lots) ≡ asked
+unfolding amounts
+sum-amounts asked [] h = omega arith
+sum-amounts asked (x ∷ xs) h =
+    let total = sum_by-cons (λ (l : Lot). l.loose) x xs in
+    rw (sum_by-cons (λ n. n) (min x.loose asked) (amounts (asked - x.loose) xs)) (omega (arith, sum-amounts (asked - x.loose) xs (omega arith)))
+
+within-amounts : (asked : ℕ) (lots : List Lot) (i : ℕ) (d : Lot) → i < length lots → get_or (amounts asked lots) i 0 ≤ (get_or lots i d).loose
+unfolding amounts
+within-amounts asked [] i d h = absurd (omega arith)
+within-amounts asked (x ∷ xs) zero d h = omega arith
+within-amounts asked (x ∷ xs) (suc i) d h = within-amounts (asked - x.loose) xs i d (omega arith)
+
+-- a lot gives only where something is asked for
+some-amounts : (asked : ℕ) (lots : List Lot) (j : ℕ) → j < length lots → 0 < get_or (amounts asked lots) j 0 → 0 < asked
+unfolding amounts
+some-amounts asked [] j h some = absurd (omega arith)
+some-amounts asked (x ∷ xs) zero h some = omega arith
+some-amounts asked (x ∷ xs) (suc j) h some = let later = some-amounts (asked - x.loose) xs j (omega arith) some in omega arith
+
+rank-amounts : (asked : ℕ) (lots : List Lot) (i j : ℕ) (d : Lot) → i < j → j < length lots → 0 < get_or (amounts asked lots) j 0 → get_or (amounts asked lots) i 0 ≡ (get_or lots i d).loose
+unfolding amounts
+rank-amounts asked [] i j d lt h some = absurd (omega arith)
+rank-amounts asked (x ∷ xs) i zero d lt h some = absurd (omega arith)
+rank-amounts asked (x ∷ xs) zero (suc j) d lt h some = let left = some-amounts (asked - x.loose) xs j (omega arith) some in omega arith
+rank-amounts asked (x ∷ xs) (suc i) (suc j) d lt h some = rank-amounts (asked - x.loose) xs i j d (omega arith) (omega arith) some
+
+pub amounts-taking : (asked : ℕ) (lots : List Lot) → asked ≤ sum_by (λ l. l.loose) lots → IsTaking asked lots (amounts asked lots)
+amounts-taking asked lots h = record {
+  one_each = length-amounts asked lots;
+  whole = sum-amounts asked lots h;
+  within = within-amounts asked lots;
+  in_rank = rank-amounts asked lots;
+}
+
+-- a sum above 0 has an item above 0
+some_item : (xs : List ℕ) → 0 < sum xs → (j : ℕ) × (j < length xs) × (0 < get_or xs j 0)
+some_item [] h = absurd (omega arith)
+some_item (x ∷ xs) h = elim (cases_lt 0 x) [
+  | inl some ↦ (0, omega arith, some)
+  | inr none ↦
+      let total = sum_by-cons (λ n. n) x xs in
+      let later = some_item xs (omega arith) in
+      (suc later.0, omega (arith, later.1), later.2)
+]
+
+-- the first amount is all that its lot has, or all that is asked
+first_amount : (asked : ℕ) (x : Lot) (xs : List Lot) (g : ℕ) (gs : List ℕ) → IsTaking asked (x ∷ xs) (g ∷ gs) → (g ≡ min x.loose asked) × (sum gs ≡ asked - x.loose)
+first_amount asked x xs g gs is = elim (cases_lt 0 (sum gs)) [
+  | inl some ↦
+      let total = sum_by-cons (λ n. n) g gs in
+      let later = some_item gs some in
+      let all : g ≡ x.loose = is.in_rank 0 (suc later.0) x (omega arith) (let long = is.one_each in omega (arith, later.1)) later.2 in
+      let whole = is.whole in
+      (omega arith, omega arith)
+  | inr none ↦
+      let total = sum_by-cons (λ n. n) g gs in
+      let whole = is.whole in
+      let within = is.within 0 x (omega arith) in
+      (omega arith, omega arith)
+]
+
+pub only_amounts : (asked : ℕ) (lots : List Lot) (given : List ℕ) → IsTaking asked lots given → given ≡ amounts asked lots
+unfolding amounts
+only_amounts asked [] [] is = refl
+only_amounts asked [] (g ∷ gs) is = absurd (let long = is.one_each in omega arith)
+only_amounts asked (x ∷ xs) [] is = absurd (let long = is.one_each in omega arith)
+only_amounts asked (x ∷ xs) (g ∷ gs) is =
+    let first = first_amount asked x xs g gs is in
+    let rest : IsTaking (asked - x.loose) xs gs = record {
+      one_each = (let long = is.one_each in omega arith);
+      whole = first.1;
+      within = λ i d h. is.within (suc i) d (omega arith);
+      in_rank = λ i j d lt h some. is.in_rank (suc i) (suc j) d (omega arith) (omega arith) some;
+    } in
+    ap (λ n. n ∷ gs) first.0 ∙ ap (λ ns. min x.loose asked ∷ ns) (only_amounts (asked - x.loose) xs gs rest)

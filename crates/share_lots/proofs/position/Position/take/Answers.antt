@@ -1,0 +1,33 @@
+use Rattle.std.proofs.Common.{◌≡◌, filter, arith, ◌≤◌, ◌∙◌, ap, sum_by}
+use Rattle.std.proofs.lemmas.Grind.{common_steps}
+use Rattle.share_lots.specs.Taking.{has_mils, lots_less, pieces}
+use Rattle.share_lots.specs.declared.lot.Lot.{Lot}
+use Rattle.share_lots.proofs.KeptLemmas.{pieces-whole, taking-keeps_mils, taking-keeps_cost}
+use Rattle.share_lots.proofs.LotLemmas.{IsHolding-taking, sum-mils}
+use Rattle.share_lots.proofs.position.Position.take.Goals as goal
+
+pub loose_total-loose-requires : goal.loose_total-loose-requires
+loose_total-loose-requires c = rw c.deref.ensures.value (omega (arith, sum-mils c.self.inside.lots.items, c.self.invariant.few_mils))
+
+pub invariant_of-self : goal.invariant_of-self
+invariant_of-self c =
+    let items = c.self.inside.lots.items in
+    let same : c.remove_empty.new.lots.items ≡ filter has_mils (lots_less c.mils.inside.0 items) = grind (arith, common_steps) in
+    rw same (IsHolding-taking (record { lots = items; next_lot = c.self.inside.next_lot }) c.mils.inside.0 c.self.invariant)
+
+pieces_are : (c : goal.After-remove_empty) → c.in_ok-pieces.pieces ≡ pieces c.mils.inside.0 c.self.inside.lots.items
+pieces_are c = c.in_ok-pieces.ensures ∙ ap (pieces c.mils.inside.0) c.deref-2.ensures.value
+
+rest_is : (c : goal.After-remove_empty) → c.remove_empty.new.lots.items ≡ filter has_mils (lots_less c.mils.inside.0 c.self.inside.lots.items)
+rest_is c = grind (arith, common_steps)
+
+pub returns-clause-whole : goal.returns-clause-whole
+returns-clause-whole c =
+    let enough : c.mils.inside.0 ≤ sum_by (λ (l : Lot). l.loose) c.self.inside.lots.items = omega (arith, c.if-loose-mils.false, c.loose_total-loose.ensures ∙ ap (sum_by (λ (l : Lot). l.loose)) c.deref.ensures.value) in
+    rw (pieces_are c, ← c.mils.view_is) (pieces-whole c.mils.inside.0 c.self.inside.lots.items enough)
+
+pub returns-clause-mils_kept : goal.returns-clause-mils_kept
+returns-clause-mils_kept c = rw (pieces_are c, rest_is c, ← c.self.view_is) (taking-keeps_mils c.mils.inside.0 c.self.inside.lots.items)
+
+pub returns-clause-cost_kept : goal.returns-clause-cost_kept
+returns-clause-cost_kept c = rw (pieces_are c, rest_is c, ← c.self.view_is) (taking-keeps_cost c.mils.inside.0 c.self.inside.lots.items c.self.invariant.with_mils)

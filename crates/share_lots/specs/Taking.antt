@@ -1,0 +1,92 @@
+-- What a redemption takes of the lots: a lot gives nothing unless every lot of lower rank has given all its loose mils.
+use Rattle.std.specs.Prelude.{ℕ, Option, Some, None, ◌+◌, ◌-◌, ◌*◌, ◌<◌, ◌≤◌, ◌≡◌, Bool, nat_lt, min, if◌then◌else◌, List, [], ◌∷◌, length, filter, sum, ◌++◌, slice_index, sum_by, map}
+use Rattle.std.specs.List.{slice_index_or}
+use Rattle.money_units.specs.Rounding.{half}
+use Rattle.share_lots.specs.declared.lot.Lot.{Lot}
+use Rattle.share_lots.specs.declared.lot.Piece.{Piece}
+use Rattle.share_lots.specs.declared.paying.FreeLot.{FreeLot}
+use Rattle.share_lots.specs.Lots.{Holding, mils, date_key}
+
+-- the cost of so many mils of a lot; the lot keeps the rest
+abbrev pub piece_cost : Lot → ℕ → ℕ
+piece_cost lot quantity = half (lot.cost * quantity) (mils lot)
+
+abbrev pub piece_of : Lot → ℕ → Piece
+piece_of lot quantity =
+    record { lot = lot.number; day = lot.day; mils = quantity; cost = piece_cost lot quantity; free = lot.free }
+
+-- a lot without so many of its loose mils
+abbrev pub lot_less : Lot → ℕ → Lot
+lot_less lot quantity = record lot { loose = lot.loose - quantity; cost = lot.cost - piece_cost lot quantity }
+
+-- a lot's piece, where it gives any mils
+abbrev pub pieces_of : Lot → ℕ → List Piece
+pieces_of lot quantity = if nat_lt 0 quantity then piece_of lot quantity ∷ [] else []
+
+-- the pieces of lots by rank: each gives its loose mils as far as any are still asked for
+unfoldable pub pieces : ℕ → List Lot → List Piece
+pieces asked [] = []
+pieces asked (lot ∷ lots) = pieces_of lot (min lot.loose asked) ++ pieces (asked - lot.loose) lots
+
+-- and what each keeps
+unfoldable pub lots_less : ℕ → List Lot → List Lot
+lots_less asked [] = []
+lots_less asked (lot ∷ lots) = lot_less lot (min lot.loose asked) ∷ lots_less (asked - lot.loose) lots
+
+abbrev pub has_mils : Lot → Bool
+has_mils lot = nat_lt 0 (mils lot)
+
+-- the position after a taking: a lot without mils is removed
+abbrev pub after_taking : Holding → ℕ → Holding
+after_taking h asked = record { lots = filter has_mils (lots_less asked h.lots); next_lot = h.next_lot }
+
+-- the amounts that lots give, by rank
+unfoldable pub amounts : ℕ → List Lot → List ℕ
+amounts asked [] = []
+amounts asked (lot ∷ lots) = min lot.loose asked ∷ amounts (asked - lot.loose) lots
+
+-- the amounts are a taking: they sum to what is asked, none passes its lot's loose mils, and a lot with an amount has
+-- only lots of lower rank that lose all their loose mils
+pub record IsTaking (asked : ℕ) (lots : List Lot) (given : List ℕ) : Type 0 where
+  pub one_each : length given ≡ length lots
+  pub whole : sum given ≡ asked
+  pub within : (i : ℕ) (d : Lot) → i < length lots → slice_index given i ≤ (slice_index_or lots i d).loose
+  pub in_rank : (i j : ℕ) (d : Lot) → i < j → j < length lots → 0 < slice_index given j → slice_index given i ≡ (slice_index_or lots i d).loose
+
+-- a lot's held mils, where it stands before a place among the dates
+abbrev pub held_if_before : ℕ → Lot → ℕ
+held_if_before key lot = if nat_lt (date_key lot) key then lot.held else 0
+
+-- the held mils of the lots before a place by date and number
+abbrev pub held_before : List Lot → ℕ → ℕ
+held_before lots key = sum_by (held_if_before key) lots
+
+-- the same by rank: the free lot's place and held mils, and those of the other lots
+abbrev pub place_of : Lot → FreeLot
+place_of lot = record { key = date_key lot; held = lot.held }
+
+abbrev pub free_place : Option Lot → FreeLot
+free_place None = record { key = 0; held = 0 }
+free_place (Some lot) = place_of lot
+
+abbrev pub owned_held : Lot → ℕ
+owned_held lot = if lot.free then 0 else lot.held
+
+abbrev pub before_of : Lot → FreeLot → ℕ → ℕ → ℕ
+before_of lot free before_free passed =
+    if lot.free then before_free else (if nat_lt free.key (date_key lot) then passed + free.held else passed)
+
+-- what a lot pays of its held mils: what is still asked for when all lots before it by date and number have paid theirs
+abbrev pub paid_of : List Lot → ℕ → Lot → ℕ
+paid_of lots asked lot = min lot.held (asked - held_before lots (date_key lot))
+
+-- a lot without so many of its held mils
+abbrev pub lot_paid : Lot → ℕ → Lot
+lot_paid lot quantity = record lot { held = lot.held - quantity; cost = lot.cost - piece_cost lot quantity }
+
+abbrev pub lot_paying : List Lot → ℕ → Lot → Lot
+lot_paying lots asked lot = lot_paid lot (paid_of lots asked lot)
+
+-- the position after held mils are paid
+abbrev pub after_paying : Holding → ℕ → Holding
+after_paying h asked = record { lots = filter has_mils (map (lot_paying h.lots asked) h.lots); next_lot = h.next_lot }

@@ -1,0 +1,207 @@
+ghost use Rattle.std.specs.Prelude.{◌≡◌, [], ◌+◌, ◌≤◌, ◌<◌, ◌⊎◌, sum_by, IfOk, IfErr, OnOk, OnErr};
+ghost use Rattle.share_lots.specs.declared.position.TakeFault.TheVariants.{Short, NoMemory};
+
+use crate::adding::{insert_lot, join_free, lot_joined, new_lot, ranked_lots};
+use crate::escrow::{hold_back, release_lots};
+use crate::lot_list::{cost_total, held_total, loose_total};
+use crate::paying::pay_lots;
+use crate::taking::{reduce_lots, remove_empty, take_pieces};
+use crate::{Lot, Pieces};
+use fund_calendar::Day;
+use money_units::{Cents, Mils};
+use std::alloc::Global;
+use std::error::Error;
+use std::fmt;
+use std::marker::Model;
+
+/// Why a taking is refused; the position is then as before.
+#[derive(Clone, Copy, Debug, PartialEq, Eq)]
+pub enum TakeFault {
+    /// Fewer mils are loose than were asked for; the value is how many.
+    Short(Mils),
+    /// There is no memory.
+    NoMemory,
+}
+
+impl fmt::Display for TakeFault {
+    fn fmt<W: fmt::Write>(&self, f: &mut fmt::Formatter<W>) -> fmt::Result {
+        match self {
+            TakeFault::Short(_) => f.write_str("too few shares are loose"),
+            TakeFault::NoMemory => f.write_str("out of memory"),
+        }
+    }
+}
+
+impl Error for TakeFault {}
+
+impl From<money_units::NoMemory> for TakeFault {
+    ghost from_gives = { λ _ fault. fault ≡ NoMemory };
+
+    fn from(_error: money_units::NoMemory) -> TakeFault {
+        TakeFault::NoMemory
+    }
+}
+
+/// The lots of one account and class, by rank: the free lot first, then by date and number.
+#[derive(Debug, Drop)]
+pub struct Position {
+    lots: Vec<Lot>,
+    next_lot: u32,
+}
+
+impl Model for Position {
+    ghost use Rattle.share_lots.specs.Lots.{Holding, IsHolding};
+
+    ghost Value = { Holding };
+
+    ghost view = { λ p. record { lots = p.lots.items; next_lot = p.next_lot } };
+
+    ghost invariant = { λ p. IsHolding (record { lots = p.lots.items; next_lot = p.next_lot }) };
+}
+
+impl Position {
+    ghost use Rattle.share_lots.specs.Lots as spec;
+    ghost use Rattle.share_lots.specs.Taking as taking;
+
+    /// The position without lots, which takes no memory yet.
+    pub fn empty(alloc: Global) -> Position
+        ensures { result ≡ record { lots = []; next_lot = 1 } }
+    {
+        Position {
+            lots: Vec::new(alloc),
+            next_lot: 1,
+        }
+    }
+
+    /// The position with these lots, which are given by number, and with the number of its next lot.
+    pub fn from_lots(
+        alloc: Global,
+        lots: &[Lot],
+        next_lot: u32,
+    ) -> Result<Position, money_units::NoMemory>
+        requires { spec.IsLotList lots.now next_lot }
+        ensures { IfOk result (λ p. p ≡ record { lots = spec.ranked_lots lots.now; next_lot = next_lot }) }
+    {
+        let lots = ranked_lots(alloc, lots, next_lot)?;
+        Ok(Position { lots, next_lot })
+    }
+
+    /// The lots by rank.
+    pub fn lots(&self) -> &[Lot]
+        ensures lots { result.now ≡ self.now.lots }
+        ensures holding { spec.IsHolding self.now }
+    {
+        &self.lots
+    }
+
+    /// The number of the next lot.
+    pub fn next_lot(&self) -> u32
+        ensures { result ≡ self.now.next_lot }
+    {
+        self.next_lot
+    }
+
+    /// The mils that are loose.
+    pub fn loose(&self) -> Mils
+        ensures total { result ≡ spec.loose_total self.now }
+        ensures bound { result ≤ spec.most_mils }
+    {
+        Mils(loose_total(&self.lots))
+    }
+
+    /// The mils that are held in escrow.
+    pub fn held(&self) -> Mils
+        ensures total { result ≡ spec.held_total self.now }
+        ensures bound { result ≤ spec.most_mils }
+    {
+        Mils(held_total(&self.lots))
+    }
+
+    /// The cost of loose and held mils.
+    pub fn cost(&self) -> Cents
+        ensures total { result ≡ spec.cost_total self.now }
+        ensures bound { result ≤ spec.most_cost }
+    {
+        Cents(cost_total(&self.lots))
+    }
+
+    /// Adds mils with their cost, and answers the number of their lot. Free ones join the free lot where there is one,
+    /// which keeps its number and date; all else makes a new lot.
+    pub fn add(
+        &mut self,
+        day: Day,
+        mils: Mils,
+        cost: Cents,
+        free: bool,
+    ) -> Result<u32, money_units::NoMemory>
+        requires positive { 1 ≤ mils }
+        requires few_mils { spec.loose_total self.old + spec.held_total self.old + mils ≤ spec.most_mils }
+        requires low_cost { spec.cost_total self.old + cost ≤ spec.most_cost }
+        requires next { self.old.next_lot < 4294967295 }
+        ensures added { IfOk result (λ number. record { number = number; holding = self.new } ≡ spec.added self.old day mils cost free) }
+        ensures unchanged { OnErr result (self.new ≡ self.old) }
+    {
+        match lot_joined(&self.lots, free) {
+            Some(number) => {
+                join_free(&mut self.lots, &mils, &cost);
+                Ok(number)
+            }
+            None => {
+                let number = self.next_lot;
+                insert_lot(&mut self.lots, new_lot(number, day, mils, cost, free))?;
+                self.next_lot += 1;
+                Ok(number)
+            }
+        }
+    }
+
+    /// Keeps loose mils of a lot back in escrow.
+    pub fn hold(&mut self, lot: u32, mils: Mils)
+        requires { spec.HasLoose self.old.lots lot mils }
+        ensures held { self.new ≡ spec.hold_mils self.old lot mils }
+        ensures mils_kept { sum_by spec.mils self.new.lots ≡ sum_by spec.mils self.old.lots }
+        ensures cost_kept { spec.cost_total self.new ≡ spec.cost_total self.old }
+    {
+        hold_back(&mut self.lots, lot, mils.0);
+    }
+
+    /// Makes all held mils loose.
+    pub fn release(&mut self)
+        ensures released { self.new ≡ spec.release_all self.old }
+        ensures mils_kept { sum_by spec.mils self.new.lots ≡ sum_by spec.mils self.old.lots }
+        ensures cost_kept { spec.cost_total self.new ≡ spec.cost_total self.old }
+    {
+        release_lots(&mut self.lots);
+    }
+
+    /// Takes loose mils by rank, and answers a piece for each lot that gives any.
+    pub fn take(&mut self, alloc: Global, mils: Mils) -> Result<Pieces, TakeFault>
+        ensures taken { IfOk result (λ pieces. pieces ≡ taking.pieces mils self.old.lots) }
+        ensures rest { OnOk result (self.new ≡ taking.after_taking self.old mils) }
+        ensures enough { OnOk result (mils ≤ spec.loose_total self.old) }
+        ensures whole { IfOk result (λ pieces. sum_by (λ p. p.mils) pieces ≡ mils) }
+        ensures mils_kept { IfOk result (λ pieces. sum_by (λ p. p.mils) pieces + sum_by spec.mils self.new.lots ≡ sum_by spec.mils self.old.lots) }
+        ensures cost_kept { IfOk result (λ pieces. sum_by (λ p. p.cost) pieces + spec.cost_total self.new ≡ spec.cost_total self.old) }
+        ensures refused { IfErr result (λ fault. (fault ≡ NoMemory) ⊎ ((fault ≡ Short (spec.loose_total self.old)) × (spec.loose_total self.old < mils))) }
+        ensures unchanged { OnErr result (self.new ≡ self.old) }
+    {
+        let loose = loose_total(&self.lots);
+        if loose < mils.0 {
+            return Err(TakeFault::Short(Mils(loose)));
+        }
+        let pieces = take_pieces(alloc, &self.lots, mils.0)?;
+        reduce_lots(&mut self.lots, mils.0);
+        remove_empty(&mut self.lots);
+        Ok(pieces)
+    }
+
+    /// Pays held mils by date and number; each lot keeps the rest of its cost.
+    pub fn pay_held(&mut self, mils: Mils)
+        requires { mils ≤ spec.held_total self.old }
+        ensures paid { self.new ≡ taking.after_paying self.old mils }
+        ensures whole { spec.held_total self.new + mils ≡ spec.held_total self.old }
+    {
+        pay_lots(&mut self.lots, mils.0);
+        remove_empty(&mut self.lots);
+    }
+}

@@ -1,0 +1,96 @@
+ghost use Rattle.std.specs.Prelude.{◌≡◌, ◌≤◌, ◌<◌, ◌++◌, All, filter, IfOk, OnOk, OnErr};
+ghost use Rattle.share_lots.specs.Lots as spec;
+ghost use Rattle.share_lots.specs.Taking as taking;
+
+use crate::lot_list::{cost_of, held_of, loose_of};
+use crate::{Lot, Piece, Pieces};
+use money_units::{Cents, Mils, NoMemory, half};
+use std::alloc::Global;
+
+/// The pieces of lots by rank: each gives its loose mils as far as any are still asked for.
+pub(crate) fn take_pieces(alloc: Global, lots: &[Lot], asked: u64) -> Result<Pieces, NoMemory>
+    requires { All spec.IsLot lots.now }
+    ensures { IfOk result (λ pieces. pieces ≡ taking.pieces asked lots.now) }
+{
+    let mut taken = Pieces::new(alloc);
+    let mut left = asked;
+    for lot in lots {
+        let quantity = loose_of(lot).min(left);
+        push_piece(&mut taken, lot, quantity)?;
+        left -= quantity;
+    }
+    Ok(taken)
+}
+
+/// Appends a lot's piece, where it gives any mils.
+fn push_piece(taken: &mut Pieces, lot: &Lot, quantity: u64) -> Result<(), NoMemory>
+    requires lot { spec.IsLot lot.now }
+    requires within { quantity ≤ lot.now.loose }
+    ensures ok { OnOk result (taken.new ≡ taken.old ++ taking.pieces_of lot.now quantity) }
+    ensures err { OnErr result (taken.new ≡ taken.old) }
+{
+    if quantity > 0 {
+        taken.push(Piece {
+            lot: lot.number,
+            day: lot.day,
+            mils: Mils(quantity),
+            cost: Cents(piece_cost(lot, quantity)),
+            free: lot.free,
+        })?;
+    }
+    Ok(())
+}
+
+/// The cost of so many mils of a lot.
+pub(crate) fn piece_cost(lot: &Lot, quantity: u64) -> u64
+    requires lot { spec.IsLot lot.now }
+    requires within { quantity ≤ spec.mils lot.now }
+    ensures value { result ≡ taking.piece_cost lot.now quantity }
+    ensures bound { result ≤ lot.now.cost }
+{
+    let mils = loose_of(lot) as u128 + held_of(lot) as u128;
+    half(cost_of(lot) as u128 * quantity as u128, mils) as u64
+}
+
+/// A lot without so many of its loose mils.
+fn lot_less(lot: &Lot, quantity: u64) -> Lot
+    requires lot { spec.IsLot lot.now }
+    requires within { quantity ≤ lot.now.loose }
+    ensures { result ≡ taking.lot_less lot.now quantity }
+{
+    Lot {
+        number: lot.number,
+        day: lot.day,
+        loose: Mils(loose_of(lot) - quantity),
+        held: lot.held,
+        cost: Cents(cost_of(lot) - piece_cost(lot, quantity)),
+        free: lot.free,
+    }
+}
+
+/// Takes mils from lots by rank.
+pub(crate) fn reduce_lots(lots: &mut [Lot], asked: u64)
+    requires { All spec.IsLot lots.old }
+    ensures { lots.new ≡ taking.lots_less asked lots.old }
+{
+    let mut left = asked;
+    for lot in lots.iter_mut() {
+        let quantity = loose_of(lot).min(left);
+        *lot = lot_less(lot, quantity);
+        left -= quantity;
+    }
+}
+
+/// The lot has mils.
+fn has_mils(lot: &Lot) -> bool
+    ensures { result ≡ taking.has_mils lot.now }
+{
+    loose_of(lot) > 0 || held_of(lot) > 0
+}
+
+/// Removes the lots without mils.
+pub(crate) fn remove_empty(lots: &mut Vec<Lot>)
+    ensures { lots.new.items ≡ filter taking.has_mils lots.old.items }
+{
+    lots.retain(|lot| has_mils(lot));
+}
