@@ -1,0 +1,2 @@
+pub mod RateFacts
+pub mod PurchaseFacts

@@ -1,0 +1,2 @@
+pub mod Purchase
+pub mod Accumulation
