@@ -1,0 +1,107 @@
+-- The forms of single fields, as readers of a text: the value where the text is in the form.
+use Rattle.std.specs.Prelude.{ℕ, ◌-◌, Bool, true, false, not, ◌&&◌, nat_lt, nat_le, ◌==◌, if◌then◌else◌, List, [], ◌∷◌, length, slice_index, Option, Some, None, option_map, option_and_then, codes, bytes_eq}
+use Rattle.std.specs.List.{list_all, slice_split, before_first, after_first}
+use Rattle.money_units.specs.Texts.{number, money}
+use Rattle.class_terms.specs.declared.lists.Bracket.{Bracket}
+
+-- a value, where it lies in its range
+abbrev pub within : ℕ → ℕ → Option ℕ → Option ℕ
+within low high None = None
+within low high (Some n) = if nat_le low n && nat_le n high then Some n else None
+
+-- the number of a calendar, class, fund, dealer, household or account
+abbrev pub identifier : List ℕ → Option ℕ
+identifier text = within 1 4294967295 (number text)
+
+-- the same, or 0 for none
+abbrev pub identifier_or_none : List ℕ → Option ℕ
+identifier_or_none text = within 0 4294967295 (number text)
+
+-- what an account calls an order, or the number of a correction
+abbrev pub reference : List ℕ → Option ℕ
+reference text = within 1 9999999999999999999 (number text)
+
+-- seconds since 1970-01-01 00:00 UTC, to the end of 2199
+abbrev pub moment : List ℕ → Option ℕ
+moment text = within 0 7258118399 (number text)
+
+-- the money of an order, of a minimum, and a net asset value, in cents
+abbrev pub amount : List ℕ → Option ℕ
+amount text = within 1 1000000000000 (money text)
+
+abbrev pub minimum : List ℕ → Option ℕ
+minimum text = within 0 1000000000000 (money text)
+
+abbrev pub nav : List ℕ → Option ℕ
+nav text = within 1 10000000 (money text)
+
+-- a rate in basis points, before any rule of the trade is asked
+abbrev pub rate : List ℕ → Option ℕ
+rate text = within 0 65535 (number text)
+
+-- `1` for yes, `0` for no
+abbrev pub flag : List ℕ → Option Bool
+flag text = if bytes_eq text (codes "1") then Some true else if bytes_eq text (codes "0") then Some false else None
+
+-- a byte from space to tilde, and one from `!` to tilde
+abbrev pub is_printable : ℕ → Bool
+is_printable byte = nat_le 32 byte && nat_le byte 126
+
+abbrev pub is_visible : ℕ → Bool
+is_visible byte = nat_le 33 byte && nat_le byte 126
+
+-- 1 to 40 printable bytes, the first and the last no space
+abbrev pub is_label : List ℕ → Bool
+is_label text =
+    (nat_le 1 (length text) && nat_le (length text) 40)
+    && (list_all is_printable text && (not (slice_index text 0 == 32) && not (slice_index text (length text - 1) == 32)))
+
+abbrev pub label : List ℕ → Option (List ℕ)
+label text = if is_label text then Some text else None
+
+-- the items of a list, with one space between them; the empty text is the empty list
+abbrev pub is_space : ℕ → Bool
+is_space byte = byte == 32
+
+abbrev pub list_items : List ℕ → List (List ℕ)
+list_items text = if length text == 0 then [] else slice_split is_space text
+
+-- every item in its form
+abbrev pub each : {A : Type 0} → (List ℕ → Option A) → List (List ℕ) → Option (List A)
+each form [] = Some []
+each form (item ∷ items) = option_and_then (λ x. option_map (λ xs. x ∷ xs) (each form items)) (form item)
+
+abbrev pub is_colon : ℕ → Bool
+is_colon byte = byte == 58
+
+-- two values with a colon between them
+abbrev pub pair : {A B : Type 0} → (List ℕ → Option A) → (List ℕ → Option B) → List ℕ → Option (A × B)
+pair first second text =
+    option_and_then (λ x. option_map (λ y. (x, y)) (second (after_first is_colon text))) (first (before_first is_colon text))
+
+abbrev pub bracket_of : ℕ × ℕ → Bracket
+bracket_of row = record { floor = row.0; rate = row.1 }
+
+-- a row of a table of front-end loads: a floor in money and a rate
+abbrev pub bracket : List ℕ → Option Bracket
+bracket text = option_map bracket_of (pair money rate text)
+
+abbrev pub brackets : List ℕ → Option (List Bracket)
+brackets text = each bracket (list_items text)
+
+-- the rates of a schedule
+abbrev pub rates : List ℕ → Option (List ℕ)
+rates text = each rate (list_items text)
+
+-- each class number is greater than the one before
+abbrev pub is_rising : List (ℕ × ℕ) → Bool
+is_rising [] = true
+is_rising (price ∷ []) = true
+is_rising (price ∷ next ∷ rest) = nat_lt price.0 next.0 && is_rising (next ∷ rest)
+
+abbrev pub if_rising : List (ℕ × ℕ) → Option (List (ℕ × ℕ))
+if_rising prices = if is_rising prices then Some prices else None
+
+-- the list of a sheet: classes with their net asset values, by strictly rising class
+abbrev pub prices : List ℕ → Option (List (ℕ × ℕ))
+prices text = option_and_then if_rising (each (pair identifier nav) (list_items text))

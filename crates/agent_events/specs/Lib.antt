@@ -1,0 +1,4 @@
+pub mod Fields
+pub mod Forms
+pub mod Content
+pub mod Replies
