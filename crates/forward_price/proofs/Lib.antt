@@ -1,0 +1,3 @@
+pub mod MomentFacts
+pub mod NextPriceFacts
+pub mod CountFacts

@@ -1,0 +1,81 @@
+ghost use Rattle.std.specs.Prelude.{◌≡◌, [], ◌∷◌, ◌++◌, OnOk, OnErr};
+
+use crate::lookups;
+use money_units::{Moment, Nav, NoMemory};
+use std::alloc::Global;
+use std::marker::Model;
+
+/// The prices of a sheet: class and net asset value, item by item, which contracts see as that list.
+#[derive(Debug, Drop)]
+pub struct Prices {
+    items: Vec<(u32, Nav)>,
+}
+
+impl Model for Prices {
+    ghost use Rattle.std.specs.Prelude.{ℕ, List};
+
+    ghost Value = { List (ℕ × ℕ) };
+
+    ghost view = { λ prices. prices.items.items };
+}
+
+impl Prices {
+    /// The empty list, which takes no memory yet.
+    pub fn new(alloc: Global) -> Prices
+        ensures { result ≡ [] }
+    {
+        Prices {
+            items: Vec::new(alloc),
+        }
+    }
+
+    // The list of these items.
+    pub(crate) fn from_items(items: Vec<(u32, Nav)>) -> Prices
+        ensures { result ≡ items.items }
+    {
+        Prices { items }
+    }
+
+    /// Appends a class and its net asset value; after `NoMemory` the list is as before.
+    pub fn push(&mut self, item: (u32, Nav)) -> Result<(), NoMemory>
+        ensures ok { OnOk result (self.new ≡ self.old ++ item ∷ []) }
+        ensures err { OnErr result (self.new ≡ self.old) }
+    {
+        self.items.push(item)?;
+        Ok(())
+    }
+
+    /// The items in order.
+    pub fn as_slice(&self) -> &[(u32, Nav)]
+        ensures { result.now ≡ self.now }
+    {
+        self.items.as_slice()
+    }
+}
+
+/// A published sheet: its number from 1, its calendar, its pricing moment, and the net asset values on it.
+#[derive(Debug, Drop)]
+pub struct Sheet {
+    pub number: u32,
+    pub calendar: u32,
+    pub moment: Moment,
+    pub prices: Prices,
+}
+
+impl Sheet {
+    ghost use Rattle.forward_price.specs.Sheets.{nav_on};
+
+    /// The net asset value of a class; `None` exactly where the sheet doesn't list it.
+    pub fn nav(&self, class: u32) -> Option<Nav>
+        ensures { result ≡ nav_on self.now.prices class }
+    {
+        lookups::nav_on(self.prices.as_slice(), class)
+    }
+}
+
+/// A class, and the moment at which it was opened.
+#[derive(Clone, Copy, Debug, PartialEq, Eq)]
+pub struct Opened {
+    pub class: u32,
+    pub opened: Moment,
+}
