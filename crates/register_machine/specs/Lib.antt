@@ -1,0 +1,6 @@
+pub mod Journal
+pub mod Replay
+pub mod Answer
+pub mod Script
+pub mod Worked
+pub mod Laws
