@@ -1,0 +1,7 @@
+-- Every position of a register keeps the ceiling.
+use Rattle.std.specs.Prelude.{ℕ, ◌≤◌}
+use Rattle.register_machine.specs.Replay.{Register, mils_of, cost_of}
+
+pub record IsWithin (register : Register) : Type 0 where
+  pub mils : (account class : ℕ) → mils_of register account class ≤ 1000000000000
+  pub cost : (account class : ℕ) → cost_of register account class ≤ 1000000000000000

@@ -1,0 +1,486 @@
+//! The desk: the journal, its price book, and the answer to each request.
+ghost use Rattle.std.specs.Prelude.{◌≡◌, ◌==◌, ◌&&◌, not, nat_lt, nat_le, length, find, filter, [], ◌∷◌, ◌++◌, ◌+◌, ◌≤◌, true, Some, option_map, OnSome, IfOk, OnOk, OnErr, Ok};
+ghost use Rattle.std.specs.List.{list_any, list_all, filter_map};
+ghost use Rattle.forward_price.specs.Sheets.{lists_class};
+ghost use Rattle.agent_events.specs.declared.reply.Reply.TheVariants as reply;
+ghost use Rattle.agent_events.specs.Content.{order_account, order_ref};
+ghost use Rattle.agent_events.specs.declared.event.EventKind.TheVariants as kind;
+ghost use Rattle.register_machine.specs.Journal.{last_moment, opened, orders, sheets};
+ghost use Rattle.register_machine.specs.Replay.{replay, positions_of};
+ghost use Rattle.register_machine.specs.Answer.{kept, event_at, repeats_class, is_no_load, is_built_class, class_answer, has_reference, first_order, orders_of, is_open_class, is_built_order, order_reply, due_now, new_order_answer, buy_answer, is_same_sheet, lists_open, is_built_sheet, expected_now, turn_answer, sheet_answer, show_answer, answer};
+
+use crate::content::{same_class, same_order, same_prices};
+use crate::copies::{copy_class, copy_sheet};
+use crate::register;
+use agent_events::{
+    Accepted, Buy, ClassForm, Event, EventKind, Identifier, Order, OrderEvent, Positions,
+    Reference, Refusal, Reply, Request, SheetForm, Shown, Source,
+};
+use class_terms::Bracket;
+use forward_price::{CALENDAR, Opened, PriceBook, Sheet};
+use money_units::{Moment, Nav, NoMemory};
+use std::alloc::Global;
+use std::marker::Model;
+
+/// The most orders of one account.
+const MAX_ORDERS: usize = 4096;
+
+/// The register and order desk. Contracts see it as its journal, from which all that it answers follows.
+#[derive(Drop)]
+pub struct Desk {
+    alloc: Global,
+    events: Vec<Event>,
+    prices: PriceBook,
+}
+
+impl Model for Desk {
+    ghost use Rattle.std.specs.Prelude.{◌≡◌, ◌≤◌, length};
+    ghost use Rattle.register_machine.specs.Journal.{Journal, opened, sheets};
+
+    ghost Value = { Journal };
+
+    ghost view = { λ desk. desk.events.items };
+
+    ghost invariant = { λ desk. (desk.prices.opened ≡ opened desk.events.items) × (desk.prices.sheets ≡ sheets desk.events.items) × (length (opened desk.events.items) ≤ 1) };
+}
+
+// ---- what the journal says
+
+fn repeats_class(form: &ClassForm, kind: &EventKind) -> bool
+    ensures { result ≡ repeats_class form.now kind.now }
+{
+    match kind {
+        EventKind::Class(known) => same_class(known, form),
+        EventKind::Order(_) => false,
+        EventKind::Sheet(_) => false,
+    }
+}
+
+fn is_known_class(events: &[Event], form: &ClassForm) -> bool
+    ensures { result ≡ list_any (λ event. repeats_class form.now event.kind) events.now }
+{
+    events.iter().any(|event| repeats_class(form, &event.kind))
+}
+
+fn is_free_row(row: &Bracket) -> bool
+    ensures { result ≡ (row.now.floor == 0 && row.now.rate == 0) }
+{
+    row.floor.0 == 0 && row.rate.0 == 0
+}
+
+fn has_free_row(front: &[Bracket]) -> bool
+    ensures { result ≡ list_any (λ row. row.floor == 0 && row.rate == 0) front.now }
+{
+    front.iter().any(|row| is_free_row(row))
+}
+
+fn is_no_load(front: &[Bracket]) -> bool
+    ensures { result ≡ is_no_load front.now }
+{
+    front.len() == 1 && has_free_row(front)
+}
+
+fn is_built_class(form: &ClassForm) -> bool
+    ensures { result ≡ is_built_class form.now }
+{
+    form.calendar.number() == CALENDAR
+        && form.family == 0
+        && form.first_min.cents() == 1
+        && form.later_min.cents() == 1
+        && is_no_load(form.front.as_slice())
+        && form.deferred.as_slice().is_empty()
+}
+
+fn account_of(order: &Order) -> u32
+    ensures { result ≡ order_account order.now }
+{
+    match order {
+        Order::Buy(buy) => buy.account.number(),
+    }
+}
+
+fn ref_of(order: &Order) -> u64
+    ensures { result ≡ order_ref order.now }
+{
+    match order {
+        Order::Buy(buy) => buy.ref_no.number(),
+    }
+}
+
+fn has_reference(account: u32, ref_no: u64, placed: &OrderEvent) -> bool
+    ensures { result ≡ has_reference account ref_no placed.now }
+{
+    account_of(&placed.order) == account && ref_of(&placed.order) == ref_no
+}
+
+fn first_order(events: &[Event], account: u32, ref_no: u64) -> Option<OrderEvent>
+    ensures { result ≡ find (has_reference account ref_no) (orders events.now) }
+{
+    events
+        .iter()
+        .filter_map(|event| register::order_of(event))
+        .find(|placed| has_reference(account, ref_no, placed))
+}
+
+fn orders_of(events: &[Event], account: u32) -> usize
+    ensures { result ≡ orders_of events.now account }
+{
+    events
+        .iter()
+        .filter_map(|event| register::order_of(event))
+        .filter(|placed| account_of(&placed.order) == account)
+        .count()
+}
+
+fn is_open_class(classes: &[Opened], class: u32) -> bool
+    ensures { result ≡ is_open_class classes.now class }
+{
+    classes.iter().any(|known| known.class == class)
+}
+
+fn is_same_sheet(form: &SheetForm, sheet: &Sheet) -> bool
+    ensures { result ≡ is_same_sheet form.now sheet.now }
+{
+    sheet.calendar == form.calendar.number()
+        && sheet.moment.number() == form.moment.number()
+        && same_prices(sheet.prices.as_slice(), form.prices.as_slice())
+}
+
+fn lists_class(prices: &[(u32, Nav)], class: u32) -> bool
+    ensures { result ≡ lists_class prices.now class }
+{
+    prices.iter().any(|price| price.0 == class)
+}
+
+fn lists_all_open(classes: &[Opened], prices: &[(u32, Nav)]) -> bool
+    ensures { result ≡ list_all (λ class. lists_class prices.now class.class) classes.now }
+{
+    classes.iter().all(|class| lists_class(prices, class.class))
+}
+
+fn lists_open(classes: &[Opened], prices: &[(u32, Nav)]) -> bool
+    ensures { result ≡ lists_open classes.now prices.now }
+{
+    classes.is_empty() || (prices.len() == classes.len() && lists_all_open(classes, prices))
+}
+
+fn find_sheet(sheets: &[Sheet], form: &SheetForm) -> Option<u32>
+    ensures { result ≡ option_map (λ sheet. sheet.number) (find (is_same_sheet form.now) sheets.now) }
+{
+    sheets
+        .iter()
+        .find(|sheet| is_same_sheet(form, sheet))
+        .map(|sheet| sheet.number)
+}
+
+fn order_reply(placed: &OrderEvent) -> Reply
+    ensures { result ≡ order_reply placed.now }
+{
+    match &placed.order {
+        Order::Buy(buy) => Reply::Order(Accepted {
+            account: buy.account,
+            ref_no: buy.ref_no,
+            receipt: placed.receipt,
+            due: placed.due,
+        }),
+    }
+}
+
+fn refused(refusal: Refusal) -> Result<Reply, NoMemory>
+    ensures { result ≡ Ok (reply.Refused refusal) }
+{
+    Ok(Reply::Refused(refusal))
+}
+
+// The positions of an account, by its classes in the order in which they were opened.
+fn positions(
+    alloc: Global,
+    events: &[Event],
+    prices: &PriceBook,
+    account: &Identifier,
+) -> Result<Positions, NoMemory>
+    requires { prices.now.sheets ≡ sheets events.now }
+    ensures { IfOk result (λ positions. positions ≡ positions_of events.now account.now) }
+{
+    let register = register::replay(alloc, events, prices)?;
+    let mut positions = Positions::new(alloc);
+    for event in events {
+        if let Some(position) = register::position_in(&register, account, event) {
+            positions.push(position)?;
+        }
+    }
+    Ok(positions)
+}
+
+impl Desk {
+    /// A desk with an empty journal.
+    pub fn new(alloc: Global) -> Result<Desk, NoMemory>
+        ensures { IfOk result (λ desk. desk ≡ []) }
+    {
+        Ok(Desk {
+            alloc,
+            events: Vec::new(alloc),
+            prices: PriceBook::new(alloc)?,
+        })
+    }
+
+    /// The moment of the last event of the journal, 0 where there is none.
+    pub fn last_moment(&self) -> Moment
+        ensures { result ≡ last_moment self.now }
+    {
+        match self.events.last() {
+            Some(event) => event.moment,
+            None => Moment::start(),
+        }
+    }
+
+    // Appends a class to the journal, opened now.
+    fn open_class(&mut self, now: &Moment, form: &ClassForm) -> Result<(), NoMemory>
+        requires { length (opened self.old) ≡ 0 }
+        ensures ok { OnOk result (self.new ≡ self.old ++ event_at now.now (kind.Class form.now) ∷ []) }
+        ensures err { OnErr result (self.new ≡ self.old) }
+    {
+        let form = copy_class(self.alloc, form)?;
+        let class = form.class.number();
+        self.events.reserve(1)?;
+        self.prices.reserve(1)?;
+        self.prices.add_class(class, CALENDAR, *now);
+        self.events.push_reserved(Event {
+            moment: *now,
+            kind: EventKind::Class(form),
+        });
+        Ok(())
+    }
+
+    // Appends the expected sheet to the journal, published now.
+    fn publish(&mut self, now: &Moment, form: &SheetForm) -> Result<u32, NoMemory>
+        requires expected { expected_now self.old ≡ Some form.now.moment }
+        requires calendar { form.now.calendar ≡ 1 }
+        requires listed { length form.now.prices ≡ 1 }
+        ensures ok { OnOk result (self.new ≡ self.old ++ event_at now.now (kind.Sheet form.now) ∷ []) }
+        ensures number { IfOk result (λ number. number ≡ length (sheets self.old) + 1) }
+        ensures err { OnErr result (self.new ≡ self.old) }
+    {
+        let form = copy_sheet(self.alloc, form)?;
+        self.events.reserve(1)?;
+        self.prices.reserve(form.prices.as_slice().len() as u32)?;
+        let number = self
+            .prices
+            .publish(CALENDAR, form.moment, form.prices.as_slice());
+        self.events.push_reserved(Event {
+            moment: *now,
+            kind: EventKind::Sheet(form),
+        });
+        Ok(number)
+    }
+
+    // Appends an order to the journal, received now.
+    fn place(&mut self, now: &Moment, placed: OrderEvent) -> Result<(), NoMemory>
+        ensures ok { OnOk result (self.new ≡ self.old ++ event_at now.now (kind.Order placed) ∷ []) }
+        ensures err { OnErr result (self.new ≡ self.old) }
+    {
+        self.events.push(Event {
+            moment: *now,
+            kind: EventKind::Order(placed),
+        })?;
+        Ok(())
+    }
+}
+
+// What the desk knows of its journal.
+impl Desk {
+    fn knows_class(&self, form: &ClassForm) -> bool
+        ensures { result ≡ list_any (λ event. repeats_class form.now event.kind) self.now }
+    {
+        is_known_class(&self.events, form)
+    }
+
+    fn has_no_class(&self) -> bool
+        ensures { result ≡ (length (opened self.now) == 0) }
+    {
+        self.prices.opened().is_empty()
+    }
+
+    fn first_order(&self, order: &Order) -> Option<OrderEvent>
+        ensures { result ≡ first_order self.now order.now }
+    {
+        first_order(&self.events, account_of(order), ref_of(order))
+    }
+
+    fn due(&self, now: &Moment, buy: &Buy) -> Option<Moment>
+        ensures { result ≡ due_now self.now now.now buy.now }
+    {
+        let class = buy.class.number();
+        self.prices.due(&[class], now)
+    }
+
+    fn may_place(&self, is_operator: bool, buy: &Buy) -> bool
+        ensures { result ≡ is_built_order self.now is_operator buy.now }
+    {
+        is_operator
+            && is_open_class(self.prices.opened(), buy.class.number())
+            && orders_of(&self.events, buy.account.number()) < MAX_ORDERS
+    }
+
+    fn known_sheet(&self, form: &SheetForm) -> Option<u32>
+        ensures { result ≡ option_map (λ sheet. sheet.number) (find (is_same_sheet form.now) (sheets self.now)) }
+    {
+        find_sheet(self.prices.sheets(), form)
+    }
+
+    fn may_publish(&self, now: &Moment, is_operator: bool, form: &SheetForm) -> bool
+        ensures { result ≡ is_built_sheet self.now now.now is_operator form.now }
+    {
+        is_operator
+            && form.calendar.number() == CALENDAR
+            && form.moment.number() <= now.number()
+            && lists_open(self.prices.opened(), form.prices.as_slice())
+    }
+
+    fn expected(&self) -> Option<Moment>
+        ensures value { result ≡ expected_now self.now }
+        ensures one_class { OnSome result (length (opened self.now) ≡ 1) }
+    {
+        match self.prices.expected() {
+            Some((moment, _)) => Some(moment),
+            None => None,
+        }
+    }
+}
+
+// The answers, verb by verb.
+impl Desk {
+    fn answer_class(
+        &mut self,
+        now: &Moment,
+        is_operator: bool,
+        form: &ClassForm,
+    ) -> Result<Reply, NoMemory>
+        ensures answered { IfOk result (λ said. kept self.new said ≡ class_answer self.old now.now is_operator form.now) }
+        ensures err { OnErr result (self.new ≡ self.old) }
+    {
+        if self.knows_class(form) {
+            return Ok(Reply::Class(form.class));
+        }
+        if is_operator && is_built_class(form) && self.has_no_class() {
+            self.open_class(now, form)?;
+            return Ok(Reply::Class(form.class));
+        }
+        refused(Refusal::Unbuilt)
+    }
+
+    // An order that is no repeat.
+    fn answer_new_order(
+        &mut self,
+        now: &Moment,
+        is_operator: bool,
+        buy: &Buy,
+        is_known: bool,
+    ) -> Result<Reply, NoMemory>
+        ensures answered { IfOk result (λ said. kept self.new said ≡ new_order_answer self.old now.now is_operator buy.now (due_now self.old now.now buy.now) is_known) }
+        ensures err { OnErr result (self.new ≡ self.old) }
+    {
+        let Some(due) = self.due(now, buy) else {
+            return refused(Refusal::Unbuilt);
+        };
+        if !self.may_place(is_operator, buy) {
+            return refused(Refusal::Unbuilt);
+        }
+        if is_known {
+            return refused(Refusal::RefUsed);
+        }
+        let placed = OrderEvent {
+            order: Order::Buy(*buy),
+            source: Source::Direct,
+            receipt: *now,
+            due,
+        };
+        self.place(now, placed)?;
+        Ok(order_reply(&placed))
+    }
+
+    fn answer_buy(&mut self, now: &Moment, is_operator: bool, buy: &Buy) -> Result<Reply, NoMemory>
+        ensures answered { IfOk result (λ said. kept self.new said ≡ buy_answer self.old now.now is_operator buy.now) }
+        ensures err { OnErr result (self.new ≡ self.old) }
+    {
+        let order = Order::Buy(*buy);
+        match self.first_order(&order) {
+            None => self.answer_new_order(now, is_operator, buy, false),
+            Some(first) => {
+                if same_order(&first.order, &order) {
+                    Ok(order_reply(&first))
+                } else {
+                    self.answer_new_order(now, is_operator, buy, true)
+                }
+            }
+        }
+    }
+
+    // A sheet that may be published once it is the expected one.
+    fn answer_turn(&mut self, now: &Moment, form: &SheetForm) -> Result<Reply, NoMemory>
+        requires calendar { form.now.calendar ≡ 1 }
+        requires listed { lists_open (opened self.old) form.now.prices ≡ true }
+        ensures answered { IfOk result (λ said. kept self.new said ≡ turn_answer self.old now.now form.now (expected_now self.old)) }
+        ensures err { OnErr result (self.new ≡ self.old) }
+    {
+        let Some(expected) = self.expected() else {
+            return refused(Refusal::SheetOutOfTurn(Moment::start(), 0));
+        };
+        if expected.number() != form.moment.number() {
+            return refused(Refusal::SheetOutOfTurn(expected, CALENDAR));
+        }
+        let number = self.publish(now, form)?;
+        Ok(Reply::Sheet(number))
+    }
+
+    fn answer_sheet(
+        &mut self,
+        now: &Moment,
+        is_operator: bool,
+        form: &SheetForm,
+    ) -> Result<Reply, NoMemory>
+        ensures answered { IfOk result (λ said. kept self.new said ≡ sheet_answer self.old now.now is_operator form.now) }
+        ensures err { OnErr result (self.new ≡ self.old) }
+    {
+        if let Some(number) = self.known_sheet(form) {
+            return Ok(Reply::Sheet(number));
+        }
+        if self.may_publish(now, is_operator, form) {
+            return self.answer_turn(now, form);
+        }
+        refused(Refusal::Unbuilt)
+    }
+
+    fn answer_show(&self, is_operator: bool, account: &Identifier) -> Result<Reply, NoMemory>
+        ensures answered { IfOk result (λ said. kept self.now said ≡ show_answer self.now is_operator account.now) }
+    {
+        if !is_operator {
+            return refused(Refusal::Unbuilt);
+        }
+        let positions = positions(self.alloc, &self.events, &self.prices, account)?;
+        Ok(Reply::Show(Shown {
+            account: *account,
+            positions,
+        }))
+    }
+
+    /// The answer to a request at this moment, by the operator or by somebody else.
+    ///
+    /// After `NoMemory` the journal is as before.
+    pub fn answer(
+        &mut self,
+        moment: &Moment,
+        key_is_operator: bool,
+        request: &Request,
+    ) -> Result<Reply, NoMemory>
+        ensures answered { IfOk result (λ said. kept self.new said ≡ answer self.old moment.now key_is_operator request.now) }
+        ensures err { OnErr result (self.new ≡ self.old) }
+    {
+        match request {
+            Request::Class(form) => self.answer_class(moment, key_is_operator, form),
+            Request::Sheet(form) => self.answer_sheet(moment, key_is_operator, form),
+            Request::Order(Order::Buy(buy)) => self.answer_buy(moment, key_is_operator, buy),
+            Request::Show(account) => self.answer_show(key_is_operator, account),
+        }
+    }
+}

@@ -1,0 +1,259 @@
+//! The register as the replay of the orders over all sheets.
+ghost use Rattle.std.specs.Prelude.{◌≡◌, ℕ, ◌+◌, ◌*◌, ◌^◌, ◌<◌, ◌≤◌, ◌∷◌, [], length, map, fold, filter, option_and_then, IfOk, OnOk};
+ghost use Rattle.std.specs.List.{list_any, filter_map};
+ghost use Rattle.agent_events.specs.Content.{order_classes};
+ghost use Rattle.forward_price.specs.Sheets.{nav_on};
+ghost use Rattle.register_machine.specs.Journal.{order_of, opened_of, orders};
+ghost use Rattle.register_machine.specs.Replay.{Lot as lot, Priced as priced, priced_by, is_on, is_of, mils_in, cost_in, mils_of, cost_of, keeps_ceiling, with_lot, bought_at, execute, day, position_of};
+ghost use Rattle.register_desk.specs.Within.{IsWithin};
+
+use agent_events::{Buy, Event, EventKind, Identifier, Order, OrderEvent, PositionText};
+use forward_price::{PriceBook, Sheet};
+use money_units::{Bps, Cents, Mils, NoMemory};
+use offering_price::buy_split;
+use std::alloc::Global;
+use std::marker::Model;
+
+/// The most mils and the most cents of cost that a position may have.
+const MAX_POSITION_MILS: u128 = 1_000_000_000_000;
+
+const MAX_POSITION_COST: u128 = 1_000_000_000_000_000;
+
+/// Shares bought on one sheet, and what they cost.
+#[derive(Drop)]
+pub struct Lot {
+    account: u32,
+    class: u32,
+    mils: u64,
+    cost: u64,
+}
+
+impl Model for Lot {
+    ghost use Rattle.register_machine.specs.Replay.{Lot as lot};
+
+    ghost Value = { lot };
+
+    ghost view = { λ l. record { account = l.account; class = l.class; mils = l.mils; cost = l.cost } };
+}
+
+/// An order, and the number of the sheet that prices it, once there is one.
+#[derive(Drop)]
+pub struct Priced {
+    order: OrderEvent,
+    sheet: Option<u32>,
+}
+
+impl Model for Priced {
+    ghost use Rattle.register_machine.specs.Replay.{Priced as priced};
+
+    ghost Value = { priced };
+
+    ghost view = { λ p. record { order = p.order; sheet = p.sheet } };
+}
+
+/// The order that an event brought, if it brought one.
+pub fn order_of(event: &Event) -> Option<OrderEvent>
+    ensures { result ≡ order_of event.now }
+{
+    match &event.kind {
+        EventKind::Class(_) => None,
+        EventKind::Order(order) => Some(*order),
+        EventKind::Sheet(_) => None,
+    }
+}
+
+fn class_of(order: &Order) -> u32
+    ensures { order_classes order.now ≡ result ∷ [] }
+{
+    match order {
+        Order::Buy(buy) => buy.class.number(),
+    }
+}
+
+fn price(prices: &PriceBook, order: OrderEvent) -> Priced
+    ensures { result ≡ priced_by prices.now.sheets order }
+{
+    let class = class_of(&order.order);
+    let sheet = prices.first_after(&order.receipt, &[class]);
+    Priced { order, sheet }
+}
+
+fn is_on(number: u32, priced: &Priced) -> bool
+    ensures { result ≡ is_on number priced.now }
+{
+    match priced.sheet {
+        None => false,
+        Some(sheet) => sheet == number,
+    }
+}
+
+fn is_of(account: u32, class: u32, lot: &Lot) -> bool
+    ensures { result ≡ is_of account class lot.now }
+{
+    lot.account == account && lot.class == class
+}
+
+fn mils_in(account: u32, class: u32, lot: &Lot) -> u64
+    ensures { result ≡ mils_in account class lot.now }
+{
+    if is_of(account, class, lot) {
+        lot.mils
+    } else {
+        0
+    }
+}
+
+fn cost_in(account: u32, class: u32, lot: &Lot) -> u64
+    ensures { result ≡ cost_in account class lot.now }
+{
+    if is_of(account, class, lot) {
+        lot.cost
+    } else {
+        0
+    }
+}
+
+fn mils_of(register: &[Lot], account: u32, class: u32) -> u128
+    ensures value { result ≡ mils_of register.now account class }
+    ensures bound { result < 2 ^ 127 }
+{
+    let mut total = 0u128;
+    for lot in register {
+        total += u128::from(mils_in(account, class, lot));
+    }
+    total
+}
+
+fn cost_of(register: &[Lot], account: u32, class: u32) -> u128
+    ensures value { result ≡ cost_of register.now account class }
+    ensures bound { result < 2 ^ 127 }
+{
+    let mut total = 0u128;
+    for lot in register {
+        total += u128::from(cost_in(account, class, lot));
+    }
+    total
+}
+
+fn keeps_ceiling(register: &[Lot], lot: &Lot) -> bool
+    ensures { result ≡ keeps_ceiling register.now lot.now }
+{
+    mils_of(register, lot.account, lot.class) + u128::from(lot.mils) <= MAX_POSITION_MILS
+        && cost_of(register, lot.account, lot.class) + u128::from(lot.cost) <= MAX_POSITION_COST
+}
+
+fn with_lot(register: &mut Vec<Lot>, lot: Lot) -> Result<(), NoMemory>
+    ensures ok { OnOk result (register.new.items ≡ with_lot register.old.items lot) }
+    ensures within { IsWithin register.old.items → OnOk result (IsWithin register.new.items) }
+{
+    if keeps_ceiling(register, &lot) {
+        register.push(lot)?;
+    }
+    Ok(())
+}
+
+fn buy(register: &mut Vec<Lot>, sheet: &Sheet, buy: &Buy) -> Result<(), NoMemory>
+    ensures ok { OnOk result (register.new.items ≡ bought_at register.old.items buy.now (nav_on sheet.now.prices buy.now.class)) }
+    ensures within { IsWithin register.old.items → OnOk result (IsWithin register.new.items) }
+{
+    let gross = Cents(buy.gross.cents());
+    let Some(nav) = sheet.nav(buy.class.number()) else {
+        return Ok(());
+    };
+    let Some(split) = buy_split(gross, nav, Bps(0)) else {
+        return Ok(());
+    };
+    let lot = Lot {
+        account: buy.account.number(),
+        class: buy.class.number(),
+        mils: split.mils.0,
+        cost: buy.gross.cents(),
+    };
+    with_lot(register, lot)
+}
+
+fn execute(register: &mut Vec<Lot>, sheet: &Sheet, priced: &Priced) -> Result<(), NoMemory>
+    ensures ok { OnOk result (register.new.items ≡ execute sheet.now register.old.items priced.now) }
+    ensures within { IsWithin register.old.items → OnOk result (IsWithin register.new.items) }
+{
+    match &priced.order.order {
+        Order::Buy(order) => buy(register, sheet, order),
+    }
+}
+
+fn day(register: &mut Vec<Lot>, sheet: &Sheet, priced: &[Priced]) -> Result<(), NoMemory>
+    ensures ok { OnOk result (register.new.items ≡ day priced.now register.old.items sheet.now) }
+    ensures within { IsWithin register.old.items → OnOk result (IsWithin register.new.items) }
+{
+    for order in priced {
+        if is_on(sheet.number, order) {
+            execute(register, sheet, order)?;
+        }
+    }
+    Ok(())
+}
+
+fn priced_orders(
+    alloc: Global,
+    events: &[Event],
+    prices: &PriceBook,
+) -> Result<Vec<Priced>, NoMemory>
+    ensures { IfOk result (λ priced. priced.items ≡ map (priced_by prices.now.sheets) (orders events.now)) }
+{
+    let mut priced = Vec::new(alloc);
+    for event in events {
+        if let Some(order) = order_of(event) {
+            priced.push(price(prices, order))?;
+        }
+    }
+    Ok(priced)
+}
+
+/// The register after all sheets of the book.
+pub fn replay(alloc: Global, events: &[Event], prices: &PriceBook) -> Result<Vec<Lot>, NoMemory>
+    ensures value { IfOk result (λ register. register.items ≡ fold (day (map (priced_by prices.now.sheets) (orders events.now))) [] prices.now.sheets) }
+    ensures within { IfOk result (λ register. IsWithin register.items) }
+{
+    let priced = priced_orders(alloc, events, prices)?;
+    let mut register = Vec::new(alloc);
+    for sheet in prices.sheets() {
+        day(&mut register, sheet, &priced)?;
+    }
+    Ok(register)
+}
+
+fn has_lots(register: &[Lot], account: u32, class: u32) -> bool
+    ensures { result ≡ list_any (is_of account class) register.now }
+{
+    register.iter().any(|lot| is_of(account, class, lot))
+}
+
+// The position of an account in a class, where it has lots.
+fn position_of(register: &[Lot], account: &Identifier, class: &Identifier) -> Option<PositionText>
+    requires { IsWithin register.now }
+    ensures { (opened : ℕ) → result ≡ position_of register.now account.now (record { class = class.now; opened = opened }) }
+{
+    if !has_lots(register, account.number(), class.number()) {
+        return None;
+    }
+    let mils = mils_of(register, account.number(), class.number());
+    let cost = cost_of(register, account.number(), class.number());
+    Some(PositionText {
+        class: *class,
+        loose: Mils(mils as u64),
+        held: Mils(0),
+        cost: Cents(cost as u64),
+    })
+}
+
+/// The position of an account in the class that an event opened, if it opened one and the account has lots there.
+pub fn position_in(register: &[Lot], account: &Identifier, event: &Event) -> Option<PositionText>
+    requires { IsWithin register.now }
+    ensures { result ≡ option_and_then (position_of register.now account.now) (opened_of event.now) }
+{
+    match &event.kind {
+        EventKind::Class(form) => position_of(register, account, &form.class),
+        EventKind::Order(_) => None,
+        EventKind::Sheet(_) => None,
+    }
+}
