@@ -1,0 +1,96 @@
+//! The forms of lists: items with one space between them.
+ghost use Rattle.std.specs.Prelude.{◌≡◌, map, IfOk};
+ghost use Rattle.std.specs.List.{slice_split};
+ghost use Rattle.agent_events.specs.Fields as form;
+
+use crate::field_forms::{bracket_of, price_of, rate_of};
+use agent_events::SheetPrices;
+use class_terms::{Brackets, Schedule};
+use money_units::{Nav, NoMemory};
+use std::alloc::{AllocError, Global};
+
+// The items of a list; the empty text is the empty list.
+fn list_items(alloc: Global, text: &[u8]) -> Result<Vec<&[u8]>, NoMemory>
+    ensures { IfOk result (λ items. map (λ item. item.now) items.items ≡ form.list_items text.now) }
+{
+    if text.is_empty() {
+        return Ok(Vec::new(alloc));
+    }
+    Ok(space_parts(alloc, text)?)
+}
+
+fn space_parts(alloc: Global, text: &[u8]) -> Result<Vec<&[u8]>, AllocError>
+    ensures { IfOk result (λ items. map (λ item. item.now) items.items ≡ slice_split form.is_space text.now) }
+{
+    text.split(|byte| *byte == b' ').collect(alloc)
+}
+
+/// A table of front-end loads.
+pub(crate) fn brackets_of(alloc: Global, text: &[u8]) -> Result<Option<Brackets>, NoMemory>
+    ensures { IfOk result (λ brackets. brackets ≡ form.brackets text.now) }
+{
+    let items = list_items(alloc, text)?;
+    let mut brackets = Brackets::new(alloc);
+    for item in &items {
+        let Some(bracket) = bracket_of(item) else {
+            return Ok(None);
+        };
+        brackets.push(bracket)?;
+    }
+    Ok(Some(brackets))
+}
+
+/// The rates of a schedule.
+pub(crate) fn rates_of(alloc: Global, text: &[u8]) -> Result<Option<Schedule>, NoMemory>
+    ensures { IfOk result (λ rates. rates ≡ form.rates text.now) }
+{
+    let items = list_items(alloc, text)?;
+    let mut rates = Schedule::new(alloc);
+    for item in &items {
+        let Some(rate) = rate_of(item) else {
+            return Ok(None);
+        };
+        rates.push(rate)?;
+    }
+    Ok(Some(rates))
+}
+
+/// The list of a sheet, by strictly rising class.
+pub(crate) fn prices_of(alloc: Global, text: &[u8]) -> Result<Option<SheetPrices>, NoMemory>
+    ensures { IfOk result (λ prices. prices ≡ form.prices text.now) }
+{
+    let Some(prices) = listed_prices(alloc, text)? else {
+        return Ok(None);
+    };
+    if is_rising(prices.as_slice()) {
+        Ok(Some(prices))
+    } else {
+        Ok(None)
+    }
+}
+
+fn listed_prices(alloc: Global, text: &[u8]) -> Result<Option<SheetPrices>, NoMemory>
+    ensures { IfOk result (λ prices. prices ≡ form.each (form.pair form.identifier form.nav) (form.list_items text.now)) }
+{
+    let items = list_items(alloc, text)?;
+    let mut prices = SheetPrices::new(alloc);
+    for item in &items {
+        let Some(price) = price_of(item) else {
+            return Ok(None);
+        };
+        prices.push(price)?;
+    }
+    Ok(Some(prices))
+}
+
+// Whether each class number is greater than the one before.
+fn is_rising(prices: &[(u32, Nav)]) -> bool
+    ensures { result ≡ form.is_rising prices.now }
+{
+    for i in 1..prices.len() {
+        if prices[i].0 <= prices[i - 1].0 {
+            return false;
+        }
+    }
+    true
+}

@@ -1,0 +1,236 @@
+//! What no clause says: that calls succeed with ample memory, and how texts of the trade read and print.
+use super::{Ask, Fields, Item, append_line, records_of, reply_line, script_items};
+use agent_events::{
+    Accepted, Identifier, Order, PositionText, Positions, Reference, Refusal, Reply, Request, Shown,
+};
+use money_units::{Cents, Mils, Moment, print_number};
+use std::alloc::Global;
+use std::test::Fail;
+
+// The fields of a record, with bars around and between them.
+fn shown(alloc: Global, fields: &Fields) -> Result<Vec<u8>, Fail> {
+    let mut line = Vec::new(alloc);
+    line.push(b'|')?;
+    for place in 0..fields.len() {
+        if let Some(text) = fields.get(place) {
+            line.extend_from_slice(text)?;
+            line.push(b'|')?;
+        }
+    }
+    Ok(line)
+}
+
+#[test]
+fn a_text_is_read_as_its_records(rt: HostRuntime) -> Result<(), Fail> {
+    for (text, wanted) in [
+        // Records of different lengths, with and without a last line feed.
+        (
+            b"1719838800,op-desk000001,show,101\n1719838801,,sheet".as_slice(),
+            b"|1719838800|op-desk000001|show|101||1719838801||sheet|".as_slice(),
+        ),
+        // A byte-order mark, lines without fields, and the three ends of a line.
+        (b"\xef\xbb\xbfa,b\r\n\r\n\nc\rd\n", b"|a|b||c||d|"),
+        // A comma, a quote and a line feed in quotes, and a quote that stays open.
+        (
+            b"\"a,b\",\"c\"\"d\",\"e\nf\"\n\"g,h\n",
+            b"|a,b|c\"d|e\nf||g,h\n|",
+        ),
+        (b"", b""),
+        (b"\n\r\n", b""),
+        (b"\xff\x00\n", b"|\xff\x00|"),
+    ] {
+        let mut line = Vec::new(rt.alloc());
+        for fields in &records_of(rt.alloc(), text)? {
+            line.extend_from_slice(&shown(rt.alloc(), fields)?)?;
+        }
+        assert_eq!(rt; line.as_slice(), wanted);
+    }
+    Ok(())
+}
+
+#[test]
+fn a_line_is_appended_with_its_line_feed(rt: HostRuntime) -> Result<(), Fail> {
+    let mut out = Vec::new(rt.alloc());
+    append_line(rt.alloc(), &[b"ok".as_slice(), b"class", b"14"], &mut out)?;
+    append_line(rt.alloc(), &[b"a,b".as_slice(), b"c\"d", b""], &mut out)?;
+    append_line(rt.alloc(), &[b"".as_slice()], &mut out)?;
+    assert_eq!(rt;
+        out.as_slice(),
+        b"ok,class,14\n\"a,b\",\"c\"\"d\",\n\"\"\n".as_slice()
+    );
+    Ok(())
+}
+
+#[test]
+fn fields_are_those_that_were_pushed(rt: HostRuntime) -> Result<(), Fail> {
+    let mut fields = Fields::new(rt.alloc());
+    assert!(rt; fields.is_empty());
+    fields.push(rt.alloc(), b"buy")?;
+    fields.push(rt.alloc(), b"")?;
+    assert_eq!(rt; fields.len(), 2);
+    assert_eq!(rt;
+        shown(rt.alloc(), &fields)?.as_slice(),
+        b"|buy||".as_slice()
+    );
+    assert!(rt; fields.get(2).is_none());
+    Ok(())
+}
+
+// The items of a script, a word for each: what is asked, the place of a fault of the form, or `bad`.
+const SCRIPT: &[u8] = b"\
+1719835200,op-desk000001,class,14,1,3,INDEX-N,0,0,0.01,0.01,0.00:0,\n\
+1719838800,op-desk000001,buy,101,1,14,10000.00\n\
+1719867600,op-desk000001,sheet,1,1719864000,13:10.61 14:10.00\n\
+1719867700,,show,101\n\
+1719867700,op-desk000001,books\n\
+1719867700,op-desk000001\n\
+17198677OO,op-desk000001,show,101\n\
+7258118400,op-desk000001,show,101\n\
+1719867700,op desk000001,show,101\n\
+1719867700,a2345678901234567890123456789012345678901234567890123456789012345,show,101\n\
+1719867700,op-desk000001,Show,101\n\
+1719867700,op-desk000001,show,101,\n\
+1719867700,op-desk000001,show,0\n\
+1719867700,op-desk000001,sheet,1,1719864000,14:10.00 13:10.61\n\
+1719867700,op-desk000001,class,14,1,3, INDEX-N,0,0,0.01,0.01,0.00:0,\n\
+1719867700,op-desk000001,class,14,1,3,INDEX-N,0,0,0.01,0.01,0.00:0  1.00:5,\n\
+1719867700,op-desk000001,class,14,1,3,INDEX-N,0,0,0.01,0.01,0.00:0,65536\n";
+
+const WORDS: &[u8] = b"class buy sheet show unbuilt bad bad bad bad bad 0 0 1 3 4 9 10 ";
+
+fn word(item: &Item, out: &mut Vec<u8>) -> Result<(), Fail> {
+    match item {
+        Item::Bad => out.extend_from_slice(b"bad")?,
+        Item::Good { ask, .. } => match ask {
+            Ask::Request(request) => out.extend_from_slice(verb(request))?,
+            Ask::BadForm(place) => print_number(*place as u64, out)?,
+            Ask::Unbuilt => out.extend_from_slice(b"unbuilt")?,
+        },
+    }
+    out.push(b' ')?;
+    Ok(())
+}
+
+fn verb(request: &Request) -> &'static [u8] {
+    match request {
+        Request::Class(_) => b"class",
+        Request::Sheet(_) => b"sheet",
+        Request::Order(_) => b"buy",
+        Request::Show(_) => b"show",
+    }
+}
+
+#[test]
+fn a_script_is_read_as_its_items(rt: HostRuntime) -> Result<(), Fail> {
+    let items = script_items(rt.alloc(), SCRIPT)?;
+    let mut words = Vec::new(rt.alloc());
+    for item in items.as_slice() {
+        word(item, &mut words)?;
+    }
+    assert_eq!(rt; words.as_slice(), WORDS);
+    Ok(())
+}
+
+#[test]
+fn a_purchase_has_the_values_of_its_fields(rt: HostRuntime) -> Result<(), Fail> {
+    let items = script_items(
+        rt.alloc(),
+        b"1719838800,op-desk000001,buy,101,7,14,10000.50",
+    )?;
+    assert_eq!(rt; items.as_slice().len(), 1);
+    let Item::Good { moment, key, ask } = &items.as_slice()[0] else {
+        panic!(rt; "the item is good");
+    };
+    assert_eq!(rt; moment.number(), 1719838800);
+    assert_eq!(rt; key.as_slice(), b"op-desk000001".as_slice());
+    let Ask::Request(Request::Order(Order::Buy(buy))) = ask else {
+        panic!(rt; "the item asks for a purchase");
+    };
+    assert_eq!(rt; buy.account.number(), 101);
+    assert_eq!(rt; buy.ref_no.number(), 7);
+    assert_eq!(rt; buy.class.number(), 14);
+    assert_eq!(rt; buy.gross.cents(), 1000050);
+    Ok(())
+}
+
+fn identifier(number: u64) -> Result<Identifier, Fail> {
+    Ok(Identifier::new(number).ok_or("a number from 1 on")?)
+}
+
+fn moment(seconds: u64) -> Result<Moment, Fail> {
+    Ok(Moment::from_seconds(seconds).ok_or("a moment to 2199")?)
+}
+
+fn line(alloc: Global, reply: Reply) -> Result<Vec<u8>, Fail> {
+    let mut out = Vec::new(alloc);
+    reply_line(alloc, &reply, &mut out)?;
+    Ok(out)
+}
+
+#[test]
+fn replies_are_printed_as_lines(rt: HostRuntime) -> Result<(), Fail> {
+    let class = line(rt.alloc(), Reply::Class(identifier(14)?))?;
+    assert_eq!(rt; class.as_slice(), b"ok,class,14\n".as_slice());
+    let sheet = line(rt.alloc(), Reply::Sheet(1))?;
+    assert_eq!(rt; sheet.as_slice(), b"ok,sheet,1\n".as_slice());
+    let accepted = Accepted {
+        account: identifier(101)?,
+        ref_no: Reference::new(7).ok_or("a reference")?,
+        receipt: moment(1719838800)?,
+        due: moment(1719864000)?,
+    };
+    let order = line(rt.alloc(), Reply::Order(accepted))?;
+    assert_eq!(rt;
+        order.as_slice(),
+        b"ok,order,101,7,1719838800,1719864000\n".as_slice()
+    );
+    Ok(())
+}
+
+#[test]
+fn positions_are_printed_with_spaces_between(rt: HostRuntime) -> Result<(), Fail> {
+    let mut positions = Positions::new(rt.alloc());
+    positions.push(PositionText {
+        class: identifier(14)?,
+        loose: Mils(1000000),
+        held: Mils(0),
+        cost: Cents(1000000),
+    })?;
+    positions.push(PositionText {
+        class: identifier(15)?,
+        loose: Mils(1),
+        held: Mils(2500),
+        cost: Cents(5),
+    })?;
+    let account = identifier(101)?;
+    let shown = line(rt.alloc(), Reply::Show(Shown { account, positions }))?;
+    assert_eq!(rt;
+        shown.as_slice(),
+        b"ok,show,101,14:1000.000:0.000:10000.00 15:0.001:2.500:0.05\n".as_slice()
+    );
+    let positions = Positions::new(rt.alloc());
+    let none = line(rt.alloc(), Reply::Show(Shown { account, positions }))?;
+    assert_eq!(rt; none.as_slice(), b"ok,show,101,\n".as_slice());
+    Ok(())
+}
+
+#[test]
+fn refusals_are_printed_as_lines(rt: HostRuntime) -> Result<(), Fail> {
+    for (refusal, wanted) in [
+        (Refusal::Unbuilt, b"no,0\n".as_slice()),
+        (Refusal::BadForm(10), b"no,2,10\n"),
+        (Refusal::RefUsed, b"no,4\n"),
+        (
+            Refusal::SheetOutOfTurn(moment(1719950400)?, 1),
+            b"no,12,1719950400,1\n",
+        ),
+        (
+            Refusal::StampBack(moment(1719867700)?),
+            b"no,20,1719867700\n",
+        ),
+    ] {
+        let refused = line(rt.alloc(), Reply::Refused(refusal))?;
+        assert_eq!(rt; refused.as_slice(), wanted);
+    }
+    Ok(())
+}
