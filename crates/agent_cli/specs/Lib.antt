@@ -1,0 +1,3 @@
+pub mod Words
+pub mod WordViews
+pub mod Runs
