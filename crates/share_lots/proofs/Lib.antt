@@ -4,3 +4,4 @@ pub mod PayingLemmas
 pub mod KeptLemmas
 pub mod PaidLemmas
 pub mod RelationLemmas
+pub mod ValueLemmas

@@ -2,11 +2,13 @@
 use Rattle.std.proofs.Common.{◌≡◌, ◌≢◌, ℕ, zero, suc, ◌+◌, ◌-◌, ◌^◌, ◌<◌, ◌≤◌, Bool, true, false, cond, nat_lt, min, List, [], ◌∷◌, get_or, filter, map, sum_by, refl, ap, ◌∙◌, inl, inr, arith}
 use Rattle.std.specs.Prelude.{All, AllPairs}
 use Rattle.std.proofs.lemmas.Bool.{cases_lt}
+use Rattle.std.proofs.lemmas.List.Elements.{All-cons}
 use Rattle.std.proofs.lemmas.List.Sums.{sum_by-cons}
+use Rattle.money_units.proofs.RoundingFacts.{half-mul}
 use Rattle.share_lots.specs.declared.lot.Lot.{Lot}
-use Rattle.share_lots.specs.Lots.{rank, date_key}
-use Rattle.share_lots.specs.Taking.{held_if_before, held_before, paid_of, lot_paying, has_mils}
-use Rattle.share_lots.proofs.LotLemmas.{AllPairs-head, AllPairs-tail, All-head, All-tail, lt_true, lt_false, owned_behind}
+use Rattle.share_lots.specs.Lots.{rank, date_key, mils}
+use Rattle.share_lots.specs.Taking.{held_if_before, held_before, paid_of, piece_cost, cost_paid, lot_paying, has_mils}
+use Rattle.share_lots.proofs.LotLemmas.{AllPairs-head, AllPairs-tail, All-head, All-tail, half-le, lt_true, lt_false, owned_behind}
 use Rattle.share_lots.proofs.KeptLemmas.{sum-has_mils}
 
 abbrev held : Lot → ℕ
@@ -113,3 +115,33 @@ held_left all asked (x ∷ xs) =
 pub paying-whole : (lots : List Lot) (asked : ℕ) → AllPairs (λ a b. rank a < rank b) lots → AllPairs (λ a b. a.number ≢ b.number) lots → All (λ l. l.number < 2 ^ 32) lots → asked ≤ sum_by (λ l. l.held) lots → sum_by (λ l. l.held) (filter has_mils (map (lot_paying lots asked) lots)) + asked ≡ sum_by (λ l. l.held) lots
 paying-whole lots asked ranked distinct low enough =
     rw (sum-has_mils (λ (l : Lot). l.held) (map (lot_paying lots asked) lots) (λ k d short none. omega arith)) (omega (arith, held_left lots asked lots, paid-whole lots asked ranked distinct low enough))
+
+-- loose mils stay
+loose_left : (all : List Lot) (asked : ℕ) (lots : List Lot) → sum_by (λ l. l.loose) (map (lot_paying all asked) lots) ≡ sum_by (λ l. l.loose) lots
+loose_left all asked [] = refl
+loose_left all asked (x ∷ xs) =
+    rw (sum_by-cons (λ (l : Lot). l.loose) (lot_paying all asked x) (map (lot_paying all asked) xs), sum_by-cons (λ (l : Lot). l.loose) x xs) (omega (arith, loose_left all asked xs))
+
+pub paying-keeps_loose : (lots : List Lot) (asked : ℕ) → sum_by (λ l. l.loose) (filter has_mils (map (lot_paying lots asked) lots)) ≡ sum_by (λ l. l.loose) lots
+paying-keeps_loose lots asked =
+    rw (sum-has_mils (λ (l : Lot). l.loose) (map (lot_paying lots asked) lots) (λ k d short none. omega arith)) (loose_left lots asked lots)
+
+-- and cost is kept
+cost_left : (all : List Lot) (asked : ℕ) (lots : List Lot) → All (λ l. 1 ≤ mils l) lots → sum_by (cost_paid all asked) lots + sum_by (λ l. l.cost) (map (lot_paying all asked) lots) ≡ sum_by (λ l. l.cost) lots
+cost_left all asked [] some = refl
+cost_left all asked (x ∷ xs) some =
+    let here = All-head (λ l. 1 ≤ mils l) x xs some in
+    rw (sum_by-cons (cost_paid all asked) x xs, sum_by-cons (λ (l : Lot). l.cost) (lot_paying all asked x) (map (lot_paying all asked) xs), sum_by-cons (λ (l : Lot). l.cost) x xs)
+    (omega (arith, half-le x.cost (paid_of all asked x) (mils x) here (omega arith), cost_left all asked xs (All-tail (λ l. 1 ≤ mils l) x xs some)))
+
+no_cost_left : (all : List Lot) (asked : ℕ) (lots : List Lot) → All (λ l. 1 ≤ mils l) lots → All (λ l. mils l ≡ 0 → l.cost ≡ 0) (map (lot_paying all asked) lots)
+no_cost_left all asked [] some = λ k d short. absurd (omega arith)
+no_cost_left all asked (x ∷ xs) some =
+    All-cons (λ l. mils l ≡ 0 → l.cost ≡ 0) (lot_paying all asked x) (map (lot_paying all asked) xs)
+    (λ none. let whole : paid_of all asked x ≡ mils x = omega arith in
+    let cost : piece_cost x (paid_of all asked x) ≡ x.cost = rw whole (half-mul x.cost (mils x) (All-head (λ l. 1 ≤ mils l) x xs some)) in omega arith)
+    (no_cost_left all asked xs (All-tail (λ l. 1 ≤ mils l) x xs some))
+
+pub paying-keeps_cost : (lots : List Lot) (asked : ℕ) → All (λ l. 1 ≤ mils l) lots → sum_by (cost_paid lots asked) lots + sum_by (λ l. l.cost) (filter has_mils (map (lot_paying lots asked) lots)) ≡ sum_by (λ l. l.cost) lots
+paying-keeps_cost lots asked some =
+    rw (sum-has_mils (λ (l : Lot). l.cost) (map (lot_paying lots asked) lots) (no_cost_left lots asked lots some)) (cost_left lots asked lots some)

@@ -1,2 +1,3 @@
 pub mod Lots
 pub mod Taking
+pub mod Values

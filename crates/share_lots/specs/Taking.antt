@@ -80,6 +80,10 @@ before_of lot free before_free passed =
 abbrev pub paid_of : List Lot → ℕ → Lot → ℕ
 paid_of lots asked lot = min lot.held (asked - held_before lots (date_key lot))
 
+-- the cost of what a lot pays
+abbrev pub cost_paid : List Lot → ℕ → Lot → ℕ
+cost_paid lots asked lot = piece_cost lot (paid_of lots asked lot)
+
 -- a lot without so many of its held mils
 abbrev pub lot_paid : Lot → ℕ → Lot
 lot_paid lot quantity = record lot { held = lot.held - quantity; cost = lot.cost - piece_cost lot quantity }

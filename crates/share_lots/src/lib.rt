@@ -13,8 +13,10 @@ mod position;
 mod taking;
 #[cfg(test)]
 mod tests;
+mod value;
 pub mod worked;
 
 pub use lot::{Lot, Piece};
 pub use pieces::Pieces;
 pub use position::{Position, TakeFault};
+pub use value::value_at;

@@ -200,6 +200,8 @@ impl Position {
         requires { mils ≤ spec.held_total self.old }
         ensures paid { self.new ≡ taking.after_paying self.old mils }
         ensures whole { spec.held_total self.new + mils ≡ spec.held_total self.old }
+        ensures loose_kept { spec.loose_total self.new ≡ spec.loose_total self.old }
+        ensures cost_kept { sum_by (taking.cost_paid self.old.lots mils) self.old.lots + spec.cost_total self.new ≡ spec.cost_total self.old }
     {
         pay_lots(&mut self.lots, mils.0);
         remove_empty(&mut self.lots);
