@@ -1,0 +1,46 @@
+-- What the laws of values and bases stand on.
+use Rattle.std.proofs.Common.{◌≡◌, ℕ, zero, suc, ◌+◌, ◌-◌, ◌<◌, true, false, cond, not, min, List, [], ◌∷◌, length, get_or, take, map, filter, sum_by, refl, sym, ap, ◌∙◌, arith, add_assoc, add-zero, zero-add, add-one}
+use Rattle.std.proofs.lemmas.List.Sums.{sum_by-cons}
+use Rattle.share_lots.specs.declared.lot.Piece.{Piece}
+use Rattle.share_lots.specs.Values.{value_at}
+use Rattle.contingent_charge.specs.DeferredCharge.{Valued, valued, base_of}
+use Rattle.contingent_charge.proofs.ChargeLemmas.{mils_of}
+
+pub valued-pieces : (nav before : ℕ) (pieces : List Piece) → map (λ (item : Valued). item.piece) (valued nav before pieces) ≡ pieces
+unfolding valued
+valued-pieces nav before [] = refl
+valued-pieces nav before (p ∷ ps) = ap (λ rest. p ∷ rest) (valued-pieces nav (before + p.mils) ps)
+
+between : (nav a b c d : ℕ) → b ≡ d → a ≡ c → value_at nav b - value_at nav a ≡ value_at nav d - value_at nav c
+between nav a b c d e f = rw (e, f) refl
+
+first-taken : (before : ℕ) (p : Piece) (ps : List Piece) (n : ℕ) → (before + p.mils) + sum_by mils_of (take n ps) ≡ before + sum_by mils_of (take (suc n) (p ∷ ps))
+first-taken before p ps n =
+    add_assoc before p.mils (sum_by mils_of (take n ps)) ∙ ap (λ m. before + m) (sym (sum_by-cons mils_of p (take n ps)))
+
+valued-at : (nav before : ℕ) (pieces : List Piece) (i : ℕ) (d : Valued) → i < length pieces
+    → (get_or (valued nav before pieces) i d).value ≡ value_at nav (before + sum_by mils_of (take (suc i) pieces)) - value_at nav (before + sum_by mils_of (take i pieces))
+unfolding valued
+valued-at nav before [] i d h = absurd (omega arith)
+valued-at nav before (p ∷ ps) zero d h =
+    between nav before (before + p.mils) (before + 0) (before + sum_by mils_of (take 1 (p ∷ ps))) (sym (add-zero (before + p.mils)) ∙ first-taken before p ps 0) (sym (add-zero before))
+valued-at nav before (p ∷ ps) (suc i) d h =
+    valued-at nav (before + p.mils) ps i d (omega arith)
+    ∙ between nav (before + p.mils + sum_by mils_of (take i ps)) (before + p.mils + sum_by mils_of (take (suc i) ps)) (before + sum_by mils_of (take (suc i) (p ∷ ps))) (before + sum_by mils_of (take (suc (suc i)) (p ∷ ps))) (first-taken before p ps (suc i)) (first-taken before p ps i)
+
+pub valued-whole : (nav : ℕ) (pieces : List Piece) (i : ℕ) (d : Valued) → i < length pieces
+    → (get_or (valued nav 0 pieces) i d).value ≡ value_at nav (sum_by mils_of (take (i + 1) pieces)) - value_at nav (sum_by mils_of (take i pieces))
+valued-whole nav pieces i d h =
+    valued-at nav 0 pieces i d h
+    ∙ between nav (0 + sum_by mils_of (take i pieces)) (0 + sum_by mils_of (take (suc i) pieces)) (sum_by mils_of (take i pieces)) (sum_by mils_of (take (i + 1) pieces)) (zero-add (sum_by mils_of (take (suc i) pieces)) ∙ ap (λ n. sum_by mils_of (take n pieces)) (sym (add-one i))) (zero-add (sum_by mils_of (take i pieces)))
+
+pub bases-charged : (items : List Valued) → sum_by base_of items ≡ sum_by (λ item. min item.piece.cost item.value) (filter (λ item. not item.piece.free) items)
+bases-charged [] = refl
+bases-charged (x ∷ xs) =
+    rw (sum_by-cons base_of x xs)
+    (elim x.piece.free as (λ b. cond b 0 (min x.piece.cost x.value) + sum_by base_of xs ≡ sum_by (λ (item : Valued). min item.piece.cost item.value) (cond (not b) (x ∷ filter (λ (item : Valued). not item.piece.free) xs) (filter (λ (item : Valued). not item.piece.free) xs))) [
+      | true ↦ zero-add (sum_by base_of xs) ∙ bases-charged xs
+      | false ↦
+          rw (sum_by-cons (λ (item : Valued). min item.piece.cost item.value) x (filter (λ (item : Valued). not item.piece.free) xs))
+          (ap (λ n. min x.piece.cost x.value + n) (bases-charged xs))
+    ])
