@@ -1,0 +1,10 @@
+//! What a dividend pays on a position, and whether it is paid in cash or reinvested in shares.
+#![tactic(auto)]
+
+pub mod laws;
+mod payment;
+#[cfg(test)]
+mod tests;
+pub mod worked;
+
+pub use crate::payment::{Payment, pay};
