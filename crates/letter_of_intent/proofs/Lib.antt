@@ -1,0 +1,2 @@
+pub mod LetterFacts
+pub mod CaseFacts
