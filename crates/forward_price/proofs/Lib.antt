@@ -1,3 +1,15 @@
 pub mod MomentFacts
 pub mod NextPriceFacts
 pub mod CountFacts
+pub mod ChoiceFacts
+pub mod TurnFacts
+pub mod MapFacts
+pub mod PatchFacts
+pub mod NumberFacts
+pub mod PricingFacts
+pub mod CompleteFacts
+pub mod CloseFacts
+pub mod OrderlyFacts
+pub mod KeptFacts
+pub mod OrderFacts
+pub mod LawFacts

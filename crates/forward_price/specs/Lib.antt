@@ -1,2 +1,7 @@
 pub mod Moments
 pub mod Sheets
+pub mod Choices
+pub mod PriceTables
+pub mod Turns
+pub mod Orderly
+pub mod July

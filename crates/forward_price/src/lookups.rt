@@ -7,13 +7,13 @@ ghost use Rattle.forward_price.specs.Sheets.{lists_class, lists_all, prices_orde
 use crate::sheet::{Opened, Sheet};
 use money_units::{Moment, Nav};
 
-fn lists_class(prices: &[(u32, Nav)], class: u32) -> bool
+pub fn lists_class(prices: &[(u32, Nav)], class: u32) -> bool
     ensures { result ≡ lists_class prices.now class }
 {
     prices.iter().any(|price| price.0 == class)
 }
 
-fn lists_all(prices: &[(u32, Nav)], classes: &[u32]) -> bool
+pub fn lists_all(prices: &[(u32, Nav)], classes: &[u32]) -> bool
     ensures { result ≡ lists_all prices.now classes.now }
 {
     classes.iter().all(|class| lists_class(prices, *class))

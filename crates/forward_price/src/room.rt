@@ -1,4 +1,4 @@
-ghost use Rattle.std.specs.Prelude.{◌≡◌, ◌≤◌, [], length, vec_capacity};
+ghost use Rattle.std.specs.Prelude.{◌≡◌, ◌≤◌, [], length, max, vec_capacity};
 
 use crate::sheet::Prices;
 use money_units::Nav;
@@ -17,4 +17,21 @@ pub fn filled(room: &mut Vec<(u32, Nav)>, prices: &[(u32, Nav)]) -> Prices
         items.push_reserved(*price);
     }
     Prices::from_items(items)
+}
+
+/// Keeps the memory of a list as room where it is more than there is, and answers how many prices there is room for.
+pub fn given_back(room: &mut Vec<(u32, Nav)>, spare: usize, prices: Prices) -> usize
+    requires empty { room.old.items ≡ [] }
+    requires there { spare ≤ vec_capacity room.old }
+    ensures spare { result ≡ max spare (length prices) }
+    ensures fits { result ≤ vec_capacity room.new }
+    ensures emptied { room.new.items ≡ [] }
+{
+    let count = prices.len();
+    if spare < count {
+        *room = prices.into_room();
+        count
+    } else {
+        spare
+    }
 }

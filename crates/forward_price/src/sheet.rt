@@ -1,4 +1,5 @@
-ghost use Rattle.std.specs.Prelude.{◌≡◌, [], ◌∷◌, ◌++◌, OnOk, OnErr};
+ghost use Rattle.std.specs.Prelude.{◌≡◌, ◌≤◌, [], ◌∷◌, ◌++◌, length, map, vec_capacity, OnOk, OnErr};
+ghost use Rattle.forward_price.specs.PriceTables.{corrected_price};
 
 use crate::lookups;
 use money_units::{Moment, Nav, NoMemory};
@@ -36,6 +37,30 @@ impl Prices {
         Prices { items }
     }
 
+    // The memory of the list, emptied.
+    pub(crate) fn into_room(self) -> Vec<(u32, Nav)>
+        ensures emptied { result.items ≡ [] }
+        ensures fits { length self ≤ vec_capacity result }
+    {
+        let mut items = self.items;
+        items.clear();
+        items
+    }
+
+    // Gives a class another net asset value.
+    pub(crate) fn correct(&mut self, class: u32, nav: Nav)
+        ensures { self.new ≡ map (corrected_price class nav) self.old }
+    {
+        correct_prices(&mut self.items, class, nav);
+    }
+
+    // The number of items.
+    pub(crate) fn len(&self) -> usize
+        ensures { result ≡ length self.now }
+    {
+        self.items.len()
+    }
+
     /// Appends a class and its net asset value; after `NoMemory` the list is as before.
     pub fn push(&mut self, item: (u32, Nav)) -> Result<(), NoMemory>
         ensures ok { OnOk result (self.new ≡ self.old ++ item ∷ []) }
@@ -50,6 +75,24 @@ impl Prices {
         ensures { result.now ≡ self.now }
     {
         self.items.as_slice()
+    }
+}
+
+fn corrected_price(price: (u32, Nav), class: u32, nav: Nav) -> (u32, Nav)
+    ensures { result ≡ corrected_price class nav price }
+{
+    if price.0 == class {
+        (price.0, nav)
+    } else {
+        price
+    }
+}
+
+fn correct_prices(prices: &mut [(u32, Nav)], class: u32, nav: Nav)
+    ensures { prices.new ≡ map (corrected_price class nav) prices.old }
+{
+    for price in prices.iter_mut() {
+        *price = corrected_price(*price, class, nav);
     }
 }
 

@@ -1,0 +1,107 @@
+-- What is chosen step by step is the best of all.
+use Rattle.std.proofs.Common.{◌≡◌, Bool, true, false, List, [], ◌∷◌, ◌++◌, fold, Option, Some, None, ◌⊎◌, inl, inr, refl, sym, subst, ◌∙◌, ap, append-nil, append_assoc}
+use Rattle.std.proofs.lemmas.Bool.{true≢false}
+use Rattle.std.proofs.lemmas.List.Elements.{All-nil, All-weaker, All-contains, All-push, All-append, Contains-push, Contains-append_left, Contains-append_right}
+use Rattle.forward_price.specs.Choices.{IsChoice, preferred, considered, best, better_of}
+
+-- where neither is better they are the same
+abbrev pub IsTotal : {X : Type 0} → (X → X → Bool) → Type 0
+IsTotal {X} better = (a b : X) → better a b ≡ false → better b a ≡ false → a ≡ b
+
+not_true : (b : Bool) → b ≡ true → b ≡ false → ⊥
+not_true b t f = true≢false (sym t ∙ f)
+
+tested : (b : Bool) → (b ≡ true) ⊎ (b ≡ false)
+tested true = inl refl
+tested false = inr refl
+
+-- an order of places that may tie: never better both ways, and what isn't better than one that isn't better isn't better
+pub record IsOrder {X : Type 0} (better : X → X → Bool) : Type 0 where
+  pub apart : (a b : X) → better a b ≡ true → better b a ≡ false
+  pub behind : (a b c : X) → better a b ≡ false → better b c ≡ false → better a c ≡ false
+
+itself : {X : Type 0} (better : X → X → Bool) → IsOrder better → (x : X) → better x x ≡ false
+itself better order x = elim (tested (better x x)) [ inl pass ↦ order.apart x x pass | inr fail ↦ fail ]
+
+-- what isn't better than one isn't better than a better one
+still_worse : {X : Type 0} (better : X → X → Bool) → IsOrder better → (o x t : X) → better x t ≡ true → better o t ≡ false → better o x ≡ false
+still_worse better order o x t over worse = order.behind o t x worse (order.apart x t over)
+
+pub preferred-choice : {X : Type 0} (passes : X → Bool) (better : X → X → Bool) → IsOrder better → (xs : List X) (found : Option X) (x : X) → passes x ≡ true → IsChoice passes better xs found → IsChoice passes better (xs ++ x ∷ []) (preferred better found x)
+preferred-choice passes better order xs None x pass none = record {
+  among = Contains-push xs x;
+  here = pass;
+  best = All-push (λ o. passes o ≡ true → better o x ≡ false) xs x (All-weaker (λ o. passes o ≡ false) (λ o. passes o ≡ true → better o x ≡ false) (λ o fail passed. absurd (not_true (passes o) passed fail)) xs none) (λ _. itself better order x);
+}
+preferred-choice {X} passes better order xs (Some t) x pass is =
+    elim (tested (better x t)) [
+      | inl over ↦ rw over (record {
+        among = Contains-push xs x;
+        here = pass;
+        best = All-push (λ o. passes o ≡ true → better o x ≡ false) xs x (All-weaker (λ o. passes o ≡ true → better o t ≡ false) (λ o. passes o ≡ true → better o x ≡ false) (λ o worse passed. still_worse better order o x t over (worse passed)) xs is.best) (λ _. itself better order x);
+      })
+      | inr under ↦ rw under (record {
+        among = Contains-append_left xs (x ∷ []) t is.among;
+        here = is.here;
+        best = All-push (λ o. passes o ≡ true → better o t ≡ false) xs x is.best (λ _. under);
+      })
+    ]
+
+pub passed_over : {X : Type 0} (passes : X → Bool) (better : X → X → Bool) (xs : List X) (found : Option X) (x : X) → passes x ≡ false → IsChoice passes better xs found → IsChoice passes better (xs ++ x ∷ []) found
+passed_over passes better xs None x fail none = All-push (λ o. passes o ≡ false) xs x none fail
+passed_over passes better xs (Some t) x fail is = record {
+  among = Contains-append_left xs (x ∷ []) t is.among;
+  here = is.here;
+  best = All-push (λ o. passes o ≡ true → better o t ≡ false) xs x is.best (λ pass. absurd (not_true (passes x) pass fail));
+}
+
+pub considered-choice : {X : Type 0} (passes : X → Bool) (better : X → X → Bool) → IsOrder better → (xs : List X) (found : Option X) (x : X) → IsChoice passes better xs found → IsChoice passes better (xs ++ x ∷ []) (considered passes better found x)
+considered-choice passes better order xs found x is = elim (tested (passes x)) [
+  | inl pass ↦ rw pass (preferred-choice passes better order xs found x pass is)
+  | inr fail ↦ rw fail (passed_over passes better xs found x fail is)
+]
+
+fold-choice : {X : Type 0} (passes : X → Bool) (better : X → X → Bool) → IsOrder better → (xs ys : List X) (found : Option X) → IsChoice passes better xs found → IsChoice passes better (xs ++ ys) (fold (considered passes better) found ys)
+fold-choice passes better order xs [] found is = subst (λ l. IsChoice passes better l found) (sym (append-nil xs)) is
+fold-choice passes better order xs (y ∷ ys) found is =
+    subst (λ l. IsChoice passes better l (fold (considered passes better) (considered passes better found y) ys)) (append_assoc xs (y ∷ []) ys)
+    (fold-choice passes better order (xs ++ y ∷ []) ys (considered passes better found y) (considered-choice passes better order xs found y is))
+
+-- what is computed is the choice
+pub best-choice : {X : Type 0} (passes : X → Bool) (better : X → X → Bool) → IsOrder better → (xs : List X) → IsChoice passes better xs (best passes better xs)
+best-choice passes better order xs = fold-choice passes better order [] xs None (All-nil (λ x. passes x ≡ false))
+
+-- the choice of two lists together
+pub better_of-choice : {X : Type 0} (passes : X → Bool) (better : X → X → Bool) → IsOrder better → (xs ys : List X) (found other : Option X) → IsChoice passes better xs found → IsChoice passes better ys other → IsChoice passes better (xs ++ ys) (better_of better found other)
+better_of-choice passes better order xs ys None None none none' = All-append (λ o. passes o ≡ false) xs ys none none'
+better_of-choice passes better order xs ys (Some t) None is none = record {
+  among = Contains-append_left xs ys t is.among;
+  here = is.here;
+  best = All-append (λ o. passes o ≡ true → better o t ≡ false) xs ys is.best (All-weaker (λ o. passes o ≡ false) (λ o. passes o ≡ true → better o t ≡ false) (λ o fail passed. absurd (not_true (passes o) passed fail)) ys none);
+}
+better_of-choice passes better order xs ys None (Some y) none is = record {
+  among = Contains-append_right xs ys y is.among;
+  here = is.here;
+  best = All-append (λ o. passes o ≡ true → better o y ≡ false) xs ys (All-weaker (λ o. passes o ≡ false) (λ o. passes o ≡ true → better o y ≡ false) (λ o fail passed. absurd (not_true (passes o) passed fail)) xs none) is.best;
+}
+better_of-choice passes better order xs ys (Some t) (Some y) first second =
+    elim (tested (better y t)) [
+      | inl over ↦ rw over (record {
+        among = Contains-append_right xs ys y second.among;
+        here = second.here;
+        best = All-append (λ o. passes o ≡ true → better o y ≡ false) xs ys (All-weaker (λ o. passes o ≡ true → better o t ≡ false) (λ o. passes o ≡ true → better o y ≡ false) (λ o worse passed. still_worse better order o y t over (worse passed)) xs first.best) second.best;
+      })
+      | inr under ↦ rw under (record {
+        among = Contains-append_left xs ys t first.among;
+        here = first.here;
+        best = All-append (λ o. passes o ≡ true → better o t ≡ false) xs ys first.best (All-weaker (λ o. passes o ≡ true → better o y ≡ false) (λ o. passes o ≡ true → better o t ≡ false) (λ o worse passed. order.behind o y t (worse passed) under) ys second.best);
+      })
+    ]
+
+-- there is one choice
+pub same_choice : {X : Type 0} (passes : X → Bool) (better : X → X → Bool) → IsTotal better → (xs : List X) (a b : Option X) → IsChoice passes better xs a → IsChoice passes better xs b → a ≡ b
+same_choice passes better total xs None None p q = refl
+same_choice passes better total xs None (Some y) p q = absurd (not_true (passes y) q.here (All-contains (λ o. passes o ≡ false) xs y p q.among))
+same_choice passes better total xs (Some x) None p q = absurd (not_true (passes x) p.here (All-contains (λ o. passes o ≡ false) xs x q p.among))
+same_choice passes better total xs (Some x) (Some y) p q =
+    ap Some (total x y (All-contains (λ o. passes o ≡ true → better o y ≡ false) xs x q.best p.among p.here) (All-contains (λ o. passes o ≡ true → better o x ≡ false) xs y p.best q.among q.here))

@@ -1,0 +1,161 @@
+//! The look-ups of prices over the published sheets.
+ghost use Rattle.std.specs.Prelude.{◌≡◌, ◌∷◌, ◌==◌, ◌&&◌, int_lt, slice_get, find, fold, option_map, option_and_then, map};
+ghost use Rattle.std.specs.Option.{option_copied};
+ghost use Rattle.forward_price.specs.Choices.{preferred};
+ghost use Rattle.forward_price.specs.PriceTables.{AreNumbered, prices_order, is_earlier, is_later, next_sheet, is_before, sheet_before, sheet_numbered, is_sheet_at, number_at, corrected_price, corrected_sheet, corrected, patched, price_on, price_before, with_prices, patched_nav};
+ghost use Rattle.forward_price.specs.Sheets.{nav_on};
+
+use crate::lookups::{lists_all, lists_class, nav_on};
+use crate::price_sheet::{Patch, Sheet};
+use money_units::Nav;
+
+fn prices_order(asked: &[u32], receipt: i64, sheet: &Sheet) -> bool
+    ensures { result ≡ prices_order asked.now receipt sheet.now }
+{
+    receipt < sheet.moment && lists_all(sheet.prices.as_slice(), asked)
+}
+
+// The earlier of the sheet found so far and one more.
+fn earlier<'a>(found: Option<&'a Sheet>, sheet: &'a Sheet) -> Option<&'a Sheet>
+    ensures { option_copied result ≡ preferred is_earlier (option_copied found.entry) sheet.now }
+{
+    match found {
+        None => Some(sheet),
+        Some(found) => {
+            if sheet.moment < found.moment {
+                Some(sheet)
+            } else {
+                Some(found)
+            }
+        }
+    }
+}
+
+/// The sheet of the next price.
+pub fn next_sheet<'a>(sheets: &'a [Sheet], asked: &[u32], receipt: i64) -> Option<&'a Sheet>
+    ensures { option_copied result ≡ next_sheet sheets.now asked.now receipt }
+{
+    let mut found: Option<&Sheet> = None;
+    for sheet in sheets {
+        if prices_order(asked, receipt, sheet) {
+            found = earlier(found, sheet);
+        }
+    }
+    found
+}
+
+fn is_before(class: u32, moment: i64, sheet: &Sheet) -> bool
+    ensures { result ≡ is_before class moment sheet.now }
+{
+    sheet.moment < moment && lists_class(sheet.prices.as_slice(), class)
+}
+
+// The later of the sheet found so far and one more.
+fn later<'a>(found: Option<&'a Sheet>, sheet: &'a Sheet) -> Option<&'a Sheet>
+    ensures { option_copied result ≡ preferred is_later (option_copied found.entry) sheet.now }
+{
+    match found {
+        None => Some(sheet),
+        Some(found) => {
+            if found.moment < sheet.moment {
+                Some(sheet)
+            } else {
+                Some(found)
+            }
+        }
+    }
+}
+
+/// The last sheet before a moment that lists a class.
+pub fn sheet_before(sheets: &[Sheet], class: u32, moment: i64) -> Option<&Sheet>
+    ensures { option_copied result ≡ sheet_before sheets.now class moment }
+{
+    let mut found: Option<&Sheet> = None;
+    for sheet in sheets {
+        if is_before(class, moment, sheet) {
+            found = later(found, sheet);
+        }
+    }
+    found
+}
+
+fn sheet_in_place(sheets: &[Sheet], place: usize) -> Option<&Sheet>
+    ensures { option_copied result ≡ slice_get sheets.now place }
+{
+    sheets.get(place)
+}
+
+/// The sheet of this number, which stands in its place.
+pub fn sheet_numbered(sheets: &[Sheet], number: u32) -> Option<&Sheet>
+    requires { AreNumbered sheets.now }
+    ensures { option_copied result ≡ sheet_numbered sheets.now number }
+{
+    if number == 0 {
+        return None;
+    }
+    sheet_in_place(sheets, number as usize - 1)
+}
+
+/// Whether the sheet is that of a calendar's pricing moment.
+pub fn is_sheet_at(calendar: u32, moment: i64, sheet: &Sheet) -> bool
+    ensures { result ≡ is_sheet_at calendar moment sheet.now }
+{
+    sheet.calendar == calendar && sheet.moment == moment
+}
+
+fn sheet_of(sheets: &[Sheet], calendar: u32, moment: i64) -> Option<&Sheet>
+    ensures { option_copied result ≡ find (is_sheet_at calendar moment) sheets.now }
+{
+    sheets
+        .iter()
+        .find(|sheet| is_sheet_at(calendar, moment, sheet))
+}
+
+/// The number of the sheet of a pricing moment.
+pub fn number_at(sheets: &[Sheet], calendar: u32, moment: i64) -> Option<u32>
+    ensures { result ≡ number_at sheets.now calendar moment }
+{
+    sheet_of(sheets, calendar, moment).map(|sheet| sheet.number)
+}
+
+fn is_named(patch: &Patch, number: u32, class: u32) -> bool
+    ensures { result ≡ (number == patch.now.sheet && class == patch.now.class) }
+{
+    number == patch.sheet && class == patch.class
+}
+
+// The net asset value of a class on a sheet under a correction on trial.
+fn patched_nav(patch: Option<Patch>, sheet: &Sheet, class: u32) -> Option<Nav>
+    ensures { result ≡ patched_nav patch sheet.now class }
+{
+    let nav = nav_on(sheet.prices.as_slice(), class)?;
+    match patch {
+        Some(patch) => {
+            if is_named(&patch, sheet.number, class) {
+                Some(patch.nav)
+            } else {
+                Some(nav)
+            }
+        }
+        None => Some(nav),
+    }
+}
+
+/// The net asset value of a class on the sheet of this number, under a correction on trial.
+pub fn price(patch: Option<Patch>, sheets: &[Sheet], number: u32, class: u32) -> Option<Nav>
+    requires { AreNumbered sheets.now }
+    ensures { result ≡ option_and_then (λ sheet. patched_nav patch sheet class) (sheet_numbered sheets.now number) }
+{
+    let sheet = sheet_numbered(sheets, number)?;
+    patched_nav(patch, sheet, class)
+}
+
+/// The net asset value of a class on its last sheet before a moment, under a correction on trial.
+pub fn last_before(patch: Option<Patch>, sheets: &[Sheet], class: u32, moment: i64) -> Option<Nav>
+    ensures { result ≡ option_and_then (λ sheet. patched_nav patch sheet class) (sheet_before sheets.now class moment) }
+{
+    match sheet_before(sheets, class, moment) {
+        Some(sheet) => patched_nav(patch, sheet, class),
+        None => None,
+    }
+}
