@@ -8,7 +8,7 @@ use Rattle.std.proofs.KnownBytes.{Appends-trans}
 use Rattle.agent_events.specs.declared.item.Item.{Item}
 use Rattle.register_machine.specs.Journal.{Journal}
 use Rattle.register_machine.specs.Answer.{item_answer}
-use Rattle.register_machine.specs.Script.{Run, line_of, step, start, run_of}
+use Rattle.register_machine.specs.PathScript.{Run, line_of, step, start, run_of}
 use Rattle.agent_cli.specs.Runs.{AppendsFront}
 
 -- the run over one more item

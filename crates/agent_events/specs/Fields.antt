@@ -1,8 +1,10 @@
 -- The forms of single fields, as readers of a text: the value where the text is in the form.
-use Rattle.std.specs.Prelude.{ℕ, ◌-◌, Bool, true, false, not, ◌&&◌, nat_lt, nat_le, ◌==◌, if◌then◌else◌, List, [], ◌∷◌, length, slice_index, Option, Some, None, option_map, option_and_then, codes, bytes_eq}
+use Rattle.std.specs.Prelude.{ℕ, ◌+◌, ◌-◌, ◌*◌, Bool, true, false, not, ◌&&◌, ◌||◌, nat_lt, nat_le, ◌==◌, if◌then◌else◌, List, [], ◌∷◌, length, take, drop, slice_index, Option, Some, None, option_map, option_and_then, codes, bytes_eq}
 use Rattle.std.specs.List.{list_all, slice_split, before_first, after_first}
-use Rattle.money_units.specs.Texts.{number, money}
+use Rattle.money_units.specs.Texts.{number, money, shares, rate as millionths}
+use Rattle.fund_calendar.specs.DayText.{two_digits, read_day}
 use Rattle.class_terms.specs.declared.lists.Bracket.{Bracket}
+use Rattle.agent_events.specs.Requests.{Bearer}
 
 -- a value, where it lies in its range
 abbrev pub within : ℕ → ℕ → Option ℕ → Option ℕ
@@ -105,3 +107,82 @@ if_rising prices = if is_rising prices then Some prices else None
 -- the list of a sheet: classes with their net asset values, by strictly rising class
 abbrev pub prices : List ℕ → Option (List (ℕ × ℕ))
 prices text = option_and_then if_rising (each (pair identifier nav) (list_items text))
+
+-- 1 to 64 visible bytes, read as a zone rule only later
+abbrev pub is_zone_text : List ℕ → Bool
+is_zone_text text = nat_le 1 (length text) && (nat_le (length text) 64 && list_all is_visible text)
+
+abbrev pub zone : List ℕ → Option (List ℕ)
+zone text = if is_zone_text text then Some text else None
+
+-- a time of day `HH:MM`, in minutes after midnight; 58 is `:`
+abbrev pub minutes_of : Option ℕ → Option ℕ → Option ℕ
+minutes_of (Some hour) (Some minute) = Some (60 * hour + minute)
+minutes_of (Some hour) None = None
+minutes_of None minute = None
+
+abbrev pub time : List ℕ → Option ℕ
+time text =
+    if length text == 5 && slice_index text 2 == 58
+    then minutes_of (within 0 23 (two_digits text 0)) (within 0 59 (two_digits text 3))
+    else None
+
+-- at most 3,660 dates that rise strictly
+abbrev pub are_rising : List ℕ → Bool
+are_rising [] = true
+are_rising (day ∷ []) = true
+are_rising (day ∷ next ∷ rest) = nat_lt day next && are_rising (next ∷ rest)
+
+abbrev pub if_holidays : List ℕ → Option (List ℕ)
+if_holidays days = if are_rising days && nat_le (length days) 3660 then Some days else None
+
+abbrev pub holidays : List ℕ → Option (List ℕ)
+holidays text = option_and_then if_holidays (each read_day (list_items text))
+
+-- a small letter or a digit
+abbrev pub is_key_byte : ℕ → Bool
+is_key_byte byte = (nat_le 97 byte && nat_le byte 122) || (nat_le 48 byte && nat_le byte 57)
+
+-- such a beginning, and then 8 to 56 of a to z and 0 to 9
+abbrev pub is_key_behind : List ℕ → List ℕ → Bool
+is_key_behind beginning text =
+    bytes_eq (take (length beginning) text) beginning
+    && (nat_le 8 (length text - length beginning) && (nat_le (length text - length beginning) 56
+    && list_all is_key_byte (drop (length beginning) text)))
+
+abbrev pub household_key : List ℕ → Option (List ℕ)
+household_key text = if is_key_behind (codes "h-") text then Some text else None
+
+abbrev pub dealer_key : List ℕ → Option (List ℕ)
+dealer_key text = if is_key_behind (codes "d-") text then Some text else None
+
+-- seconds of a dealer's window, a day at most
+abbrev pub window : List ℕ → Option ℕ
+window text = within 0 86400 (number text)
+
+-- the mils of an order
+abbrev pub quantity : List ℕ → Option ℕ
+quantity text = within 1 1000000000000 (shares text)
+
+-- the rate of a dividend, and of one that is corrected, in millionths of a dollar per share
+abbrev pub dividend_rate : List ℕ → Option ℕ
+dividend_rate text = within 1 1000000000 (millionths text)
+
+abbrev pub corrected_rate : List ℕ → Option ℕ
+corrected_rate text = within 0 1000000000 (millionths text)
+
+-- `fund`, `agent`, or `dealer:` and the dealer's number
+abbrev pub dealer_bearer : List ℕ → Option Bearer
+dealer_bearer text =
+    if bytes_eq (take 7 text) (codes "dealer:") then option_map Bearer.Dealer (identifier (drop 7 text)) else None
+
+abbrev pub bearer : List ℕ → Option Bearer
+bearer text =
+    if bytes_eq text (codes "fund") then Some Bearer.Fund
+    else if bytes_eq text (codes "agent") then Some Bearer.Agent
+    else dealer_bearer text
+
+-- how dividends are to be paid: `cash` (true) or `shares`
+abbrev pub pay : List ℕ → Option Bool
+pay text =
+    if bytes_eq text (codes "cash") then Some true else if bytes_eq text (codes "shares") then Some false else None

@@ -25,7 +25,7 @@ use Rattle.forward_price.proofs.NextPriceFacts.{next_sheet-next}
 use Rattle.register_machine.specs.Journal.{Journal, last_moment, opened, order_of, orders, sheets}
 use Rattle.register_machine.specs.Replay.{positions_of, priced_by, priced_orders}
 use Rattle.register_machine.specs.Answer.{Answer, kept, refused, repeats_class, is_built_class, is_same_sheet, is_built_sheet, expected_now, event_at, appended, has_reference, first_order, order_reply, placed_now, is_built_order, due_now, new_order_answer, buy_after, buy_answer, class_answer, turn_answer, sheet_after, show_answer, answer, ask_answer, item_answer}
-use Rattle.register_machine.specs.Script.{Run, step, start, run_of}
+use Rattle.register_machine.specs.PathScript.{Run, step, start, run_of}
 use Rattle.register_machine.specs.Laws.{RepeatsItsFirst, IsOnce, IsForwardPriced}
 
 pub repeats : (journal : Journal) (buy : Buy) (first : OrderEvent) → RepeatsItsFirst journal buy first

@@ -1,36 +1,75 @@
--- A run over a script: its records by CSV (RFC 4180), read and written by the crate `csv`'s own words, each answered by
--- one line in turn.
-use Rattle.std.specs.Prelude.{ℕ, List, [], ◌++◌, map, fold}
-use Rattle.csv.specs.Reading.{records, default_config, strip_bom}
-use Rattle.csv.specs.Writing.{row_text, default_writer}
-use Rattle.agent_events.specs.declared.item.Item.{Item}
-use Rattle.agent_events.specs.declared.reply.Reply.{Reply}
-use Rattle.agent_events.specs.Forms.{item_of}
-use Rattle.agent_events.specs.Replies.{reply_texts}
-use Rattle.register_machine.specs.Journal.{Journal}
-use Rattle.register_machine.specs.Answer.{item_answer}
+-- A run over a script: its records by CSV (RFC 4180), read and written by the crate `csv`'s own words, each answered by one
+-- line in turn. The moments of the items are their own, and none may be smaller than the journal's last.
+use Rattle.std.specs.Prelude.{ℕ, Bool, true, List, [], ◌++◌, map, if◌then◌else◌, nat_lt, Ok, Err, fold, flat_map, Result}
+use Rattle.csv.specs.Reading.{default_config, records, strip_bom}
+use Rattle.csv.specs.Writing.{default_writer, row_text}
+use Rattle.forward_price.specs.PriceTables.{Table}
+use Rattle.agent_events.specs.AnswerTexts.{answer_texts}
+use Rattle.agent_events.specs.Answers.{Refusal, Reply}
+use Rattle.agent_events.specs.Items.{ScriptItem, batch_lines, script_item}
+use Rattle.agent_events.specs.Requests.{Request}
+use Rattle.register_machine.specs.Batches.{BatchAnswer, batch_answer}
+use Rattle.register_machine.specs.Callers.{Situation, caller_of, situation_at}
+use Rattle.register_machine.specs.Journals.{Journal, last_moment}
+use Rattle.register_machine.specs.Machine.{Answer, answer_asked, refuses}
+use Rattle.register_machine.specs.Pricing.{empty_table, table_behind}
 
 -- the line of a reply, with its line feed
-abbrev pub line_of : Reply → List ℕ
-line_of said = row_text default_writer (reply_texts said)
+abbrev pub reply_line : Reply → List ℕ
+reply_line reply = row_text default_writer (answer_texts reply)
 
 -- the items of a script
-abbrev pub items_of : List ℕ → List Item
-items_of script = map item_of (records default_config (strip_bom script))
+abbrev pub script_items : List ℕ → List ScriptItem
+script_items script = map script_item (records default_config (strip_bom script))
 
--- the journal, and the lines answered so far
+-- the journal with its price table, and the lines answered so far
 pub record Run : Type 0 where
   pub journal : Journal
+  pub table : Table
   pub lines : List ℕ
 
-unfoldable pub step : List ℕ → Run → Item → Run
-step operator run item = record {
-  journal = (item_answer operator run.journal item).journal;
-  lines = run.lines ++ line_of (item_answer operator run.journal item).reply;
+abbrev pub run_after : Run → Answer → Run
+run_after run answered = record {
+  journal = run.journal ++ answered.events;
+  table = table_behind run.table answered.events;
+  lines = run.lines ++ reply_line answered.reply;
 }
 
-abbrev pub start : Run
-start = record { journal = []; lines = [] }
+abbrev pub situation_in : List ℕ → Run → ℕ → List ℕ → Situation
+situation_in operator run now key =
+    situation_at run.table run.journal now (caller_of run.journal operator key)
 
-unfoldable pub run_of : List ℕ → List Item → Run
-run_of operator items = fold (step operator) start items
+-- an item by its moment: one smaller than the journal's last is refused before its verb is read
+abbrev pub item_answer : (Request → Bool) → List ℕ → Run → ScriptItem → Answer
+item_answer built operator run ScriptItem.Bad = refuses (Refusal.BadForm 0)
+item_answer built operator run (ScriptItem.Good now key asked) =
+    if nat_lt now (last_moment run.journal) then refuses (Refusal.StampBack (last_moment run.journal))
+    else answer_asked built (situation_in operator run now key) asked
+
+unfoldable pub item_step : (Request → Bool) → List ℕ → Run → ScriptItem → Run
+item_step built operator run item = run_after run (item_answer built operator run item)
+
+abbrev pub empty_run : Run
+empty_run = record { journal = []; table = empty_table; lines = [] }
+
+unfoldable pub run_from : (Request → Bool) → List ℕ → Run → List ScriptItem → Run
+run_from built operator run items = fold (item_step built operator) run items
+
+-- all verbs are built
+abbrev pub is_whole_machine : Request → Bool
+is_whole_machine request = true
+
+-- the lines of a script, from the operator's key and the script's bytes, behind the empty journal
+abbrev pub script_text : List ℕ → List ℕ → List ℕ
+script_text operator script = (run_from is_whole_machine operator empty_run (script_items script)).lines
+
+-- the lines that a batch gets behind a run: those of its replies, or that of the refusal of the whole batch
+abbrev pub batch_reply : Result BatchAnswer Refusal → List ℕ
+batch_reply (Ok answered) = flat_map reply_line answered.replies
+batch_reply (Err refusal) = reply_line (Reply.Refused refusal)
+
+abbrev pub batch_text : List ℕ → Run → ℕ → List ℕ → List ℕ → List ℕ
+batch_text operator run now key bytes =
+    batch_reply
+    (batch_answer is_whole_machine (situation_in operator run now key)
+    (batch_lines (records default_config (strip_bom bytes))))

@@ -1,7 +1,7 @@
 -- Two worked scripts: a class without a load, a purchase, its sheet and a look at the account; and the same with a repeat,
 -- a used reference and a sheet out of turn.
 use Rattle.std.specs.Prelude.{ℕ, List, [], ◌∷◌, ◌++◌, codes}
-use Rattle.register_machine.specs.Script.{items_of, run_of}
+use Rattle.register_machine.specs.PathScript.{items_of, run_of}
 
 abbrev pub operator_key : List ℕ
 operator_key = codes "op-desk000001"

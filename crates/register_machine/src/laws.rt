@@ -5,7 +5,7 @@ ghost use Rattle.agent_events.specs.declared.item.Item.{Item};
 ghost use Rattle.agent_events.specs.declared.request.Buy.{Buy};
 ghost use Rattle.register_machine.specs.Journal.{Journal};
 ghost use Rattle.register_machine.specs.Replay.{priced_orders};
-ghost use Rattle.register_machine.specs.Script.{run_of};
+ghost use Rattle.register_machine.specs.PathScript.{run_of};
 ghost use Rattle.register_machine.specs.Laws.{RepeatsItsFirst, IsOnce, IsForwardPriced};
 
 /// A repeat's reply is that of its first event, and it appends nothing.

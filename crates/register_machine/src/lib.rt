@@ -3,4 +3,12 @@
 #![tactic(auto)]
 
 pub mod laws;
+pub mod machine_laws;
 pub mod worked;
+pub mod worked_batches;
+pub mod worked_corrections;
+pub mod worked_letters;
+pub mod worked_orders;
+pub mod worked_purchases;
+pub mod worked_redemptions;
+pub mod worked_sheets;

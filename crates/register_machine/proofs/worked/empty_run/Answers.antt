@@ -4,7 +4,7 @@ use Rattle.csv.proofs.OnLiterals.{csv_on_literals}
 use Rattle.csv.specs.Writing.{escaped, fields_text, is_blank}
 use Rattle.agent_events.specs.Forms.{class_names, class_loads, class_form, sheet_form, buy_form}
 use Rattle.forward_price.specs.Moments.{pricing_moments}
-use Rattle.register_machine.specs.Script.{step, run_of}
+use Rattle.register_machine.specs.PathScript.{step, run_of}
 use Rattle.register_machine.proofs.worked.empty_run.Goals as goal
 
 pub returns : goal.returns

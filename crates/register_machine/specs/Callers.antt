@@ -1,0 +1,81 @@
+-- Who calls, by the key, and what each caller may do: the operator all but a dealer's lines, a household place and cancel
+-- orders and look at its own accounts, a dealer send lines, cancel and look at accounts that name it.
+use Rattle.std.specs.Prelude.{ℕ, Bool, true, false, not, ◌&&◌, List, if◌then◌else◌, ◌==◌, bytes_eq, find, Option, unwrap_or, option_map}
+use Rattle.std.specs.List.{list_any}
+use Rattle.std.specs.Option.{option_or}
+use Rattle.forward_price.specs.PriceTables.{Table}
+use Rattle.agent_events.specs.Answers.{Refusal}
+use Rattle.agent_events.specs.Requests.{AccountForm, Request}
+use Rattle.register_machine.specs.CorrectedBook.{Book, book_of}
+use Rattle.register_machine.specs.Journals.{Journal, dealers_of, households_of, when}
+
+pub data Caller : Type 0 where
+  Operator : Caller
+  Household : (household : ℕ) → Caller
+  Dealer : (dealer : ℕ) → Caller
+  Stranger : Caller
+
+abbrev pub household_by_key : Journal → List ℕ → Option Caller
+household_by_key journal key =
+    option_map (λ form. Caller.Household form.household) (find (λ form. bytes_eq form.key key) (households_of journal))
+
+abbrev pub dealer_by_key : Journal → List ℕ → Option Caller
+dealer_by_key journal key =
+    option_map (λ form. Caller.Dealer form.dealer) (find (λ form. bytes_eq form.key key) (dealers_of journal))
+
+abbrev pub caller_of : Journal → List ℕ → List ℕ → Caller
+caller_of journal operator key =
+    if bytes_eq key operator then Caller.Operator
+    else unwrap_or (option_or (household_by_key journal key) (dealer_by_key journal key)) Caller.Stranger
+
+-- an account of this household, and one that names this dealer
+abbrev pub owns : List AccountForm → ℕ → ℕ → Bool
+owns accounts household number =
+    list_any (λ account. account.account == number && account.household == household) accounts
+
+abbrev pub serves : List AccountForm → ℕ → ℕ → Bool
+serves accounts dealer number =
+    list_any (λ account. account.account == number && account.dealer == dealer) accounts
+
+abbrev pub operator_may : Request → Bool
+operator_may (Request.Line line) = false
+operator_may _ = true
+
+abbrev pub household_may : (ℕ → Bool) → Request → Bool
+household_may is_own (Request.Order order) = is_own order.account
+household_may is_own (Request.Cancel form) = is_own form.account
+household_may is_own (Request.Show account) = is_own account
+household_may is_own (Request.Trace form) = is_own form.account
+household_may is_own (Request.Statement form) = is_own form.account
+household_may is_own _ = false
+
+abbrev pub dealer_may : (ℕ → Bool) → Request → Bool
+dealer_may is_own (Request.Line line) = is_own line.order.account
+dealer_may is_own (Request.Cancel form) = is_own form.account
+dealer_may is_own (Request.Show account) = is_own account
+dealer_may is_own (Request.Trace form) = is_own form.account
+dealer_may is_own (Request.Statement form) = is_own form.account
+dealer_may is_own _ = false
+
+abbrev pub may : List AccountForm → Caller → Request → Bool
+may accounts Caller.Operator request = operator_may request
+may accounts (Caller.Household household) request = household_may (owns accounts household) request
+may accounts (Caller.Dealer dealer) request = dealer_may (serves accounts dealer) request
+may accounts Caller.Stranger request = false
+
+-- what the machine knows when a request comes: the journal with its price table and its corrected book, now, and the caller
+pub record Situation : Type 0 where
+  pub journal : Journal
+  pub table : Table
+  pub book : Book
+  pub now : ℕ
+  pub caller : Caller
+
+abbrev pub situation_at : Table → Journal → ℕ → Caller → Situation
+situation_at table journal now caller =
+    record { journal = journal; table = table; book = book_of table journal; now = now; caller = caller }
+
+-- Refusal 1. The caller has no right to the verb, or to the account that it names.
+abbrev pub no_right : Situation → Request → Option Refusal
+no_right situation request =
+    when (not (may situation.book.accounts situation.caller request)) Refusal.NoRight

@@ -1,0 +1,41 @@
+-- Lawful journals: each event is what the machine appends to the events before it, at its moment, for the request that it
+-- answers, asked by the dealer that the account names for a dealer's line and by the operator for all else.
+use Rattle.std.specs.Prelude.{◌≡◌, ℕ, ◌≤◌, List, [], ◌∷◌}
+use Rattle.std.specs.Option.{option_map_or}
+use Rattle.agent_events.specs.Events.{Event, Kind, Placed, request_of}
+use Rattle.agent_events.specs.Requests.{AccountForm}
+use Rattle.agent_events.specs.declared.event.Source.{Source}
+use Rattle.register_machine.specs.Callers.{Caller, situation_at}
+use Rattle.register_machine.specs.Corrections.{with_event}
+use Rattle.register_machine.specs.Journals.{Journal, account_numbered, accounts_of, last_moment}
+use Rattle.register_machine.specs.Machine.{Answer, answer}
+use Rattle.register_machine.specs.Pricing.{table_of}
+use Rattle.agent_events.specs.declared.event.Source.TheVariants as source
+
+abbrev pub dealer_of : List AccountForm → ℕ → ℕ
+dealer_of accounts number = option_map_or (λ account. account.dealer) (account_numbered accounts number) 0
+
+abbrev pub asker_by : Journal → Placed → Source → Caller
+asker_by journal placed source.Direct = Caller.Operator
+asker_by journal placed source.Dealer = Caller.Dealer (dealer_of (accounts_of journal) placed.order.account)
+
+abbrev pub asker_of : Journal → Kind → Caller
+asker_of journal (Kind.Order placed) = asker_by journal placed placed.source
+asker_of journal _ = Caller.Operator
+
+abbrev pub answer_again : Journal → Event → Answer
+answer_again journal event =
+    answer (situation_at (table_of journal) journal event.moment (asker_of journal event.kind)) (request_of event.kind)
+
+-- the event follows the journal
+pub record Follows (journal : Journal) (event : Event) : Type 0 where
+  pub not_before : last_moment journal ≤ event.moment
+  pub appended : (answer_again journal event).events ≡ event ∷ []
+
+-- each of these events follows the journal and those before it
+abbrev pub AllFollow : Journal → List Event → Type 0
+AllFollow journal [] = Unit {0}
+AllFollow journal (event ∷ later) = Follows journal event × AllFollow (with_event journal event) later
+
+abbrev pub IsLawful : Journal → Type 0
+IsLawful journal = AllFollow [] journal

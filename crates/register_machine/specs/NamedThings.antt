@@ -1,0 +1,160 @@
+-- What a request names, and whether it is there; and what the terms of a calendar or a class are refused for.
+use Rattle.std.specs.Prelude.{ℕ, ◌+◌, Bool, true, false, not, ◌&&◌, ◌||◌, List, [], ◌∷◌, map, drop, pos, is_some, ◌==◌, int_lt, Some, None, Ok, Err, find, Option, Result, option_map, option_to_list}
+use Rattle.std.specs.List.{list_any}
+use Rattle.std.specs.Option.{option_map_or}
+use Rattle.fund_calendar.specs.PricingDays.{Listing}
+use Rattle.fund_calendar.specs.declared.calendar.CalendarFault.{CalendarFault}
+use Rattle.class_terms.specs.Checking.{term_fault}
+use Rattle.class_terms.specs.declared.faults.TermFault.{TermFault}
+use Rattle.class_terms.specs.declared.form.TermsForm.{TermsForm}
+use Rattle.forward_price.specs.PriceTables.{calendar_numbered, is_priced_day}
+use Rattle.forward_price.specs.Sheets.{lists_class}
+use Rattle.forward_price.specs.declared.price_sheet.Opening.{Opening}
+use Rattle.forward_price.specs.declared.price_sheet.Sheet.{Sheet}
+use Rattle.agent_events.specs.Answers.{Refusal}
+use Rattle.agent_events.specs.Requests.{Bearer, EntryForm, OrderForm, Request}
+use Rattle.agent_events.specs.declared.request.ClassForm.{ClassForm}
+use Rattle.register_machine.specs.Callers.{Situation}
+use Rattle.register_machine.specs.CorrectedBook.{class_of, counts, order_named, target_of}
+use Rattle.register_machine.specs.Journals.{account_numbered, class_numbered, dealer_numbered, dealers_of, households_of}
+use Rattle.register_machine.specs.Pricing.{calendar_checked, moment_of}
+use Rattle.class_terms.specs.declared.faults.TermFault.TheVariants as fault
+use Rattle.fund_calendar.specs.declared.calendar.CalendarFault.TheVariants as calendar_fault
+
+-- ---- Refusal 2, behind the form: a calendar's zone, dates and moments, and the loads of a class.
+
+abbrev pub calendar_place : Result Listing CalendarFault → Option Refusal
+calendar_place (Ok listing) = None
+calendar_place (Err calendar_fault.BadZone) = Some (Refusal.BadForm 2)
+calendar_place (Err calendar_fault.BadSpan) = Some (Refusal.BadForm 5)
+calendar_place (Err (calendar_fault.NotRising place)) = Some (Refusal.BadForm 3)
+calendar_place (Err calendar_fault.NoMemory) = None
+
+-- the terms of a class as they are checked
+abbrev pub terms_of : ClassForm → TermsForm
+terms_of form = record {
+  class = form.class;
+  calendar = form.calendar;
+  fund = form.fund;
+  name = form.name;
+  family = form.family;
+  counts = form.counts;
+  first_min = form.first_min;
+  later_min = form.later_min;
+  front = form.front;
+  deferred = form.deferred;
+}
+
+abbrev pub terms_fault : Situation → ClassForm → Option TermFault
+terms_fault situation form = term_fault (terms_of form) (map terms_of situation.book.classes)
+
+abbrev pub terms_place : Option TermFault → Option Refusal
+terms_place None = None
+terms_place (Some (fault.BadFront row)) = Some (Refusal.BadForm 9)
+terms_place (Some (fault.BadDeferred row)) = Some (Refusal.BadForm 10)
+terms_place (Some (fault.FamilyDiffers class)) = None
+
+abbrev pub bad_terms : Situation → Request → Option Refusal
+bad_terms situation (Request.Calendar form) = calendar_place (calendar_checked form)
+bad_terms situation (Request.Class form) = terms_place (terms_fault situation form)
+bad_terms situation _ = None
+
+-- ---- Refusal 3: the first field that names something absent.
+
+abbrev pub has_calendar : Situation → ℕ → Bool
+has_calendar situation number = is_some (calendar_numbered situation.table.calendars number)
+
+abbrev pub has_class : Situation → ℕ → Bool
+has_class situation number = is_some (class_numbered situation.book.classes number)
+
+abbrev pub has_dealer : Situation → ℕ → Bool
+has_dealer situation number = is_some (dealer_numbered (dealers_of situation.journal) number)
+
+abbrev pub has_household : Situation → ℕ → Bool
+has_household situation number =
+    list_any (λ form. form.household == number) (households_of situation.journal)
+
+abbrev pub has_account : Situation → ℕ → Bool
+has_account situation number = is_some (account_numbered situation.book.accounts number)
+
+abbrev pub has_order : Situation → ℕ → ℕ → Bool
+has_order situation account ref_no = is_some (order_named situation.book.orders account ref_no)
+
+abbrev pub has_bearer : Situation → Bearer → Bool
+has_bearer situation Bearer.Fund = true
+has_bearer situation Bearer.Agent = true
+has_bearer situation (Bearer.Dealer dealer) = has_dealer situation dealer
+
+-- a pricing day of a calendar
+abbrev pub has_day : Situation → ℕ → ℕ → Bool
+has_day situation calendar day = list_any (is_priced_day calendar day) situation.table.calendars
+
+-- a published sheet that lists the class
+abbrev pub lists_at : ℕ → ℕ → Sheet → Bool
+lists_at class moment sheet = moment_of sheet == moment && lists_class sheet.prices class
+
+abbrev pub has_price : Situation → ℕ → ℕ → Bool
+has_price situation class moment = list_any (lists_at class moment) situation.book.table.sheets
+
+-- a pricing moment of the class's calendar after its opening
+abbrev pub prices_at : ℕ → Listing → Bool
+prices_at moment listing = list_any (λ day. day.moment == moment) listing.days
+
+abbrev pub is_opened_before : List Listing → ℕ → ℕ → Opening → Bool
+is_opened_before calendars class moment opening =
+    opening.class == class
+    && (int_lt opening.opened (pos moment)
+    && option_map_or (prices_at moment) (calendar_numbered calendars opening.calendar) false)
+
+abbrev pub has_moment : Situation → ℕ → ℕ → Bool
+has_moment situation class moment =
+    list_any (is_opened_before situation.table.calendars class moment) situation.book.table.classes
+
+-- what an order names, its first field at a place: the account, the class, and the class that an exchange goes to
+abbrev pub named_in_order : Situation → ℕ → OrderForm → List (ℕ × Bool)
+named_in_order situation first order =
+    (first, has_account situation order.account) ∷ (first + 2, has_class situation (class_of order.body))
+    ∷ map (λ to. (first + 3, has_class situation to)) (option_to_list (target_of order.body))
+
+abbrev pub named_in_replacement : Situation → EntryForm → List (ℕ × Bool)
+named_in_replacement situation form =
+    (5, has_account situation form.order.account) ∷ (6, has_order situation form.order.account form.order.ref_no)
+    ∷ drop 1 (named_in_order situation 5 form.order)
+
+-- the places of the fields that name something, and whether it is there
+abbrev pub named : Situation → Request → List (ℕ × Bool)
+named situation (Request.Calendar form) = []
+named situation (Request.Close form) =
+    (1, has_calendar situation form.calendar) ∷ (2, has_day situation form.calendar form.day) ∷ []
+named situation (Request.Class form) = (2, has_calendar situation form.calendar) ∷ []
+named situation (Request.Dealer form) = []
+named situation (Request.Household form) = []
+named situation (Request.Account form) =
+    (2, has_household situation form.household) ∷ (3, form.dealer == 0 || has_dealer situation form.dealer) ∷ []
+named situation (Request.Sheet form) = (1, has_calendar situation form.calendar) ∷ []
+named situation (Request.Dividend form) =
+    (1, has_class situation form.class) ∷ (2, has_moment situation form.class form.moment) ∷ []
+named situation (Request.FixPrice form) =
+    (2, has_bearer situation form.bearer) ∷ (3, has_class situation form.class)
+    ∷ (4, has_price situation form.class form.moment) ∷ []
+named situation (Request.FixRate form) =
+    (2, has_bearer situation form.bearer) ∷ (3, has_class situation form.class)
+    ∷ (4, has_price situation form.class form.moment) ∷ []
+named situation (Request.Enter form) = (2, has_bearer situation form.bearer) ∷ named_in_order situation 5 form.order
+named situation (Request.Replace form) = (2, has_bearer situation form.bearer) ∷ named_in_replacement situation form
+named situation (Request.Void form) =
+    (2, has_bearer situation form.bearer) ∷ (3, has_account situation form.account)
+    ∷ (4, has_order situation form.account form.ref_no) ∷ []
+named situation (Request.Order order) = named_in_order situation 1 order
+named situation (Request.Cancel form) =
+    (1, has_account situation form.account) ∷ (3, has_order situation form.account form.target) ∷ []
+named situation (Request.Show account) = (1, has_account situation account) ∷ []
+named situation (Request.Trace form) =
+    (1, has_account situation form.account) ∷ (2, has_order situation form.account form.ref_no) ∷ []
+named situation (Request.Statement form) = (1, has_account situation form.account) ∷ []
+named situation Request.Books = []
+named situation (Request.Line line) = named_in_order situation 3 line.order
+
+abbrev pub none_such : Situation → Request → Option Refusal
+none_such situation request =
+    option_map (λ field. Refusal.NoSuch field.0) (find (λ field. not field.1) (named situation request))

@@ -1,0 +1,104 @@
+-- What one sheet does to the register: its trades. An order on a sheet is filled, or it is unfilled for the first of the
+-- reasons that holds.
+use Rattle.std.specs.Prelude.{ℕ, List, [], ◌∷◌, ◌++◌, Some, None, Option, unwrap_or}
+use Rattle.forward_price.specs.Sheets.{nav_on}
+use Rattle.forward_price.specs.declared.price_sheet.Sheet.{Sheet}
+use Rattle.agent_events.specs.Requests.{OrderForm}
+use Rattle.register_machine.specs.CorrectedBook.{class_of, target_of}
+use Rattle.register_machine.specs.Journals.{first_some}
+use Rattle.register_machine.specs.Positions.{Position, Register, put}
+use Rattle.register_machine.specs.Pricing.{moment_of}
+
+pub data Why : Type 0 where
+  Short : (loose : ℕ) → Why
+  TooSmall : Why
+  Ceiling : Why
+  LetterOpen : Why
+
+pub data Outcome : Type 0 where
+  Filled : Outcome
+  Unfilled : Why → Outcome
+
+pub data TradeKind : Type 0 where
+  Buy : TradeKind
+  Sell : TradeKind
+  Exchange : TradeKind
+  Letter : TradeKind
+  LetterReached : TradeKind
+  LetterEnded : TradeKind
+  ElectCash : TradeKind
+  ElectShares : TradeKind
+  DividendShares : TradeKind
+  DividendCash : TradeKind
+
+-- a trade on a sheet, with 0 where a field has no part: the reference of its order, the price in cents, the mils and the
+-- new mils of an exchange, the cash and the charge in cents
+pub record Trade : Type 0 where
+  pub sheet : ℕ
+  pub moment : ℕ
+  pub day : ℕ
+  pub account : ℕ
+  pub ref_no : ℕ
+  pub kind : TradeKind
+  pub outcome : Outcome
+  pub class : ℕ
+  pub to_class : ℕ
+  pub price : ℕ
+  pub mils : ℕ
+  pub to_mils : ℕ
+  pub cash : ℕ
+  pub charge : ℕ
+
+-- a trade of an account and class without an order
+abbrev pub plain_trade : Sheet → ℕ → ℕ → TradeKind → Trade
+plain_trade sheet account class kind = record {
+  sheet = sheet.number;
+  moment = moment_of sheet;
+  day = sheet.day;
+  account = account;
+  ref_no = 0;
+  kind = kind;
+  outcome = Outcome.Filled;
+  class = class;
+  to_class = 0;
+  price = 0;
+  mils = 0;
+  to_mils = 0;
+  cash = 0;
+  charge = 0;
+}
+
+-- and with one
+abbrev pub order_trade : Sheet → OrderForm → TradeKind → Trade
+order_trade sheet order kind =
+    record (plain_trade sheet order.account (class_of order.body) kind) {
+      ref_no = order.ref_no;
+      to_class = unwrap_or (target_of order.body) 0;
+    }
+
+-- the register and the trades so far, within one sheet or over many
+pub record Day : Type 0 where
+  pub register : Register
+  pub trades : List Trade
+
+abbrev pub with_trade : Day → Trade → Day
+with_trade day trade = record { register = day.register; trades = day.trades ++ trade ∷ [] }
+
+abbrev pub with_position : Day → Position → Day
+with_position day position = record { register = put position day.register; trades = day.trades }
+
+-- a trade that leaves this position
+abbrev pub traded : Day → Position → Trade → Day
+traded day position trade = with_trade (with_position day position) trade
+
+-- the order is unfilled for the first reason that holds, else it is done
+abbrev pub done_unless : Option Why → Day → Trade → Day → Day
+done_unless None day trade done = done
+done_unless (Some why) day trade done = with_trade day (record trade { outcome = Outcome.Unfilled why })
+
+abbrev pub filled_unless : List (Option Why) → Day → Trade → Day → Day
+filled_unless reasons day trade done = done_unless (first_some reasons) day trade done
+
+-- the net asset value of a class on a sheet
+abbrev pub nav_of : Sheet → ℕ → ℕ
+nav_of sheet class = unwrap_or (nav_on sheet.prices class) 0

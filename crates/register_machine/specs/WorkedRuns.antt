@@ -1,0 +1,116 @@
+-- Whole scripts as examples: what is written in a row of a script, and the line that it gets. Each begins with the same
+-- preamble: a calendar of New York, four classes, a dealer, two households and their accounts.
+use Rattle.std.specs.Prelude.{◌≡◌, ℕ, Bool, not, ◌&&◌, List, [], ◌∷◌, ◌++◌, map, replicate, Some, ◌==◌, codes, filter, flat_map}
+use Rattle.std.specs.List.{join_with_byte, list_any}
+use Rattle.fund_calendar.specs.PricingDays.{days_from, is_priced}
+use Rattle.agent_events.specs.AnswerTexts.{day_text, list_text}
+use Rattle.agent_events.specs.Events.{Event, Kind}
+use Rattle.agent_events.specs.JsonForms.{Member}
+use Rattle.agent_events.specs.Requests.{Body, Request}
+use Rattle.register_machine.specs.Callers.{Caller, Situation, situation_at}
+use Rattle.register_machine.specs.Pricing.{empty_table}
+use Rattle.register_machine.specs.Script.{batch_text, empty_run, is_whole_machine, run_from, script_items, script_text}
+
+abbrev pub operator_key : List ℕ
+operator_key = codes "op-desk000001"
+
+-- lines with their line feeds, and a text in quotes
+abbrev pub text_of : List (List ℕ) → List ℕ
+text_of lines = flat_map (λ line. line ++ 10 ∷ []) lines
+
+abbrev pub quoted : List ℕ → List ℕ
+quoted text = 34 ∷ text ++ 34 ∷ []
+
+-- a calendar of New York from 2024 to 2026
+abbrev pub calendar_line : List ℕ
+calendar_line =
+    codes "1719835200,op-desk000001,calendar,1," ++ quoted (codes "EST5EDT,M3.2.0,M11.1.0")
+    ++ codes ",16:00,2024-01-01,2026-12-31,2024-07-04 2024-11-28 2024-12-25"
+
+abbrev pub class_11 : List ℕ
+class_11 =
+    codes "1719835200,op-desk000001,class,11,1,1,GROWTH-A,0,1,250.00,50.00,"
+    ++ codes "0.00:575 25000.00:500 50000.00:450 100000.00:350 250000.00:250 500000.00:200 1000000.00:0,"
+
+abbrev pub class_12 : List ℕ
+class_12 = codes "1719835200,op-desk000001,class,12,1,1,GROWTH-B,7,1,0.01,0.01,0.00:0,500 400 300 200 100"
+
+abbrev pub class_13 : List ℕ
+class_13 = codes "1719835200,op-desk000001,class,13,1,2,INCOME-B,7,1,0.01,0.01,0.00:0,500 400 300 200 100"
+
+abbrev pub class_14 : List ℕ
+class_14 = codes "1719835200,op-desk000001,class,14,1,3,INDEX-N,0,0,0.01,0.01,0.00:0,"
+
+-- the lines behind the calendar, and what they get
+abbrev pub openings : List (List ℕ)
+openings =
+    class_11 ∷ class_12 ∷ class_13 ∷ class_14
+    ∷ codes "1719835200,op-desk000001,dealer,5,d-broker00005,21600"
+    ∷ codes "1719835200,op-desk000001,household,1,h-mary000001"
+    ∷ codes "1719835200,op-desk000001,household,2,h-omar000002"
+    ∷ codes "1719835200,op-desk000001,account,101,1,0,MARY DOE"
+    ∷ codes "1719835200,op-desk000001,account,102,1,0,MARY DOE IRA"
+    ∷ codes "1719835200,op-desk000001,account,103,2,5,OMAR ROE" ∷ []
+
+abbrev pub opening_answers : List (List ℕ)
+opening_answers =
+    codes "ok,calendar,1" ∷ codes "ok,class,11" ∷ codes "ok,class,12" ∷ codes "ok,class,13" ∷ codes "ok,class,14"
+    ∷ codes "ok,dealer,5" ∷ codes "ok,household,1" ∷ codes "ok,household,2" ∷ codes "ok,account,101"
+    ∷ codes "ok,account,102" ∷ codes "ok,account,103" ∷ []
+
+-- these lines, behind the preamble, get these answers
+abbrev pub Answers : List (List ℕ) → List (List ℕ) → Type 0
+Answers items lines =
+    script_text operator_key (text_of (calendar_line ∷ openings ++ items)) ≡ text_of (opening_answers ++ lines)
+
+-- these lines get these answers by themselves
+abbrev pub AnswersAlone : List (List ℕ) → List (List ℕ) → Type 0
+AnswersAlone items lines = script_text operator_key (text_of items) ≡ text_of lines
+
+-- the sheet of 2024-07-01: 10.00, 10.00, 20.00 and 10.00
+abbrev pub first_sheet : List ℕ
+first_sheet = codes "1719867600,op-desk000001,sheet,1,1719864000,11:10.00 12:10.00 13:20.00 14:10.00"
+
+-- A calendar that has five pricing days alone: all other weekdays from 2024-07-01 to 2025-08-04 are holidays.
+abbrev pub few_days : List ℕ
+few_days = 19905 ∷ 19906 ∷ 20270 ∷ 20301 ∷ 20304 ∷ []
+
+abbrev pub is_holiday : ℕ → Bool
+is_holiday day = is_priced [] day && not (list_any (λ other. other == day) few_days)
+
+abbrev pub few_days_line : List ℕ
+few_days_line =
+    codes "1719835200,op-desk000001,calendar,1," ++ quoted (codes "EST5EDT,M3.2.0,M11.1.0")
+    ++ codes ",16:00,2024-07-01,2025-08-04," ++ list_text (map day_text (filter is_holiday (days_from 400 19905)))
+
+abbrev pub AnswersOnFewDays : List (List ℕ) → List (List ℕ) → Type 0
+AnswersOnFewDays items lines =
+    script_text operator_key (text_of (few_days_line ∷ openings ++ items)) ≡ text_of (opening_answers ++ lines)
+
+-- a record with all its fields in quotes, ended by carriage return and line feed
+abbrev pub quoted_record : List (List ℕ) → List ℕ
+quoted_record fields = join_with_byte 44 (map quoted fields) ++ 13 ∷ 10 ∷ []
+
+abbrev pub record_line : List ℕ → List ℕ
+record_line text = text ++ 13 ∷ 10 ∷ []
+
+-- a batch, sent with a key behind the preamble and these lines, gets these answers
+abbrev pub BatchAnswers : List (List ℕ) → ℕ → List ℕ → List ℕ → List (List ℕ) → Type 0
+BatchAnswers items now key batch lines =
+    batch_text operator_key
+    (run_from is_whole_machine operator_key empty_run (script_items (text_of (calendar_line ∷ openings ++ items)))) now key batch
+    ≡ text_of lines
+
+-- an account with so many cancels, and another order of an account
+abbrev pub cancelled : Event
+cancelled = record { moment = 0; kind = Kind.Cancel (record { account = 101; ref_no = 1; target = 1 }) }
+
+abbrev pub with_cancels : ℕ → Situation
+with_cancels count = situation_at empty_table (replicate count cancelled) 0 Caller.Operator
+
+abbrev pub order_of : ℕ → Request
+order_of account = Request.Order (record { account = account; ref_no = 9; body = Body.SellAll 14 })
+
+-- a member of a JSON object by its name and its text
+abbrev pub member : List ℕ → List ℕ → Member
+member name text = record { name = name; text = Some text }

@@ -1,0 +1,81 @@
+//! Worked batches, the limit on an account's orders, and the forms of JSON members, as laws.
+ghost use Rattle.std.specs.Prelude.{◌≡◌, [], ◌∷◌, ◌++◌, codes, Some, None, Err};
+ghost use Rattle.agent_events.specs.Answers.{Refusal};
+ghost use Rattle.agent_events.specs.Items.{asked_by};
+ghost use Rattle.agent_events.specs.JsonForms.{asked_by_members};
+ghost use Rattle.register_machine.specs.OrderRules.{orders_full};
+ghost use Rattle.register_machine.specs.WorkedRuns.{BatchAnswers, first_sheet, quoted_record, record_line, with_cancels, order_of, member};
+
+/// A dealer's batch of four lines, one of them in quotes: each is answered in turn.
+pub fn batch_of_a_dealer()
+    ensures { BatchAnswers (first_sheet ∷ []) 1719964800 (codes "d-broker00005") (
+        quoted_record (
+        codes "1719950399" ∷ codes "buy" ∷ codes "103" ∷ codes "1" ∷ codes "14" ∷ codes "1000.00" ∷ []
+        )
+        ++ record_line (codes "1719950400,buy,103,2,14,1000.00")
+        ++ record_line (codes "1719863999,buy,103,3,14,1000.00")
+        ++ record_line (codes "1719950000,buy,101,9,14,1000.00")
+        ++ record_line (codes "1719950000,buy,103,9")
+        ) (
+        codes "ok,order,103,1,1719950399,1719950400"
+        ∷ codes "ok,order,103,2,1719950400,1720036800"
+        ∷ codes "no,8,1719864000"
+        ∷ codes "no,1"
+        ∷ codes "no,2,0"
+        ∷ []
+        ) }
+{}
+
+/// A line of a batch sees the lines before it.
+pub fn batch_with_a_repeat()
+    ensures { BatchAnswers [] 1719838800 (codes "d-broker00005") (
+        record_line (codes "1719838000,buy,103,1,14,1000.00")
+        ++ record_line (codes "1719838000,buy,103,1,14,1000.00")
+        ++ record_line (codes "1719838000,buy,103,1,14,2000.00")
+        ) (
+        codes "ok,order,103,1,1719838000,1719864000"
+        ∷ codes "ok,order,103,1,1719838000,1719864000"
+        ∷ codes "no,4"
+        ∷ []
+        ) }
+{}
+
+/// Nobody but a dealer sends a batch.
+pub fn batch_of_a_household()
+    ensures { BatchAnswers [] 1719838800 (codes "h-mary000001") (record_line (codes "1719838000,buy,101,1,14,1000.00")) (
+        codes "no,1" ∷ []
+        ) }
+{}
+
+/// With 4,096 orders and cancels an account is full, and another isn't.
+pub fn full_account()
+    ensures full { orders_full (with_cancels 4096) (order_of 101) ≡ Some (Refusal.OrdersFull 4096) }
+    ensures other { orders_full (with_cancels 4096) (order_of 103) ≡ None }
+    ensures room { orders_full (with_cancels 4095) (order_of 101) ≡ None }
+{}
+
+/// Members in any order ask what the record of a script asks; a missing one has its place, and another name is place 0.
+pub fn members_of_a_purchase()
+    ensures same { asked_by_members (codes "buy") (
+        member (codes "gross") (codes "10000.00") ∷ member (codes "account") (codes "101") ∷ member (codes "ref") (codes "1") ∷ member (codes "class") (codes "11") ∷ []
+        )
+        ≡ asked_by (codes "buy") (codes "101" ∷ codes "1" ∷ codes "11" ∷ codes "10000.00" ∷ []) }
+    ensures missing { asked_by_members (codes "buy") (member (codes "account") (codes "101") ∷ member (codes "ref") (codes "1") ∷ member (codes "gross") (codes "1.00") ∷ []) ≡ Err 3 }
+    ensures unknown { asked_by_members (codes "buy") (member (codes "account") (codes "101") ∷ member (codes "to") (codes "11") ∷ []) ≡ Err 0 }
+    ensures no_verb { asked_by_members (codes "fly") [] ≡ Err 0 }
+{}
+
+/// Where a correction's order verb is missing, other members are passed over and the verb has its place.
+pub fn members_of_an_entry()
+    ensures same { asked_by_members (codes "enter") (
+        member (codes "fix") (codes "1") ∷ member (codes "bearer") (codes "fund") ∷ member (codes "receipt") (codes "1719838800") ∷ member (codes "verb") (codes "sellall")
+        ∷ member (codes "account") (codes "101") ∷ member (codes "ref") (codes "1") ∷ member (codes "class") (codes "11") ∷ []
+        )
+        ≡ asked_by (codes "enter") (
+        codes "1" ∷ codes "fund" ∷ codes "1719838800" ∷ codes "sellall" ∷ codes "101" ∷ codes "1" ∷ codes "11" ∷ []
+        ) }
+    ensures missing { asked_by_members (codes "enter") (
+        member (codes "fix") (codes "1") ∷ member (codes "bearer") (codes "fund") ∷ member (codes "receipt") (codes "1719838800") ∷ member (codes "colour") (codes "red") ∷ []
+        )
+        ≡ Err 4 }
+{}
