@@ -11,6 +11,8 @@ mod item;
 mod lists;
 mod reply;
 mod request;
+#[cfg(test)]
+mod tests;
 
 pub use crate::event::{Event, EventKind, OrderEvent, Source};
 pub use crate::fields::{Amount, Identifier, Minimum, Reference};
