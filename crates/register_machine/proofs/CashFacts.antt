@@ -26,7 +26,7 @@ sums-exchange f xs (y ∷ ys) =
     omega (arith, first, rest, both)
 
 -- a number for each that passes
-passing : {X : Type 0} (p : X → Bool) (c : ℕ) (xs : List X) → sum_by (λ x. cond (p x) c 0) xs ≡ c * count_by p xs
+pub passing : {X : Type 0} (p : X → Bool) (c : ℕ) (xs : List X) → sum_by (λ x. cond (p x) c 0) xs ≡ c * count_by p xs
 passing p c [] = omega arith
 passing p c (x ∷ xs) =
     let left = sum_by-cons (λ x. cond (p x) c 0) x xs in

@@ -19,9 +19,9 @@ use Rattle.register_machine.specs.Journals.{Journal, last_moment, first_some, wh
 use Rattle.register_machine.specs.Pricing.{table_after, table_behind, table_of, empty_table}
 use Rattle.register_machine.specs.CorrectedBook.{Book, OrderRow, classes_in, stands}
 use Rattle.register_machine.specs.Replays.{priced_in, priced_orders}
-use Rattle.register_machine.specs.Callers.{Situation, situation_at, caller_of}
+use Rattle.register_machine.specs.Callers.{Caller, Situation, situation_at, caller_of}
 use Rattle.register_machine.specs.OrderRules.{reference_of, fix_of, brings_reference, brings_fix, has_reference, has_fix, ref_used}
-use Rattle.register_machine.specs.RegisterRules.{event_at, sheet_fault}
+use Rattle.register_machine.specs.RegisterRules.{event_at, sheet_fault, something_stands}
 use Rattle.register_machine.specs.Machine.{Answer, says, refuses, appends, first_rules, later_rules, first_broken_rule, reply_by, reply_of, first_reply, looked_up, due_now, done_by, done, unless_refused, repeats, unless_repeated, answer, answer_asked}
 use Rattle.register_machine.specs.Script.{Run, situation_in, item_answer, item_step, run_from, empty_run}
 use Rattle.register_machine.specs.MachineLaws.{AnswersByTheJournal, is_query, QueryAppendsNothing, RefusalAppendsNothing, RepeatsItsFirst, IsAppended, AppendsAtMostIt, SaysItsFirstReply, NoReferenceTwice, NoFixTwice, KeepsItsTable, IsForwardPriced}
@@ -49,32 +49,36 @@ asks-same (Request.Statement form) now due = refl
 asks-same Request.Books now due = refl
 asks-same (Request.Line line) now due = refl
 
-asks : (request : Request) (now due : ℕ) (kind : Kind) → event_of request now due ≡ Some kind → request_of kind ≡ request
+pub asks : (request : Request) (now due : ℕ) (kind : Kind) → event_of request now due ≡ Some kind → request_of kind ≡ request
 asks request now due kind e = sym (ap (λ k. option_map_or request_of k request) e) ∙ asks-same request now due
 
--- what holds of every reply by itself, and of the request's own event where no rule is broken, holds of every answer
-pub each-answer : (C : Answer → Type 0) (situation : Situation) (request : Request) → ((reply : Reply) → C (says reply)) → ((kind : Kind) → event_of request situation.now (due_now situation request) ≡ Some kind → first_broken_rule situation request ≡ None → C (appends situation (event_at situation kind))) → C (answer situation request)
-each-answer C situation request said one =
-    elim (first_some (first_rules situation request)) as (λ r. C (unless_refused r (unless_repeated (position (repeats request) situation.journal) situation request))) [
-      | Some why ↦ said (Reply.Refused why)
-      | None ↦ by_place (position (repeats request) situation.journal)
-    ]
+-- What holds of every reply by itself, and of the request's own event where it is new and no rule is broken, holds of every
+-- answer.
+pub each-new : (C : Answer → Type 0) (situation : Situation) (request : Request) → ((reply : Reply) → C (says reply)) → (first_some (first_rules situation request) ≡ None → position (repeats request) situation.journal ≡ None → (kind : Kind) → event_of request situation.now (due_now situation request) ≡ Some kind → first_broken_rule situation request ≡ None → C (appends situation (event_at situation kind))) → C (answer situation request)
+each-new C situation request said one = by_right (first_some (first_rules situation request)) refl
   where
-    by_event : (found : Option Kind) → event_of request situation.now (due_now situation request) ≡ found → first_broken_rule situation request ≡ None → C (done_by situation request found)
-    by_event None e clear = said (looked_up situation request)
-    by_event (Some kind) e clear = one kind e clear
+    by_event : first_some (first_rules situation request) ≡ None → position (repeats request) situation.journal ≡ None → (found : Option Kind) → event_of request situation.now (due_now situation request) ≡ found → first_broken_rule situation request ≡ None → C (done_by situation request found)
+    by_event allowed new None e clear = said (looked_up situation request)
+    by_event allowed new (Some kind) e clear = one allowed new kind e clear
 
-    by_rule : (broken : Option Refusal) → first_broken_rule situation request ≡ broken → C (unless_refused broken (done situation request))
-    by_rule (Some why) e = said (Reply.Refused why)
-    by_rule None e = by_event (event_of request situation.now (due_now situation request)) refl e
+    by_rule : first_some (first_rules situation request) ≡ None → position (repeats request) situation.journal ≡ None → (broken : Option Refusal) → first_broken_rule situation request ≡ broken → C (unless_refused broken (done situation request))
+    by_rule allowed new (Some why) e = said (Reply.Refused why)
+    by_rule allowed new None e = by_event allowed new (event_of request situation.now (due_now situation request)) refl e
 
     by_first : (place : ℕ) (found : Option Event) → C (option_map_or (λ event. says (first_reply (take place situation.journal) event)) found (refuses Refusal.Unbuilt))
     by_first place None = said (Reply.Refused Refusal.Unbuilt)
     by_first place (Some event) = said (first_reply (take place situation.journal) event)
 
-    by_place : (place : Option ℕ) → C (unless_repeated place situation request)
-    by_place (Some place) = by_first place (slice_get situation.journal place)
-    by_place None = by_rule (first_broken_rule situation request) refl
+    by_place : first_some (first_rules situation request) ≡ None → (place : Option ℕ) → position (repeats request) situation.journal ≡ place → C (unless_repeated place situation request)
+    by_place allowed (Some place) new = by_first place (slice_get situation.journal place)
+    by_place allowed None new = by_rule allowed new (first_broken_rule situation request) refl
+
+    by_right : (broken : Option Refusal) → first_some (first_rules situation request) ≡ broken → C (unless_refused broken (unless_repeated (position (repeats request) situation.journal) situation request))
+    by_right (Some why) e = said (Reply.Refused why)
+    by_right None e = by_place e (position (repeats request) situation.journal) refl
+
+pub each-answer : (C : Answer → Type 0) (situation : Situation) (request : Request) → ((reply : Reply) → C (says reply)) → ((kind : Kind) → event_of request situation.now (due_now situation request) ≡ Some kind → first_broken_rule situation request ≡ None → C (appends situation (event_at situation kind))) → C (answer situation request)
+each-answer C situation request said one = each-new C situation request said (λ allowed new. one)
 
 pub appends_at_most_it : (situation : Situation) (request : Request) → AppendsAtMostIt situation request
 appends_at_most_it situation request =
@@ -151,7 +155,7 @@ none_passes p (x ∷ xs) e =
     rw parts.0 (none_passes p xs parts.1)
 
 -- one more, where none passed if it does
-at_most_one : {X : Type 0} (p : X → Bool) (xs : List X) (x : X) → length (filter p xs) ≤ 1 → (p x ≡ true → list_any p xs ≡ false) → length (filter p (xs ++ x ∷ [])) ≤ 1
+pub at_most_one : {X : Type 0} (p : X → Bool) (xs : List X) (x : X) → length (filter p xs) ≤ 1 → (p x ≡ true → list_any p xs ≡ false) → length (filter p (xs ++ x ∷ [])) ≤ 1
 at_most_one p xs x few none =
     let both = ap length (filter-append p xs (x ∷ [])) ∙ length-append (filter p xs) (filter p (x ∷ [])) in
     elim (p x) as (λ b. p x ≡ b → length (filter p (xs ++ x ∷ [])) ≡ length (filter p xs) + length (cond b (x ∷ []) []) → length (filter p (xs ++ x ∷ [])) ≤ 1) [
@@ -160,11 +164,11 @@ at_most_one p xs x few none =
     ] refl both
 
 -- where no rule of a list is broken, none is
-AllClear : List (Option Refusal) → Type 0
+unfoldable pub AllClear : List (Option Refusal) → Type 0
 AllClear [] = Unit {0}
 AllClear (x ∷ xs) = (x ≡ None) × AllClear xs
 
-all_clear : (rules : List (Option Refusal)) → first_some rules ≡ None → AllClear rules
+pub all_clear : (rules : List (Option Refusal)) → first_some rules ≡ None → AllClear rules
 unfolding AllClear
 all_clear [] e = tt
 all_clear (None ∷ rules) e = (refl, all_clear rules e)
@@ -173,7 +177,7 @@ all_clear (Some why ∷ rules) e = absurd (some_none e)
     some_none : Some why ≡ None → ⊥
     some_none h = cc
 
-not_when : {X : Type 0} (b : Bool) (x : X) → when b x ≡ None → b ≡ false
+pub not_when : {X : Type 0} (b : Bool) (x : X) → when b x ≡ None → b ≡ false
 not_when true x e = absurd (some_none e)
   where
     some_none : Some x ≡ None → ⊥
@@ -183,6 +187,10 @@ not_when false x e = refl
 ref_clear : (situation : Situation) (request : Request) → first_broken_rule situation request ≡ None → ref_used situation request ≡ None
 unfolding AllClear
 ref_clear situation request clear = (all_clear (later_rules situation request (sheet_fault situation request)) clear).1.0
+
+pub stands_clear : (situation : Situation) (request : Request) → first_broken_rule situation request ≡ None → something_stands situation request ≡ None
+unfolding AllClear
+stands_clear situation request clear = (all_clear (later_rules situation request (sheet_fault situation request)) clear).1.1.1.1.1.1.1.1.1.1.1.0
 
 ref_parts : (situation : Situation) (request : Request) → first_broken_rule situation request ≡ None → (option_map_or (has_reference situation) (reference_of request) false ≡ false) × (option_map_or (has_fix situation) (fix_of request) false ≡ false)
 ref_parts situation request clear =
@@ -261,31 +269,32 @@ more-ordered situation request late ordered =
 
 -- ---- runs
 
+-- what holds of every refusal, and of the answer to a request that doesn't come before the last event, holds of an item's
+each-item : (C : Answer → Type 0) (built : Request → Bool) (operator : List ℕ) (run : Run) (item : ScriptItem) → ((refusal : Refusal) → C (refuses refusal)) → ((now : ℕ) (key : List ℕ) (request : Request) → last_moment run.journal ≤ now → C (answer (situation_in operator run now key) request)) → C (item_answer built operator run item)
+each-item C built operator run ScriptItem.Bad refused answered = refused (Refusal.BadForm 0)
+each-item C built operator run (ScriptItem.Good now key asked) refused answered = by_moment (nat_lt now (last_moment run.journal)) refl
+  where
+    by_request : (request : Request) → last_moment run.journal ≤ now → (is_built : Bool) → C (cond is_built (answer (situation_in operator run now key) request) (refuses Refusal.Unbuilt))
+    by_request request late true = answered now key request late
+    by_request request late false = refused Refusal.Unbuilt
+
+    by_asked : (asked : Asked) → last_moment run.journal ≤ now → C (answer_asked built (situation_in operator run now key) asked)
+    by_asked (Ok request) late = by_request request late (built request)
+    by_asked (Err place) late = refused (Refusal.BadForm place)
+
+    by_moment : (early : Bool) → nat_lt now (last_moment run.journal) ≡ early → C (cond early (refuses (Refusal.StampBack (last_moment run.journal))) (answer_asked built (situation_in operator run now key) asked))
+    by_moment true e = refused (Refusal.StampBack (last_moment run.journal))
+    by_moment false e = by_asked asked (ltb-false now (last_moment run.journal) e)
+
 -- what each answer keeps, a run keeps
-run-keeps : (P : Journal → Type 0) → ((situation : Situation) (request : Request) → last_moment situation.journal ≤ situation.now → P situation.journal → P (situation.journal ++ (answer situation request).events)) → (built : Request → Bool) (operator : List ℕ) (run : Run) (items : List ScriptItem) → P run.journal → P (fold (item_step built operator) run items).journal
+pub run-keeps : (P : Journal → Type 0) → ((situation : Situation) (request : Request) → last_moment situation.journal ≤ situation.now → P situation.journal → P (situation.journal ++ (answer situation request).events)) → (built : Request → Bool) (operator : List ℕ) (run : Run) (items : List ScriptItem) → P run.journal → P (fold (item_step built operator) run items).journal
 unfolding item_step
 run-keeps P keeps built operator run [] holds = holds
 run-keeps P keeps built operator run (first ∷ items) holds =
-    run-keeps P keeps built operator (item_step built operator run first) items (by_item first)
-  where
-    nothing : P (run.journal ++ [])
-    nothing = subst P (sym (append-nil run.journal)) holds
-
-    by_request : (now : ℕ) (key : List ℕ) (request : Request) → last_moment run.journal ≤ now → (is_built : Bool) → P (run.journal ++ (cond is_built (answer (situation_in operator run now key) request) (refuses Refusal.Unbuilt)).events)
-    by_request now key request late true = keeps (situation_in operator run now key) request late holds
-    by_request now key request late false = nothing
-
-    by_asked : (now : ℕ) (key : List ℕ) (asked : Asked) → last_moment run.journal ≤ now → P (run.journal ++ (answer_asked built (situation_in operator run now key) asked).events)
-    by_asked now key (Ok request) late = by_request now key request late (built request)
-    by_asked now key (Err place) late = nothing
-
-    by_moment : (now : ℕ) (key : List ℕ) (asked : Asked) (early : Bool) → nat_lt now (last_moment run.journal) ≡ early → P (run.journal ++ (cond early (refuses (Refusal.StampBack (last_moment run.journal))) (answer_asked built (situation_in operator run now key) asked)).events)
-    by_moment now key asked true e = nothing
-    by_moment now key asked false e = by_asked now key asked (ltb-false now (last_moment run.journal) e)
-
-    by_item : (item : ScriptItem) → P (run.journal ++ (item_answer built operator run item).events)
-    by_item ScriptItem.Bad = nothing
-    by_item (ScriptItem.Good now key asked) = by_moment now key asked (nat_lt now (last_moment run.journal)) refl
+    run-keeps P keeps built operator (item_step built operator run first) items
+    (each-item (λ said. P (run.journal ++ said.events)) built operator run first
+    (λ refusal. subst P (sym (append-nil run.journal)) holds)
+    (λ now key request late. keeps (situation_in operator run now key) request late holds))
 
 pub run_has_no_reference_twice : (built : Request → Bool) (operator : List ℕ) (items : List ScriptItem) → NoReferenceTwice (run_from built operator empty_run items).journal
 unfolding run_from
@@ -319,6 +328,23 @@ table-run built operator run (first ∷ items) keeps =
 pub run_keeps_its_table : (built : Request → Bool) (operator : List ℕ) (items : List ScriptItem) → KeepsItsTable (run_from built operator empty_run items)
 unfolding run_from table_behind
 run_keeps_its_table built operator items = table-run built operator empty_run items refl
+
+-- so what each answer keeps in a situation with its journal's own table, a run keeps
+run-with-table : (P : Journal → Type 0) → ((journal : Journal) (now : ℕ) (caller : Caller) (request : Request) → last_moment journal ≤ now → P journal → P (journal ++ (answer (situation_at (table_of journal) journal now caller) request).events)) → (built : Request → Bool) (operator : List ℕ) (run : Run) (items : List ScriptItem) → KeepsItsTable run → P run.journal → P (fold (item_step built operator) run items).journal
+unfolding item_step
+run-with-table P keeps built operator run [] own holds = holds
+run-with-table P keeps built operator run (first ∷ items) own holds =
+    run-with-table P keeps built operator (item_step built operator run first) items
+    (table-more run.table run.journal (item_answer built operator run first).events own)
+    (each-item (λ said. P (run.journal ++ said.events)) built operator run first
+    (λ refusal. subst P (sym (append-nil run.journal)) holds)
+    (λ now key request late.
+    subst (λ table. P (run.journal ++ (answer (situation_at table run.journal now (caller_of run.journal operator key)) request).events)) (sym own)
+    (keeps run.journal now (caller_of run.journal operator key) request late holds)))
+
+pub run-keeps-its : (P : Journal → Type 0) → ((journal : Journal) (now : ℕ) (caller : Caller) (request : Request) → last_moment journal ≤ now → P journal → P (journal ++ (answer (situation_at (table_of journal) journal now caller) request).events)) → (built : Request → Bool) (operator : List ℕ) (items : List ScriptItem) → P [] → P (run_from built operator empty_run items).journal
+unfolding run_from table_behind
+run-keeps-its P keeps built operator items holds = run-with-table P keeps built operator empty_run items refl holds
 
 -- ---- the next price
 

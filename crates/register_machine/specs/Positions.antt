@@ -1,6 +1,6 @@
 -- The register: who owns which shares. A position is the lots of one account and class, with the holder's election of
 -- dividends and at most one open letter. Fresh positions aren't kept, and the others stand by account and then class.
-use Rattle.std.specs.Prelude.{ℕ, ◌+◌, ◌*◌, ◌^◌, Bool, false, not, ◌&&◌, List, [], ◌∷◌, ◌++◌, length, is_none, if◌then◌else◌, nat_lt, nat_le, ◌==◌, None, filter, find, Option, unwrap_or}
+use Rattle.std.specs.Prelude.{ℕ, ◌+◌, Bool, false, not, ◌&&◌, ◌||◌, List, [], ◌∷◌, ◌++◌, length, is_none, if◌then◌else◌, nat_lt, nat_le, ◌==◌, None, filter, find, Option, unwrap_or}
 use Rattle.share_lots.specs.Lots.{Holding, cost_total, held_total, loose_total, most_cost, most_mils}
 use Rattle.letter_of_intent.specs.declared.letter.Letter.{Letter}
 
@@ -30,8 +30,10 @@ is_fresh position =
     && (position.holding.next_lot == 1 && (not position.in_cash && is_none position.letter))
 
 -- the order by account and then class
-abbrev pub position_key : Position → ℕ
-position_key position = position.account * 2 ^ 32 + position.class
+abbrev pub stands_before : Position → Position → Bool
+stands_before position other =
+    nat_lt position.account other.account
+    || (position.account == other.account && nat_lt position.class other.class)
 
 abbrev pub is_position : ℕ → ℕ → Position → Bool
 is_position account class position = position.account == account && position.class == class
@@ -46,8 +48,8 @@ unless_fresh position = if is_fresh position then [] else position ∷ []
 -- a position in its place, in the stead of the one that stood there
 abbrev pub put : Position → Register → Register
 put position register =
-    filter (λ other. nat_lt (position_key other) (position_key position)) register ++ unless_fresh position
-    ++ filter (λ other. nat_lt (position_key position) (position_key other)) register
+    filter (λ other. stands_before other position) register ++ unless_fresh position
+    ++ filter (λ other. stands_before position other) register
 
 abbrev pub with_holding : Position → Holding → Position
 with_holding position holding = record position { holding = holding }

@@ -8,7 +8,8 @@ ghost use Rattle.register_machine.specs.Cash.{Movement};
 ghost use Rattle.register_machine.specs.Callers.{Situation};
 ghost use Rattle.register_machine.specs.CorrectedBook.{Book};
 ghost use Rattle.register_machine.specs.Journals.{MomentsNeverFall};
-ghost use Rattle.register_machine.specs.MachineLaws.{QueryAppendsNothing, RefusalAppendsNothing, RepeatsItsFirst, AppendsAtMostIt, SaysItsFirstReply, AnswersByTheJournal, NoReferenceTwice, NoFixTwice, KeepsItsTable, IsForwardPriced, BalancesToZero, GrossIsWhole};
+ghost use Rattle.register_machine.specs.Lawful.{IsLawful};
+ghost use Rattle.register_machine.specs.MachineLaws.{QueryAppendsNothing, RefusalAppendsNothing, RepeatsItsFirst, AppendsAtMostIt, SaysItsFirstReply, AnswersByTheJournal, NoReferenceTwice, NoFixTwice, NoAccountTwice, KeepsItsTable, IsForwardPriced, BalancesToZero, GrossIsWhole, ReplayBalances, SharesGoByTrades, SharesGoByTradesIn};
 ghost use Rattle.register_machine.specs.Replays.{priced_orders, replay};
 ghost use Rattle.register_machine.specs.Script.{Run, run_from, empty_run};
 
@@ -47,6 +48,11 @@ pub fn no_fix_stands_twice()
     ensures { (built : Request → Bool) (operator : List ℕ) (items : List ScriptItem) → NoFixTwice (run_from built operator empty_run items).journal }
 {}
 
+/// And no number of an account.
+pub fn no_account_stands_twice()
+    ensures { (built : Request → Bool) (operator : List ℕ) (items : List ScriptItem) → NoAccountTwice (run_from built operator empty_run items).journal }
+{}
+
 /// Its moments never fall.
 pub fn moments_never_fall()
     ensures { (built : Request → Bool) (operator : List ℕ) (items : List ScriptItem) → MomentsNeverFall (run_from built operator empty_run items).journal }
@@ -63,6 +69,13 @@ pub fn answers_depend_on_the_journal()
         → AnswersByTheJournal operator run now key request }
 {}
 
+/// The journal that a run made is lawful: each event is what the machine appends to the events before it, at its moment, for
+/// the request that it answers, asked by the dealer that the account names for a dealer's line and by the operator for all
+/// else.
+pub fn journals_are_lawful()
+    ensures { (built : Request → Bool) (operator : List ℕ) (items : List ScriptItem) → IsLawful (run_from built operator empty_run items).journal }
+{}
+
 /// An order that has its sheet has the first price computed after its receipt (17 CFR 270.22c-1(a)).
 pub fn orders_are_forward_priced()
     ensures { (book : Book) → All (IsForwardPriced book.table.sheets) (priced_orders book) }
@@ -76,4 +89,21 @@ pub fn balances_sum_to_zero()
 /// Of every purchase of a replay proceeds and charge make the gross (Form N-1A: the load is a part of the offering price).
 pub fn proceeds_and_charge_make_the_gross()
     ensures { (book : Book) → All GrossIsWhole (replay book).trades }
+{}
+
+/// So the givers and takers of a replay's trades, each counted once, hold nothing together.
+pub fn cash_of_a_replay_sums_to_zero()
+    ensures { (book : Book) → ReplayBalances book }
+{}
+
+/// The outstanding mils of a class are those of its purchases, reinvested dividends and exchanges in, less those of its
+/// redemptions, exchanges out and letters settled by date: in every corrected book whose standing orders exchange no class
+/// into itself, and whose positions have had fewer than 2^32 lots each.
+pub fn shares_go_by_trades()
+    ensures { (book : Book) (class : ℕ) → SharesGoByTrades book class }
+{}
+
+/// And so in every run, whatever the script and the stage: the machine refuses an exchange of a class into itself.
+pub fn shares_go_by_trades_in_runs()
+    ensures { (built : Request → Bool) (operator : List ℕ) (items : List ScriptItem) (class : ℕ) → SharesGoByTradesIn (run_from built operator empty_run items) class }
 {}
