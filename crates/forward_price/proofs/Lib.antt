@@ -1,6 +1,3 @@
-pub mod MomentFacts
-pub mod NextPriceFacts
-pub mod CountFacts
 pub mod ChoiceFacts
 pub mod TurnFacts
 pub mod MapFacts

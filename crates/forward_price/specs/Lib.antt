@@ -1,4 +1,3 @@
-pub mod Moments
 pub mod Sheets
 pub mod Choices
 pub mod PriceTables

@@ -1,13 +1,10 @@
 //! Published sheets of net asset values, and the look-ups that give an order its price.
 #![tactic(auto)]
 
-mod book;
-pub mod calendars;
 mod correcting;
 mod expecting;
 pub mod laws;
 mod lookups;
-mod moments;
 mod next_price;
 mod price_book;
 mod price_sheet;
@@ -17,5 +14,6 @@ mod sheet;
 mod tests;
 pub mod worked;
 
-pub use crate::book::{CALENDAR, PriceBook};
-pub use crate::sheet::{Opened, Prices, Sheet};
+pub use crate::price_book::PriceBook;
+pub use crate::price_sheet::{NoSheet, Opening, Patch, PublishFault, Sheet};
+pub use crate::sheet::Prices;

@@ -1,8 +1,7 @@
 ghost use Rattle.std.specs.Prelude.{◌≡◌, ◌≤◌, [], ◌∷◌, ◌++◌, length, map, vec_capacity, OnOk, OnErr};
 ghost use Rattle.forward_price.specs.PriceTables.{corrected_price};
 
-use crate::lookups;
-use money_units::{Moment, Nav, NoMemory};
+use money_units::{Nav, NoMemory};
 use std::alloc::Global;
 use std::marker::Model;
 
@@ -94,31 +93,4 @@ fn correct_prices(prices: &mut [(u32, Nav)], class: u32, nav: Nav)
     for price in prices.iter_mut() {
         *price = corrected_price(*price, class, nav);
     }
-}
-
-/// A published sheet: its number from 1, its calendar, its pricing moment, and the net asset values on it.
-#[derive(Debug, Drop)]
-pub struct Sheet {
-    pub number: u32,
-    pub calendar: u32,
-    pub moment: Moment,
-    pub prices: Prices,
-}
-
-impl Sheet {
-    ghost use Rattle.forward_price.specs.Sheets.{nav_on};
-
-    /// The net asset value of a class; `None` exactly where the sheet doesn't list it.
-    pub fn nav(&self, class: u32) -> Option<Nav>
-        ensures { result ≡ nav_on self.now.prices class }
-    {
-        lookups::nav_on(self.prices.as_slice(), class)
-    }
-}
-
-/// A class, and the moment at which it was opened.
-#[derive(Clone, Copy, Debug, PartialEq, Eq)]
-pub struct Opened {
-    pub class: u32,
-    pub opened: Moment,
 }

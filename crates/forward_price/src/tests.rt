@@ -1,4 +1,4 @@
-use crate::calendars::{NoSheet, Patch, PriceBook, Prices, PublishFault};
+use crate::{NoSheet, Patch, PriceBook, Prices, PublishFault};
 use fund_calendar::{Calendar, Day, read_day};
 use money_units::Nav;
 use std::alloc::Global;

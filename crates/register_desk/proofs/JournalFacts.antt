@@ -1,97 +1,104 @@
 -- What one more event changes in what the journal says.
-use Rattle.std.proofs.Common.{◌≡◌, ◌≤◌, ℕ, List, [], ◌∷◌, ◌++◌, length, length-append, sym, ap, ◌∙◌, append-nil, arith, refl, true, ◌==◌, ◌&&◌, Option, Some, None, option_map, inl, inr}
-use Rattle.std.specs.List.{list_all}
+use Rattle.std.proofs.Common.{◌≡◌, ◌≤◌, ◌<◌, ℕ, ℤ, pos, List, [], ◌∷◌, ◌++◌, length, length-append, sym, ap, ◌∙◌, append-nil, append_assoc, arith, refl, true, false, cond, ◌==◌, ◌&&◌, not, fold, Bool, Option, Some, None, inl, inr, zero, suc, AllPairs}
+use Rattle.std.specs.List.{list_all, list_any, cons_option}
 use Rattle.std.proofs.lemmas.Bool.{or_cases, and_parts, eqb-true}
 use Rattle.std.proofs.lemmas.List.Elements.{filter_map-append}
 use Rattle.std.proofs.lemmas.List.Sums.{fold-append}
 use Rattle.agent_events.specs.declared.event.Event.{Event}
+use Rattle.agent_events.specs.declared.event.EventKind.{EventKind}
 use Rattle.agent_events.specs.declared.event.EventKind.TheVariants as kind
 use Rattle.agent_events.specs.declared.event.OrderEvent.{OrderEvent}
 use Rattle.agent_events.specs.declared.request.ClassForm.{ClassForm}
 use Rattle.agent_events.specs.declared.request.SheetForm.{SheetForm}
-use Rattle.forward_price.specs.declared.sheet.Opened.{Opened}
-use Rattle.forward_price.specs.declared.sheet.Sheet.{Sheet}
-use Rattle.forward_price.specs.Sheets.{published, expected_of, lists_class}
-use Rattle.register_machine.specs.Journal.{Journal, opened_of, opened, with_sheet, sheets}
+use Rattle.forward_price.specs.declared.price_sheet.Opening.{Opening}
+use Rattle.forward_price.specs.declared.price_sheet.Sheet.{Sheet}
+use Rattle.forward_price.specs.Choices.{best, considered}
+use Rattle.forward_price.specs.PriceTables.{Table, with_class, with_published, class_opened}
+use Rattle.forward_price.specs.Sheets.{lists_class}
+use Rattle.forward_price.specs.Turns.{expected_of, is_awaited, is_sooner, pricing_pairs, IsRising}
+use Rattle.register_machine.specs.Journal.{Journal, table_by, table_after, first_table, table_of, opening_by, opening_of, opened}
 use Rattle.register_machine.specs.Answer.{event_at, lists_open}
 
-pub opened-class : (journal : Journal) (now : ℕ) (form : ClassForm) → opened (journal ++ event_at now (kind.Class form) ∷ []) ≡ opened journal ++ record { class = form.class; opened = now } ∷ []
-opened-class journal now form = filter_map-append opened_of journal (event_at now (kind.Class form) ∷ [])
+-- the table behind one more event
+pub table-more : (journal : Journal) (event : Event) → table_of (journal ++ event ∷ []) ≡ table_by (table_of journal) event.moment event.kind
+table-more journal event = fold-append table_after first_table journal (event ∷ [])
+
+-- one event more brings its class to the table and to those that are open
+by-kind : (t : Table) (moment : ℕ) (what : EventKind) (more : List Opening) (after : Table) → after.classes ≡ (table_by t moment what).classes ++ more → after.classes ≡ t.classes ++ cons_option (opening_by moment what) more
+by-kind t moment (kind.Class form) more after e = e ∙ append_assoc t.classes (record { class = form.class; calendar = form.calendar; opened = pos moment } ∷ []) more
+by-kind t moment (kind.Order order) more after e = e
+by-kind t moment (kind.Sheet form) more after e = e
+
+one-more : (t : Table) (event : Event) (more : List Opening) (after : Table) → after.classes ≡ (table_after t event).classes ++ more → after.classes ≡ t.classes ++ cons_option (opening_of event) more
+one-more t event more after e = by-kind t event.moment event.kind more after e
+
+-- the classes of the table are those that the journal opened
+classes-from : (t : Table) (journal : Journal) → (fold table_after t journal).classes ≡ t.classes ++ opened journal
+classes-from t [] = sym (append-nil t.classes)
+classes-from t (event ∷ rest) = one-more t event (opened rest) (fold table_after (table_after t event) rest) (classes-from (table_after t event) rest)
+
+pub classes-opened : (journal : Journal) → (table_of journal).classes ≡ opened journal
+classes-opened journal = classes-from first_table journal
+
+pub opened-class : (journal : Journal) (now : ℕ) (form : ClassForm) → opened (journal ++ event_at now (kind.Class form) ∷ []) ≡ opened journal ++ record { class = form.class; calendar = form.calendar; opened = pos now } ∷ []
+opened-class journal now form = filter_map-append opening_of journal (event_at now (kind.Class form) ∷ [])
 
 pub opened-order : (journal : Journal) (now : ℕ) (placed : OrderEvent) → opened (journal ++ event_at now (kind.Order placed) ∷ []) ≡ opened journal
-opened-order journal now placed = filter_map-append opened_of journal (event_at now (kind.Order placed) ∷ []) ∙ append-nil (opened journal)
+opened-order journal now placed = filter_map-append opening_of journal (event_at now (kind.Order placed) ∷ []) ∙ append-nil (opened journal)
 
 pub opened-sheet : (journal : Journal) (now : ℕ) (form : SheetForm) → opened (journal ++ event_at now (kind.Sheet form) ∷ []) ≡ opened journal
-opened-sheet journal now form = filter_map-append opened_of journal (event_at now (kind.Sheet form) ∷ []) ∙ append-nil (opened journal)
+opened-sheet journal now form = filter_map-append opening_of journal (event_at now (kind.Sheet form) ∷ []) ∙ append-nil (opened journal)
 
-abbrev pub next_sheets : List Sheet → Event → List Sheet
-next_sheets published event = with_sheet published event.kind
+-- a table that says what the journal says, with at most one class
+abbrev pub IsTableOf : Table → Journal → Type 0
+IsTableOf table journal = (table ≡ table_of journal) × (length (opened journal) ≤ 1)
 
-pub sheets-class : (journal : Journal) (now : ℕ) (form : ClassForm) → sheets (journal ++ event_at now (kind.Class form) ∷ []) ≡ sheets journal
-sheets-class journal now form = fold-append next_sheets [] journal (event_at now (kind.Class form) ∷ [])
-
-pub sheets-order : (journal : Journal) (now : ℕ) (placed : OrderEvent) → sheets (journal ++ event_at now (kind.Order placed) ∷ []) ≡ sheets journal
-sheets-order journal now placed = fold-append next_sheets [] journal (event_at now (kind.Order placed) ∷ [])
-
-pub sheets-sheet : (journal : Journal) (now : ℕ) (form : SheetForm) → sheets (journal ++ event_at now (kind.Sheet form) ∷ []) ≡ sheets journal ++ published (sheets journal) form.calendar form.moment form.prices ∷ []
-sheets-sheet journal now form = fold-append next_sheets [] journal (event_at now (kind.Sheet form) ∷ [])
-
--- a book that says what the journal says, with at most one class
-abbrev pub IsBookOf : List Opened → List Sheet → Journal → Type 0
-IsBookOf classes published journal =
-    (classes ≡ opened journal) × (published ≡ sheets journal) × (length (opened journal) ≤ 1)
-
-pub kept-class : (classes more : List Opened) (published after : List Sheet) (journal longer : Journal) (now class : ℕ) (form : ClassForm) → IsBookOf classes published journal → length (opened journal) ≡ 0 → class ≡ form.class → more ≡ classes ++ record { class = class; opened = now } ∷ [] → after ≡ published → longer ≡ journal ++ event_at now (kind.Class form) ∷ [] → IsBookOf more after longer
-kept-class classes more published after journal longer now class form kept none named grown same appended =
-    let says : opened longer ≡ opened journal ++ record { class = form.class; opened = now } ∷ [] = ap opened appended ∙ opened-class journal now form in
-    let opening : ℕ → Opened = λ n. record { class = n; opened = now } in (
-      grown ∙ (ap (λ xs. xs ++ opening class ∷ []) kept.0 ∙ (ap (λ n. opened journal ++ opening n ∷ []) named ∙ sym says)),
-      same ∙ (kept.1 ∙ sym (ap sheets appended ∙ sheets-class journal now form)),
-      omega (arith, ap length says, length-append (opened journal) (opening form.class ∷ [])),
+pub kept-class : (table after : Table) (journal longer : Journal) (now class calendar : ℕ) (form : ClassForm) → IsTableOf table journal → length (opened journal) ≡ 0 → class ≡ form.class → calendar ≡ form.calendar → after ≡ with_class table class calendar (pos now) → longer ≡ journal ++ event_at now (kind.Class form) ∷ [] → IsTableOf after longer
+kept-class table after journal longer now class calendar form kept none named of_calendar grown appended =
+    let says = ap opened appended ∙ opened-class journal now form in (
+      grown ∙ (ap (λ t. with_class t class calendar (pos now)) kept.0 ∙ (ap (λ n. with_class (table_of journal) n calendar (pos now)) named ∙ (ap (λ n. with_class (table_of journal) form.class n (pos now)) of_calendar ∙ sym (ap table_of appended ∙ table-more journal (event_at now (kind.Class form)))))),
+      omega (arith, ap length says, length-append (opened journal) (record { class = form.class; calendar = form.calendar; opened = pos now } ∷ [])),
     )
 
-pub kept-order : (classes : List Opened) (published : List Sheet) (journal longer : Journal) (now : ℕ) (placed : OrderEvent) → IsBookOf classes published journal → longer ≡ journal ++ event_at now (kind.Order placed) ∷ [] → IsBookOf classes published longer
-kept-order classes published journal longer now placed kept appended =
-    let says : opened longer ≡ opened journal = ap opened appended ∙ opened-order journal now placed in
-    (kept.0 ∙ sym says, kept.1 ∙ sym (ap sheets appended ∙ sheets-order journal now placed), omega (arith, ap length says, kept.2))
+pub kept-order : (table : Table) (journal longer : Journal) (now : ℕ) (placed : OrderEvent) → IsTableOf table journal → longer ≡ journal ++ event_at now (kind.Order placed) ∷ [] → IsTableOf table longer
+kept-order table journal longer now placed kept appended =
+    (kept.0 ∙ sym (ap table_of appended ∙ table-more journal (event_at now (kind.Order placed))), omega (arith, ap length (ap opened appended ∙ opened-order journal now placed), kept.1))
 
-pub kept-sheet : (classes same : List Opened) (before after : List Sheet) (journal longer : Journal) (now calendar : ℕ) (form : SheetForm) → IsBookOf classes before journal → same ≡ classes → calendar ≡ form.calendar → after ≡ before ++ published before calendar form.moment form.prices ∷ [] → longer ≡ journal ++ event_at now (kind.Sheet form) ∷ [] → IsBookOf same after longer
-kept-sheet classes same before after journal longer now calendar form kept unchanged named grown appended =
-    let says : opened longer ≡ opened journal = ap opened appended ∙ opened-sheet journal now form in
-    let sheet_of : List Sheet → ℕ → Sheet = λ xs n. published xs n form.moment form.prices in (
-      unchanged ∙ (kept.0 ∙ sym says),
-      grown ∙ (ap (λ xs. xs ++ sheet_of xs calendar ∷ []) kept.1 ∙ (ap (λ n. sheets journal ++ sheet_of (sheets journal) n ∷ []) named ∙ sym (ap sheets appended ∙ sheets-sheet journal now form))),
-      omega (arith, ap length says, kept.2),
-    )
+pub kept-sheet : (table after : Table) (journal longer : Journal) (now calendar : ℕ) (form : SheetForm) → IsTableOf table journal → calendar ≡ form.calendar → after ≡ with_published table calendar (pos form.moment) form.prices → longer ≡ journal ++ event_at now (kind.Sheet form) ∷ [] → IsTableOf after longer
+kept-sheet table after journal longer now calendar form kept of_calendar grown appended = (
+  grown ∙ (ap (λ t. with_published t calendar (pos form.moment) form.prices) kept.0 ∙ (ap (λ n. with_published (table_of journal) n (pos form.moment) form.prices) of_calendar ∙ sym (ap table_of appended ∙ table-more journal (event_at now (kind.Sheet form))))),
+  omega (arith, ap length (ap opened appended ∙ opened-sheet journal now form), kept.1),
+)
 
--- without a class no sheet is expected
-none-awaited : (moments : List ℕ) (published : List Sheet) → expected_of moments [] published ≡ None
-none-awaited [] published = refl
-none-awaited (m ∷ moments) published = none-awaited moments published
+-- without a class none is known, and no sheet is expected
+pub none-opened : (classes : List Opening) (class : ℕ) → length classes ≡ 0 → class_opened classes class ≡ None
+none-opened [] class none = refl
+none-opened (x ∷ xs) class none = absurd (omega arith)
 
-none-expected : (moments : List ℕ) (classes : List Opened) (published : List Sheet) (m : ℕ) → expected_of moments classes published ≡ Some m → length classes ≡ 0 → ⊥
-none-expected moments [] published m e none = no_some (sym (none-awaited moments published) ∙ e)
-  where
-    no_some : None ≡ Some m → ⊥
-    no_some h = cc
-none-expected moments (x ∷ xs) published m e none = absurd (omega arith)
+none-best : (published : List Sheet) (pairs : List (ℤ × ℕ)) → fold (considered (is_awaited [] published) is_sooner) None pairs ≡ None
+none-best published [] = refl
+none-best published (pair ∷ pairs) = none-best published pairs
+
+no_some : (pair : ℤ × ℕ) → None ≡ Some pair → ⊥
+no_some pair h = cc
 
 -- where a sheet is expected and there is at most one class, there is one
-pub one-class : (moments : List ℕ) (classes : List Opened) (published : List Sheet) (m : ℕ) → expected_of moments classes published ≡ Some m → length classes ≤ 1 → length classes ≡ 1
-one-class moments [] published m e few = absurd (none-expected moments [] published m e refl)
-one-class moments (x ∷ xs) published m e few = omega arith
+pub one-class : (table : Table) (journal : Journal) (pair : ℤ × ℕ) → IsTableOf table journal → expected_of table ≡ Some pair → length (opened journal) ≡ 1
+one-class table journal pair kept e =
+    by_classes (opened journal) (ap (λ t. t.classes) kept.0 ∙ classes-opened journal) kept.1
+  where
+    by_classes : (classes : List Opening) → table.classes ≡ classes → length classes ≤ 1 → length classes ≡ 1
+    by_classes [] none few = absurd (no_some pair (sym (none-best table.sheets (pricing_pairs table.calendars)) ∙ rw none at e))
+    by_classes (x ∷ xs) some few = omega arith
 
 -- a list of exactly the open classes is as long as they are many
-pub listed-one : (classes : List Opened) (prices : List (ℕ × ℕ)) → length classes ≡ 1 → lists_open classes prices ≡ true → length prices ≡ 1
+pub listed-one : (classes : List Opening) (prices : List (ℕ × ℕ)) → length classes ≡ 1 → lists_open classes prices ≡ true → length prices ≡ 1
 listed-one classes prices one listed =
     elim (or_cases (length classes == 0) (length prices == length classes && list_all (λ class. lists_class prices class.class) classes) listed) [
       | inl none ↦ absurd (omega (arith, eqb-true (length classes) 0 none))
       | inr both ↦ eqb-true (length prices) (length classes) (and_parts (length prices == length classes) _ both).0 ∙ one
     ]
 
-pub mapped-some : (found : Option ℕ) (pair : ℕ × ℕ) → Some pair ≡ option_map (λ m. (m, 1)) found → (m : ℕ) × (found ≡ Some m)
-mapped-some None pair e = absurd (no_pair pair e)
-  where
-    no_pair : (pair : ℕ × ℕ) → Some pair ≡ None → ⊥
-    no_pair pair h = cc
-mapped-some (Some m) pair e = (m, refl)
+-- and a list of one price rises
+pub one-rises : (prices : List (ℕ × ℕ)) → length prices ≡ 1 → IsRising prices
+one-rises prices one = λ i j d lt short. absurd (omega arith)

@@ -1,13 +1,15 @@
 //! The desk: the journal, its price book, and the answer to each request.
-ghost use Rattle.std.specs.Prelude.{◌≡◌, ◌==◌, ◌&&◌, not, nat_lt, nat_le, length, find, filter, [], ◌∷◌, ◌++◌, ◌+◌, ◌≤◌, true, Some, option_map, OnSome, IfOk, OnOk, OnErr, Ok};
+ghost use Rattle.std.specs.Prelude.{◌≡◌, ◌==◌, ◌&&◌, not, nat_lt, nat_le, length, find, filter, [], ◌∷◌, ◌++◌, ◌+◌, ◌≤◌, true, pos, Some, None, option_map, IfNone, IfOk, OnOk, OnErr, Ok};
 ghost use Rattle.std.specs.List.{list_any, list_all, filter_map};
+ghost use Rattle.fund_calendar.specs.PricingDays.{Listing};
 ghost use Rattle.forward_price.specs.Sheets.{lists_class};
+ghost use Rattle.forward_price.specs.Turns.{expected_of, wrong_class};
 ghost use Rattle.agent_events.specs.declared.reply.Reply.TheVariants as reply;
 ghost use Rattle.agent_events.specs.Content.{order_account, order_ref};
 ghost use Rattle.agent_events.specs.declared.event.EventKind.TheVariants as kind;
-ghost use Rattle.register_machine.specs.Journal.{last_moment, opened, orders, sheets};
+ghost use Rattle.register_machine.specs.Journal.{last_moment, first_calendar, table_of, opening_of, opened, orders, sheets};
 ghost use Rattle.register_machine.specs.Replay.{replay, positions_of};
-ghost use Rattle.register_machine.specs.Answer.{kept, event_at, repeats_class, is_no_load, is_built_class, class_answer, has_reference, first_order, orders_of, is_open_class, is_built_order, order_reply, due_now, new_order_answer, buy_answer, is_same_sheet, lists_open, is_built_sheet, expected_now, turn_answer, sheet_answer, show_answer, answer};
+ghost use Rattle.register_machine.specs.Answer.{kept, event_at, repeats_class, is_no_load, has_calendar, is_built_class, class_answer, has_reference, first_order, orders_of, is_open_class, is_built_order, order_reply, told, due_now, new_order_answer, buy_answer, is_same_sheet, lists_open, is_built_sheet, fault_now, turn_answer, sheet_answer, show_answer, answer};
 
 use crate::content::{same_class, same_order, same_prices};
 use crate::copies::{copy_class, copy_sheet};
@@ -17,13 +19,17 @@ use agent_events::{
     Reference, Refusal, Reply, Request, SheetForm, Shown, Source,
 };
 use class_terms::Bracket;
-use forward_price::{CALENDAR, Opened, PriceBook, Sheet};
+use forward_price::{Opening, PriceBook, PublishFault, Sheet};
+use fund_calendar::{Calendar, Day};
 use money_units::{Moment, Nav, NoMemory};
 use std::alloc::Global;
 use std::marker::Model;
 
 /// The most orders of one account.
 const MAX_ORDERS: usize = 4096;
+
+/// The most sheets of a price book.
+const MAX_SHEETS: usize = 4_294_967_294;
 
 /// The register and order desk. Contracts see it as its journal, from which all that it answers follows.
 #[derive(Drop)]
@@ -35,13 +41,13 @@ pub struct Desk {
 
 impl Model for Desk {
     ghost use Rattle.std.specs.Prelude.{◌≡◌, ◌≤◌, length};
-    ghost use Rattle.register_machine.specs.Journal.{Journal, opened, sheets};
+    ghost use Rattle.register_machine.specs.Journal.{Journal, table_of, opened};
 
     ghost Value = { Journal };
 
     ghost view = { λ desk. desk.events.items };
 
-    ghost invariant = { λ desk. (desk.prices.opened ≡ opened desk.events.items) × (desk.prices.sheets ≡ sheets desk.events.items) × (length (opened desk.events.items) ≤ 1) };
+    ghost invariant = { λ desk. (desk.prices.table ≡ table_of desk.events.items) × (length (opened desk.events.items) ≤ 1) };
 }
 
 // ---- what the journal says
@@ -83,8 +89,7 @@ fn is_no_load(front: &[Bracket]) -> bool
 fn is_built_class(form: &ClassForm) -> bool
     ensures { result ≡ is_built_class form.now }
 {
-    form.calendar.number() == CALENDAR
-        && form.family == 0
+    form.family == 0
         && form.first_min.cents() == 1
         && form.later_min.cents() == 1
         && is_no_load(form.front.as_slice())
@@ -132,17 +137,29 @@ fn orders_of(events: &[Event], account: u32) -> usize
         .count()
 }
 
-fn is_open_class(classes: &[Opened], class: u32) -> bool
-    ensures { result ≡ is_open_class classes.now class }
+fn is_open_class(events: &[Event], class: u32) -> bool
+    ensures { result ≡ is_open_class (opened events.now) class }
 {
-    classes.iter().any(|known| known.class == class)
+    events
+        .iter()
+        .filter_map(|event| register::opening_of(event))
+        .any(|known| known.class == class)
+}
+
+fn classes_of(events: &[Event]) -> usize
+    ensures { result ≡ length (opened events.now) }
+{
+    events
+        .iter()
+        .filter_map(|event| register::opening_of(event))
+        .count()
 }
 
 fn is_same_sheet(form: &SheetForm, sheet: &Sheet) -> bool
     ensures { result ≡ is_same_sheet form.now sheet.now }
 {
     sheet.calendar == form.calendar.number()
-        && sheet.moment.number() == form.moment.number()
+        && sheet.moment == form.moment.seconds()
         && same_prices(sheet.prices.as_slice(), form.prices.as_slice())
 }
 
@@ -152,16 +169,20 @@ fn lists_class(prices: &[(u32, Nav)], class: u32) -> bool
     prices.iter().any(|price| price.0 == class)
 }
 
-fn lists_all_open(classes: &[Opened], prices: &[(u32, Nav)]) -> bool
-    ensures { result ≡ list_all (λ class. lists_class prices.now class.class) classes.now }
+fn lists_all_open(events: &[Event], prices: &[(u32, Nav)]) -> bool
+    ensures { result ≡ list_all (λ class. lists_class prices.now class.class) (opened events.now) }
 {
-    classes.iter().all(|class| lists_class(prices, class.class))
+    events
+        .iter()
+        .filter_map(|event| register::opening_of(event))
+        .all(|class| lists_class(prices, class.class))
 }
 
-fn lists_open(classes: &[Opened], prices: &[(u32, Nav)]) -> bool
-    ensures { result ≡ lists_open classes.now prices.now }
+fn lists_open(events: &[Event], prices: &[(u32, Nav)]) -> bool
+    ensures { result ≡ lists_open (opened events.now) prices.now }
 {
-    classes.is_empty() || (prices.len() == classes.len() && lists_all_open(classes, prices))
+    let classes = classes_of(events);
+    classes == 0 || (prices.len() == classes && lists_all_open(events, prices))
 }
 
 fn find_sheet(sheets: &[Sheet], form: &SheetForm) -> Option<u32>
@@ -192,6 +213,29 @@ fn refused(refusal: Refusal) -> Result<Reply, NoMemory>
     Ok(Reply::Refused(refusal))
 }
 
+// A moment of the price book as it is told.
+fn told(moment: i64) -> Moment
+    ensures { result ≡ told moment }
+{
+    match Moment::from_seconds(moment.unsigned_abs()) {
+        Some(moment) => moment,
+        None => Moment::start(),
+    }
+}
+
+// The calendar until calendars are entered as requests: the weekdays from 2024-01-01 to 2026-12-31 at 20:00 UTC.
+fn first_calendar(alloc: Global) -> Result<Calendar, NoMemory>
+    ensures { IfOk result (λ calendar. calendar ≡ first_calendar) }
+{
+    let (Some(first), Some(last)) = (Day::from_number(19_723), Day::from_number(20_818)) else {
+        return Err(NoMemory);
+    };
+    match Calendar::new(alloc, 1, "UTC0", 1_200, first, last, &[]) {
+        Ok(calendar) => Ok(calendar),
+        Err(_) => Err(NoMemory),
+    }
+}
+
 // The positions of an account, by its classes in the order in which they were opened.
 fn positions(
     alloc: Global,
@@ -199,7 +243,7 @@ fn positions(
     prices: &PriceBook,
     account: &Identifier,
 ) -> Result<Positions, NoMemory>
-    requires { prices.now.sheets ≡ sheets events.now }
+    requires { prices.now.table.sheets ≡ sheets events.now }
     ensures { IfOk result (λ positions. positions ≡ positions_of events.now account.now) }
 {
     let register = register::replay(alloc, events, prices)?;
@@ -217,10 +261,14 @@ impl Desk {
     pub fn new(alloc: Global) -> Result<Desk, NoMemory>
         ensures { IfOk result (λ desk. desk ≡ []) }
     {
+        let calendar = first_calendar(alloc)?;
+        let mut prices = PriceBook::new(alloc)?;
+        prices.reserve(1)?;
+        prices.add_calendar(calendar);
         Ok(Desk {
             alloc,
             events: Vec::new(alloc),
-            prices: PriceBook::new(alloc)?,
+            prices,
         })
     }
 
@@ -236,15 +284,17 @@ impl Desk {
 
     // Appends a class to the journal, opened now.
     fn open_class(&mut self, now: &Moment, form: &ClassForm) -> Result<(), NoMemory>
-        requires { length (opened self.old) ≡ 0 }
+        requires none { length (opened self.old) ≡ 0 }
+        requires calendar { has_calendar self.old form.now.calendar ≡ true }
         ensures ok { OnOk result (self.new ≡ self.old ++ event_at now.now (kind.Class form.now) ∷ []) }
         ensures err { OnErr result (self.new ≡ self.old) }
     {
         let form = copy_class(self.alloc, form)?;
         let class = form.class.number();
+        let calendar = form.calendar.number();
         self.events.reserve(1)?;
         self.prices.reserve(1)?;
-        self.prices.add_class(class, CALENDAR, *now);
+        self.prices.add_class(class, calendar, now.seconds());
         self.events.push_reserved(Event {
             moment: *now,
             kind: EventKind::Class(form),
@@ -254,19 +304,23 @@ impl Desk {
 
     // Appends the expected sheet to the journal, published now.
     fn publish(&mut self, now: &Moment, form: &SheetForm) -> Result<u32, NoMemory>
-        requires expected { expected_now self.old ≡ Some form.now.moment }
-        requires calendar { form.now.calendar ≡ 1 }
+        requires expected { expected_of (table_of self.old) ≡ Some (pos form.now.moment, form.now.calendar) }
+        requires complete { wrong_class (table_of self.old).classes form.now.calendar (pos form.now.moment) form.now.prices ≡ None }
         requires listed { length form.now.prices ≡ 1 }
         ensures ok { OnOk result (self.new ≡ self.old ++ event_at now.now (kind.Sheet form.now) ∷ []) }
         ensures number { IfOk result (λ number. number ≡ length (sheets self.old) + 1) }
         ensures err { OnErr result (self.new ≡ self.old) }
     {
         let form = copy_sheet(self.alloc, form)?;
+        let calendar = form.calendar.number();
         self.events.reserve(1)?;
-        self.prices.reserve(form.prices.as_slice().len() as u32)?;
+        self.prices.reserve(1)?;
+        if self.prices.sheets().len() > MAX_SHEETS {
+            return Err(NoMemory);
+        }
         let number = self
             .prices
-            .publish(CALENDAR, form.moment, form.prices.as_slice());
+            .publish(calendar, form.moment.seconds(), form.prices.as_slice());
         self.events.push_reserved(Event {
             moment: *now,
             kind: EventKind::Sheet(form),
@@ -298,7 +352,7 @@ impl Desk {
     fn has_no_class(&self) -> bool
         ensures { result ≡ (length (opened self.now) == 0) }
     {
-        self.prices.opened().is_empty()
+        classes_of(&self.events) == 0
     }
 
     fn first_order(&self, order: &Order) -> Option<OrderEvent>
@@ -311,14 +365,23 @@ impl Desk {
         ensures { result ≡ due_now self.now now.now buy.now }
     {
         let class = buy.class.number();
-        self.prices.due(&[class], now)
+        match self.prices.due(&[class], now.seconds()) {
+            Some(moment) => Some(told(moment)),
+            None => None,
+        }
+    }
+
+    fn has_calendar(&self, number: &Identifier) -> bool
+        ensures { result ≡ has_calendar self.now number.now }
+    {
+        self.prices.calendar(number.number()).is_some()
     }
 
     fn may_place(&self, is_operator: bool, buy: &Buy) -> bool
         ensures { result ≡ is_built_order self.now is_operator buy.now }
     {
         is_operator
-            && is_open_class(self.prices.opened(), buy.class.number())
+            && is_open_class(&self.events, buy.class.number())
             && orders_of(&self.events, buy.account.number()) < MAX_ORDERS
     }
 
@@ -332,18 +395,27 @@ impl Desk {
         ensures { result ≡ is_built_sheet self.now now.now is_operator form.now }
     {
         is_operator
-            && form.calendar.number() == CALENDAR
+            && self.has_calendar(&form.calendar)
             && form.moment.number() <= now.number()
-            && lists_open(self.prices.opened(), form.prices.as_slice())
+            && lists_open(&self.events, form.prices.as_slice())
     }
 
-    fn expected(&self) -> Option<Moment>
-        ensures value { result ≡ expected_now self.now }
-        ensures one_class { OnSome result (length (opened self.now) ≡ 1) }
+    // Why the sheet can't be published now, where it can't.
+    fn fault(&self, now: &Moment, form: &SheetForm) -> Option<PublishFault>
+        ensures value { result ≡ fault_now self.now now.now form.now }
+        ensures in_turn { IfNone result (expected_of (table_of self.now) ≡ Some (pos form.now.moment, form.now.calendar)) }
+        ensures complete { IfNone result (wrong_class (table_of self.now).classes form.now.calendar (pos form.now.moment) form.now.prices ≡ None) }
+        ensures one_class { IfNone result (length (opened self.now) ≡ 1) }
     {
-        match self.prices.expected() {
-            Some((moment, _)) => Some(moment),
-            None => None,
+        let calendar = form.calendar.number();
+        match self.prices.test(
+            calendar,
+            form.moment.seconds(),
+            form.prices.as_slice(),
+            now.seconds(),
+        ) {
+            Ok(()) => None,
+            Err(fault) => Some(fault),
         }
     }
 }
@@ -362,7 +434,11 @@ impl Desk {
         if self.knows_class(form) {
             return Ok(Reply::Class(form.class));
         }
-        if is_operator && is_built_class(form) && self.has_no_class() {
+        if is_operator
+            && self.has_calendar(&form.calendar)
+            && is_built_class(form)
+            && self.has_no_class()
+        {
             self.open_class(now, form)?;
             return Ok(Reply::Class(form.class));
         }
@@ -418,19 +494,21 @@ impl Desk {
 
     // A sheet that may be published once it is the expected one.
     fn answer_turn(&mut self, now: &Moment, form: &SheetForm) -> Result<Reply, NoMemory>
-        requires calendar { form.now.calendar ≡ 1 }
         requires listed { lists_open (opened self.old) form.now.prices ≡ true }
-        ensures answered { IfOk result (λ said. kept self.new said ≡ turn_answer self.old now.now form.now (expected_now self.old)) }
+        ensures answered { IfOk result (λ said. kept self.new said ≡ turn_answer self.old now.now form.now (fault_now self.old now.now form.now)) }
         ensures err { OnErr result (self.new ≡ self.old) }
     {
-        let Some(expected) = self.expected() else {
-            return refused(Refusal::SheetOutOfTurn(Moment::start(), 0));
-        };
-        if expected.number() != form.moment.number() {
-            return refused(Refusal::SheetOutOfTurn(expected, CALENDAR));
+        match self.fault(now, form) {
+            None => {
+                let number = self.publish(now, form)?;
+                Ok(Reply::Sheet(number))
+            }
+            Some(PublishFault::SheetOutOfTurn(moment, calendar)) => {
+                refused(Refusal::SheetOutOfTurn(told(moment), calendar))
+            }
+            Some(PublishFault::SheetIncomplete(_)) => refused(Refusal::Unbuilt),
+            Some(PublishFault::TooSoon(_)) => refused(Refusal::Unbuilt),
         }
-        let number = self.publish(now, form)?;
-        Ok(Reply::Sheet(number))
     }
 
     fn answer_sheet(

@@ -1,15 +1,15 @@
 //! The register as the replay of the orders over all sheets.
-ghost use Rattle.std.specs.Prelude.{◌≡◌, ℕ, ◌+◌, ◌*◌, ◌^◌, ◌<◌, ◌≤◌, ◌∷◌, [], length, map, fold, filter, option_and_then, IfOk, OnOk};
+ghost use Rattle.std.specs.Prelude.{◌≡◌, ℕ, ℤ, ◌+◌, ◌*◌, ◌^◌, ◌<◌, ◌≤◌, ◌∷◌, [], pos, length, map, fold, filter, option_and_then, IfOk, OnOk};
 ghost use Rattle.std.specs.List.{list_any, filter_map};
 ghost use Rattle.agent_events.specs.Content.{order_classes};
 ghost use Rattle.forward_price.specs.Sheets.{nav_on};
-ghost use Rattle.register_machine.specs.Journal.{order_of, opened_of, orders};
+ghost use Rattle.register_machine.specs.Journal.{order_of, opening_of, orders};
 ghost use Rattle.register_machine.specs.Replay.{Lot as lot, Priced as priced, priced_by, is_on, is_of, mils_in, cost_in, mils_of, cost_of, keeps_ceiling, with_lot, bought_at, execute, day, position_of};
 ghost use Rattle.register_desk.specs.Within.{IsWithin};
 
 use agent_events::{Buy, Event, EventKind, Identifier, Order, OrderEvent, PositionText};
-use forward_price::{PriceBook, Sheet};
-use money_units::{Bps, Cents, Mils, NoMemory};
+use forward_price::{Opening, PriceBook, Sheet};
+use money_units::{Bps, Cents, Mils, Nav, NoMemory};
 use offering_price::buy_split;
 use std::alloc::Global;
 use std::marker::Model;
@@ -62,6 +62,21 @@ pub fn order_of(event: &Event) -> Option<OrderEvent>
     }
 }
 
+/// The class that an event opened, if it opened one.
+pub fn opening_of(event: &Event) -> Option<Opening>
+    ensures { result ≡ opening_of event.now }
+{
+    match &event.kind {
+        EventKind::Class(form) => Some(Opening {
+            class: form.class.number(),
+            calendar: form.calendar.number(),
+            opened: event.moment.seconds(),
+        }),
+        EventKind::Order(_) => None,
+        EventKind::Sheet(_) => None,
+    }
+}
+
 fn class_of(order: &Order) -> u32
     ensures { order_classes order.now ≡ result ∷ [] }
 {
@@ -71,10 +86,10 @@ fn class_of(order: &Order) -> u32
 }
 
 fn price(prices: &PriceBook, order: OrderEvent) -> Priced
-    ensures { result ≡ priced_by prices.now.sheets order }
+    ensures { result ≡ priced_by prices.now.table.sheets order }
 {
     let class = class_of(&order.order);
-    let sheet = prices.first_after(&order.receipt, &[class]);
+    let sheet = prices.first_after(order.receipt.seconds(), &[class]);
     Priced { order, sheet }
 }
 
@@ -152,12 +167,22 @@ fn with_lot(register: &mut Vec<Lot>, lot: Lot) -> Result<(), NoMemory>
     Ok(())
 }
 
+// The net asset value of a class on a list.
+fn nav_on(prices: &[(u32, Nav)], class: u32) -> Option<Nav>
+    ensures { result ≡ nav_on prices.now class }
+{
+    prices
+        .iter()
+        .find(|price| price.0 == class)
+        .map(|price| price.1)
+}
+
 fn buy(register: &mut Vec<Lot>, sheet: &Sheet, buy: &Buy) -> Result<(), NoMemory>
     ensures ok { OnOk result (register.new.items ≡ bought_at register.old.items buy.now (nav_on sheet.now.prices buy.now.class)) }
     ensures within { IsWithin register.old.items → OnOk result (IsWithin register.new.items) }
 {
     let gross = Cents(buy.gross.cents());
-    let Some(nav) = sheet.nav(buy.class.number()) else {
+    let Some(nav) = nav_on(sheet.prices.as_slice(), buy.class.number()) else {
         return Ok(());
     };
     let Some(split) = buy_split(gross, nav, Bps(0)) else {
@@ -198,7 +223,7 @@ fn priced_orders(
     events: &[Event],
     prices: &PriceBook,
 ) -> Result<Vec<Priced>, NoMemory>
-    ensures { IfOk result (λ priced. priced.items ≡ map (priced_by prices.now.sheets) (orders events.now)) }
+    ensures { IfOk result (λ priced. priced.items ≡ map (priced_by prices.now.table.sheets) (orders events.now)) }
 {
     let mut priced = Vec::new(alloc);
     for event in events {
@@ -211,7 +236,7 @@ fn priced_orders(
 
 /// The register after all sheets of the book.
 pub fn replay(alloc: Global, events: &[Event], prices: &PriceBook) -> Result<Vec<Lot>, NoMemory>
-    ensures value { IfOk result (λ register. register.items ≡ fold (day (map (priced_by prices.now.sheets) (orders events.now))) [] prices.now.sheets) }
+    ensures value { IfOk result (λ register. register.items ≡ fold (day (map (priced_by prices.now.table.sheets) (orders events.now))) [] prices.now.table.sheets) }
     ensures within { IfOk result (λ register. IsWithin register.items) }
 {
     let priced = priced_orders(alloc, events, prices)?;
@@ -231,7 +256,7 @@ fn has_lots(register: &[Lot], account: u32, class: u32) -> bool
 // The position of an account in a class, where it has lots.
 fn position_of(register: &[Lot], account: &Identifier, class: &Identifier) -> Option<PositionText>
     requires { IsWithin register.now }
-    ensures { (opened : ℕ) → result ≡ position_of register.now account.now (record { class = class.now; opened = opened }) }
+    ensures { (calendar : ℕ) (opened : ℤ) → result ≡ position_of register.now account.now (record { class = class.now; calendar = calendar; opened = opened }) }
 {
     if !has_lots(register, account.number(), class.number()) {
         return None;
@@ -249,7 +274,7 @@ fn position_of(register: &[Lot], account: &Identifier, class: &Identifier) -> Op
 /// The position of an account in the class that an event opened, if it opened one and the account has lots there.
 pub fn position_in(register: &[Lot], account: &Identifier, event: &Event) -> Option<PositionText>
     requires { IsWithin register.now }
-    ensures { result ≡ option_and_then (position_of register.now account.now) (opened_of event.now) }
+    ensures { result ≡ option_and_then (position_of register.now account.now) (opening_of event.now) }
 {
     match &event.kind {
         EventKind::Class(form) => position_of(register, account, &form.class),

@@ -1,5 +1,5 @@
 -- The laws of the machine.
-use Rattle.std.proofs.Common.{◌≡◌, ℕ, ◌+◌, ◌≤◌, Bool, true, false, cond, not, ◌==◌, ◌&&◌, nat_lt, bytes_eq, List, [], ◌∷◌, ◌++◌, length, filter, find, fold, All, Option, Some, None, IfSome, option_map, refl, sym, ◌∙◌, ap, subst, append-nil, length-append, arith}
+use Rattle.std.proofs.Common.{◌≡◌, ℕ, ◌+◌, ◌≤◌, Bool, true, false, cond, not, ◌==◌, ◌&&◌, nat_lt, bytes_eq, List, [], ◌∷◌, ◌++◌, length, filter, find, fold, All, pos, Option, Some, None, IfSome, option_map, refl, sym, ◌∙◌, ap, subst, append-nil, length-append, arith}
 use Rattle.std.specs.List.{cons_option, list_any}
 use Rattle.std.proofs.lemmas.List.Elements.{filter-append, filter_map-append, All-map, All-nil, All-cons}
 use Rattle.std.proofs.lemmas.Bool.{eqb-true, and_parts, true≢false}
@@ -19,12 +19,14 @@ use Rattle.agent_events.specs.declared.request.Order.TheVariants as order
 use Rattle.agent_events.specs.declared.request.Request.{Request}
 use Rattle.agent_events.specs.declared.request.Request.TheVariants as request
 use Rattle.agent_events.specs.Content.{same_order, order_account, order_ref, order_classes}
-use Rattle.forward_price.specs.declared.sheet.Sheet.{Sheet}
-use Rattle.forward_price.specs.Sheets.{next_sheet, IsPricedBy}
-use Rattle.forward_price.proofs.NextPriceFacts.{next_sheet-next}
+use Rattle.forward_price.specs.declared.price_sheet.PublishFault.{PublishFault}
+use Rattle.forward_price.specs.declared.price_sheet.PublishFault.TheVariants as fault
+use Rattle.forward_price.specs.declared.price_sheet.Sheet.{Sheet}
+use Rattle.forward_price.specs.PriceTables.{next_sheet, IsPricedBy}
+use Rattle.forward_price.proofs.PricingFacts.{next_sheet-next}
 use Rattle.register_machine.specs.Journal.{Journal, last_moment, opened, order_of, orders, sheets}
 use Rattle.register_machine.specs.Replay.{positions_of, priced_by, priced_orders}
-use Rattle.register_machine.specs.Answer.{Answer, kept, refused, repeats_class, is_built_class, is_same_sheet, is_built_sheet, expected_now, event_at, appended, has_reference, first_order, order_reply, placed_now, is_built_order, due_now, new_order_answer, buy_after, buy_answer, class_answer, turn_answer, sheet_after, show_answer, answer, ask_answer, item_answer}
+use Rattle.register_machine.specs.Answer.{Answer, kept, refused, repeats_class, is_built_class, has_calendar, is_same_sheet, is_built_sheet, fault_now, event_at, appended, has_reference, first_order, order_reply, placed_now, is_built_order, due_now, new_order_answer, buy_after, buy_answer, class_answer, turn_answer, sheet_after, show_answer, answer, ask_answer, item_answer}
 use Rattle.register_machine.specs.PathScript.{Run, step, start, run_of}
 use Rattle.register_machine.specs.Laws.{RepeatsItsFirst, IsOnce, IsForwardPriced}
 
@@ -33,11 +35,11 @@ repeats journal buy first known same now is_operator =
     rw known (rw same refl)
 
 -- an order with its sheet has the next price
-forward : (published : List Sheet) (placed : OrderEvent) → IfSome (priced_by published placed).sheet (IsPricedBy published (order_classes placed.order) placed.receipt)
+forward : (published : List Sheet) (placed : OrderEvent) → IfSome (priced_by published placed).sheet (IsPricedBy published (order_classes placed.order) (pos placed.receipt))
 forward published placed =
-    elim (next_sheet published (order_classes placed.order) placed.receipt) as (λ found. next_sheet published (order_classes placed.order) placed.receipt ≡ found → IfSome (option_map (λ sheet. sheet.number) found) (IsPricedBy published (order_classes placed.order) placed.receipt)) [
+    elim (next_sheet published (order_classes placed.order) (pos placed.receipt)) as (λ found. next_sheet published (order_classes placed.order) (pos placed.receipt) ≡ found → IfSome (option_map (λ sheet. sheet.number) found) (IsPricedBy published (order_classes placed.order) (pos placed.receipt))) [
       | None ↦ λ _. tt
-      | Some sheet ↦ λ e. (sheet, refl, next_sheet-next published (order_classes placed.order) placed.receipt sheet e)
+      | Some sheet ↦ λ e. (sheet, refl, next_sheet-next published (order_classes placed.order) (pos placed.receipt) sheet e)
     ] refl
 
 pub forward_priced : (journal : Journal) → All (IsForwardPriced journal) (priced_orders journal)
@@ -100,9 +102,9 @@ once-class : (journal : Journal) (now : ℕ) (is_operator : Bool) (form : ClassF
 once-class journal now is_operator form once =
     let opened_now = once-same journal (event_at now (kind.Class form)) refl once in
     choose (list_any (λ event. repeats_class form event.kind) journal) (kept journal (reply.Class form.class))
-    (cond (is_operator && (is_built_class form && length (opened journal) == 0)) (appended journal now (kind.Class form) (reply.Class form.class)) (refused journal refusal.Unbuilt))
+    (cond (is_operator && (has_calendar journal form.calendar && (is_built_class form && length (opened journal) == 0))) (appended journal now (kind.Class form) (reply.Class form.class)) (refused journal refusal.Unbuilt))
     once
-    (choose (is_operator && (is_built_class form && length (opened journal) == 0)) (appended journal now (kind.Class form) (reply.Class form.class)) (refused journal refusal.Unbuilt) opened_now once)
+    (choose (is_operator && (has_calendar journal form.calendar && (is_built_class form && length (opened journal) == 0))) (appended journal now (kind.Class form) (reply.Class form.class)) (refused journal refusal.Unbuilt) opened_now once)
 
 once-new : (journal : Journal) (now : ℕ) (is_operator : Bool) (buy : Buy) (due : Option ℕ) (is_known : Bool) → (is_known ≡ false → first_order journal (order.Buy buy) ≡ None) → IsOnce journal → IsOnce (new_order_answer journal now is_operator buy due is_known).journal
 once-new journal now is_operator buy None is_known unknown once = once
@@ -124,18 +126,17 @@ once-buy journal now is_operator buy once =
           once (once-new journal now is_operator buy (due_now journal now buy) true (λ no. absurd (true≢false no)) once)
     ] refl
 
-once-turn : (journal : Journal) (now : ℕ) (form : SheetForm) (expected : Option ℕ) → IsOnce journal → IsOnce (turn_answer journal now form expected).journal
-once-turn journal now form None once = once
-once-turn journal now form (Some expected) once =
-    choose (expected == form.moment) (appended journal now (kind.Sheet form) (reply.Sheet (length (sheets journal) + 1)))
-    (refused journal (refusal.SheetOutOfTurn expected 1))
-    (once-same journal (event_at now (kind.Sheet form)) refl once) once
+once-turn : (journal : Journal) (now : ℕ) (form : SheetForm) (found : Option PublishFault) → IsOnce journal → IsOnce (turn_answer journal now form found).journal
+once-turn journal now form None once = once-same journal (event_at now (kind.Sheet form)) refl once
+once-turn journal now form (Some (fault.SheetOutOfTurn moment calendar)) once = once
+once-turn journal now form (Some (fault.SheetIncomplete class)) once = once
+once-turn journal now form (Some (fault.TooSoon moment)) once = once
 
 once-sheet : (journal : Journal) (now : ℕ) (is_operator : Bool) (form : SheetForm) (found : Option Sheet) → IsOnce journal → IsOnce (sheet_after journal now is_operator form found).journal
 once-sheet journal now is_operator form (Some sheet) once = once
 once-sheet journal now is_operator form None once =
-    choose (is_built_sheet journal now is_operator form) (turn_answer journal now form (expected_now journal)) (refused journal refusal.Unbuilt)
-    (once-turn journal now form (expected_now journal) once) once
+    choose (is_built_sheet journal now is_operator form) (turn_answer journal now form (fault_now journal now form)) (refused journal refusal.Unbuilt)
+    (once-turn journal now form (fault_now journal now form) once) once
 
 once-show : (journal : Journal) (is_operator : Bool) (account : ℕ) → IsOnce journal → IsOnce (show_answer journal is_operator account).journal
 once-show journal is_operator account once =

@@ -1,6 +1,6 @@
 -- The register machine: what it answers to a request at a moment, and the journal after it. The rules are tried in turn,
 -- and the first that is broken is the refusal. A refused request and a repeat leave the journal as it is.
-use Rattle.std.specs.Prelude.{ℕ, ◌+◌, Bool, true, false, not, ◌&&◌, ◌||◌, nat_lt, nat_le, ◌==◌, if◌then◌else◌, List, [], ◌∷◌, ◌++◌, length, filter, find, Option, Some, None, bytes_eq}
+use Rattle.std.specs.Prelude.{ℕ, ◌+◌, Bool, true, false, not, ◌&&◌, ◌||◌, nat_lt, nat_le, ◌==◌, if◌then◌else◌, List, [], ◌∷◌, ◌++◌, length, filter, find, pos, nat_abs, ℤ, Option, Some, None, is_some, option_map, bytes_eq}
 use Rattle.std.specs.List.{list_any, list_all}
 use Rattle.class_terms.specs.declared.lists.Bracket.{Bracket}
 use Rattle.agent_events.specs.declared.event.Event.{Event}
@@ -24,11 +24,15 @@ use Rattle.agent_events.specs.declared.request.Order.TheVariants as order
 use Rattle.agent_events.specs.declared.request.Request.{Request}
 use Rattle.agent_events.specs.declared.request.Request.TheVariants as request
 use Rattle.agent_events.specs.Content.{same_class, same_order, same_prices, order_account, order_ref}
-use Rattle.forward_price.specs.declared.sheet.Opened.{Opened}
-use Rattle.forward_price.specs.declared.sheet.Sheet.{Sheet}
-use Rattle.forward_price.specs.Moments.{pricing_moments}
-use Rattle.forward_price.specs.Sheets.{lists_class, due_of, expected_of}
-use Rattle.register_machine.specs.Journal.{Journal, last_moment, opened, orders, sheets}
+use Rattle.std.specs.Ordering.{int_eq}
+use Rattle.forward_price.specs.declared.price_sheet.Opening.{Opening}
+use Rattle.forward_price.specs.declared.price_sheet.PublishFault.{PublishFault}
+use Rattle.forward_price.specs.declared.price_sheet.PublishFault.TheVariants as fault
+use Rattle.forward_price.specs.declared.price_sheet.Sheet.{Sheet}
+use Rattle.forward_price.specs.PriceTables.{calendar_numbered}
+use Rattle.forward_price.specs.Sheets.{lists_class}
+use Rattle.forward_price.specs.Turns.{due_of, publish_fault}
+use Rattle.register_machine.specs.Journal.{Journal, last_moment, table_of, opened, orders, sheets}
 use Rattle.register_machine.specs.Replay.{positions_of}
 
 -- a reply, and the journal after it
@@ -59,16 +63,20 @@ repeats_class form (kind.Sheet sheet) = false
 abbrev pub is_no_load : List Bracket → Bool
 is_no_load front = length front == 1 && list_any (λ row. row.floor == 0 && row.rate == 0) front
 
--- the first class of calendar 1, without family, loads and minimums
+-- the calendar is known
+abbrev pub has_calendar : Journal → ℕ → Bool
+has_calendar journal number = is_some (calendar_numbered (table_of journal).calendars number)
+
+-- the terms of a class without family, loads and minimums
 abbrev pub is_built_class : ClassForm → Bool
 is_built_class form =
-    form.calendar == 1 && (form.family == 0 && (form.first_min == 1 && (form.later_min == 1
+    (form.family == 0 && (form.first_min == 1 && (form.later_min == 1
     && (is_no_load form.front && length form.deferred == 0))))
 
 abbrev pub class_answer : Journal → ℕ → Bool → ClassForm → Answer
 class_answer journal now is_operator form =
     if list_any (λ event. repeats_class form event.kind) journal then kept journal (reply.Class form.class)
-    else if is_operator && (is_built_class form && length (opened journal) == 0)
+    else if is_operator && (has_calendar journal form.calendar && (is_built_class form && length (opened journal) == 0))
     then appended journal now (kind.Class form) (reply.Class form.class)
     else refused journal refusal.Unbuilt
 
@@ -84,7 +92,7 @@ first_order journal placed = find (has_reference (order_account placed) (order_r
 abbrev pub orders_of : Journal → ℕ → ℕ
 orders_of journal account = length (filter (λ placed. order_account placed.order == account) (orders journal))
 
-abbrev pub is_open_class : List Opened → ℕ → Bool
+abbrev pub is_open_class : List Opening → ℕ → Bool
 is_open_class classes class = list_any (λ known. known.class == class) classes
 
 -- the order as an event: received now
@@ -111,8 +119,12 @@ new_order_answer journal now is_operator buy (Some due) is_known =
     else if is_known then refused journal refusal.RefUsed
     else appended journal now (kind.Order (placed_now (order.Buy buy) now due)) (order_reply (placed_now (order.Buy buy) now due))
 
+-- a moment of the price table as it is told; all of them lie in the range of moments
+abbrev pub told : ℤ → ℕ
+told moment = if nat_le (nat_abs moment) 7258118399 then nat_abs moment else 0
+
 abbrev pub due_now : Journal → ℕ → Buy → Option ℕ
-due_now journal now buy = due_of pricing_moments (opened journal) (buy.class ∷ []) now
+due_now journal now buy = option_map told (due_of (table_of journal) (buy.class ∷ []) (pos now))
 
 abbrev pub buy_after : Journal → ℕ → Bool → Buy → Option OrderEvent → Answer
 buy_after journal now is_operator buy None = new_order_answer journal now is_operator buy (due_now journal now buy) false
@@ -126,32 +138,32 @@ buy_answer journal now is_operator buy = buy_after journal now is_operator buy (
 -- ---- sheets
 
 abbrev pub is_same_sheet : SheetForm → Sheet → Bool
-is_same_sheet form sheet = sheet.calendar == form.calendar && (sheet.moment == form.moment && same_prices sheet.prices form.prices)
+is_same_sheet form sheet = sheet.calendar == form.calendar && (int_eq sheet.moment (pos form.moment) && same_prices sheet.prices form.prices)
 
 -- without a class any list, and else exactly the open classes
-abbrev pub lists_open : List Opened → List (ℕ × ℕ) → Bool
+abbrev pub lists_open : List Opening → List (ℕ × ℕ) → Bool
 lists_open classes prices =
     length classes == 0
     || (length prices == length classes && list_all (λ class. lists_class prices class.class) classes)
 
 abbrev pub is_built_sheet : Journal → ℕ → Bool → SheetForm → Bool
 is_built_sheet journal now is_operator form =
-    is_operator && (form.calendar == 1 && (nat_le form.moment now && lists_open (opened journal) form.prices))
+    is_operator && (has_calendar journal form.calendar && (nat_le form.moment now && lists_open (opened journal) form.prices))
 
-abbrev pub expected_now : Journal → Option ℕ
-expected_now journal = expected_of pricing_moments (opened journal) (sheets journal)
+abbrev pub fault_now : Journal → ℕ → SheetForm → Option PublishFault
+fault_now journal now form = publish_fault (table_of journal) form.calendar (pos form.moment) form.prices (pos now)
 
--- the sheet is out of turn unless it is the expected one
-abbrev pub turn_answer : Journal → ℕ → SheetForm → Option ℕ → Answer
-turn_answer journal now form None = refused journal (refusal.SheetOutOfTurn 0 0)
-turn_answer journal now form (Some expected) =
-    if expected == form.moment then appended journal now (kind.Sheet form) (reply.Sheet (length (sheets journal) + 1))
-    else refused journal (refusal.SheetOutOfTurn expected 1)
+-- the sheet is out of turn unless it is the expected one; its list and its moment were tried before
+abbrev pub turn_answer : Journal → ℕ → SheetForm → Option PublishFault → Answer
+turn_answer journal now form None = appended journal now (kind.Sheet form) (reply.Sheet (length (sheets journal) + 1))
+turn_answer journal now form (Some (fault.SheetOutOfTurn moment calendar)) = refused journal (refusal.SheetOutOfTurn (told moment) calendar)
+turn_answer journal now form (Some (fault.SheetIncomplete class)) = refused journal refusal.Unbuilt
+turn_answer journal now form (Some (fault.TooSoon moment)) = refused journal refusal.Unbuilt
 
 abbrev pub sheet_after : Journal → ℕ → Bool → SheetForm → Option Sheet → Answer
 sheet_after journal now is_operator form (Some sheet) = kept journal (reply.Sheet sheet.number)
 sheet_after journal now is_operator form None =
-    if is_built_sheet journal now is_operator form then turn_answer journal now form (expected_now journal)
+    if is_built_sheet journal now is_operator form then turn_answer journal now form (fault_now journal now form)
     else refused journal refusal.Unbuilt
 
 abbrev pub sheet_answer : Journal → ℕ → Bool → SheetForm → Answer

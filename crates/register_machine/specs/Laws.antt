@@ -1,10 +1,10 @@
 -- What the laws of the machine say, in the trade's words.
-use Rattle.std.specs.Prelude.{◌≡◌, ℕ, ◌≤◌, Bool, true, length, filter, Some, IfSome}
+use Rattle.std.specs.Prelude.{◌≡◌, ℕ, ◌≤◌, Bool, true, length, filter, pos, Some, IfSome}
 use Rattle.agent_events.specs.declared.event.OrderEvent.{OrderEvent}
 use Rattle.agent_events.specs.declared.request.Buy.{Buy}
 use Rattle.agent_events.specs.declared.request.Order.TheVariants as order
 use Rattle.agent_events.specs.Content.{same_order, order_classes}
-use Rattle.forward_price.specs.Sheets.{IsPricedBy}
+use Rattle.forward_price.specs.PriceTables.{IsPricedBy}
 use Rattle.register_machine.specs.Journal.{Journal, orders, sheets}
 use Rattle.register_machine.specs.Replay.{Priced}
 use Rattle.register_machine.specs.Answer.{kept, has_reference, first_order, order_reply, buy_answer}
@@ -27,4 +27,4 @@ IsOnce journal = (account ref_no : ℕ) → orders_under journal account ref_no 
 -- Each order that has its sheet stands on the sheet of its next price.
 abbrev pub IsForwardPriced : Journal → Priced → Type 0
 IsForwardPriced journal priced =
-    IfSome priced.sheet (IsPricedBy (sheets journal) (order_classes priced.order.order) priced.order.receipt)
+    IfSome priced.sheet (IsPricedBy (sheets journal) (order_classes priced.order.order) (pos priced.order.receipt))

@@ -1,6 +1,6 @@
 -- The register is the replay of the orders over all sheets, from the first on. Each order stands on the sheet of its next
 -- price (17 CFR 270.22c-1(a)); the orders of a sheet are executed as they were received.
-use Rattle.std.specs.Prelude.{ℕ, ◌+◌, Bool, false, ◌&&◌, nat_le, ◌==◌, if◌then◌else◌, List, [], ◌∷◌, ◌++◌, map, filter, fold, sum_by, Option, Some, None, option_map}
+use Rattle.std.specs.Prelude.{ℕ, ◌+◌, Bool, false, ◌&&◌, nat_le, ◌==◌, pos, if◌then◌else◌, List, [], ◌∷◌, ◌++◌, map, filter, fold, sum_by, Option, Some, None, option_map}
 use Rattle.std.specs.List.{list_any, filter_map}
 use Rattle.agent_events.specs.declared.event.OrderEvent.{OrderEvent}
 use Rattle.agent_events.specs.declared.lists.PositionText.{PositionText}
@@ -8,9 +8,10 @@ use Rattle.agent_events.specs.declared.request.Buy.{Buy}
 use Rattle.agent_events.specs.declared.request.Order.{Order}
 use Rattle.agent_events.specs.declared.request.Order.TheVariants as order
 use Rattle.agent_events.specs.Content.{order_classes}
-use Rattle.forward_price.specs.declared.sheet.Opened.{Opened}
-use Rattle.forward_price.specs.declared.sheet.Sheet.{Sheet}
-use Rattle.forward_price.specs.Sheets.{next_sheet, nav_on}
+use Rattle.forward_price.specs.declared.price_sheet.Opening.{Opening}
+use Rattle.forward_price.specs.declared.price_sheet.Sheet.{Sheet}
+use Rattle.forward_price.specs.PriceTables.{next_sheet}
+use Rattle.forward_price.specs.Sheets.{nav_on}
 use Rattle.offering_price.specs.declared.purchase.Split.{Split}
 use Rattle.offering_price.specs.Purchase.{split_of}
 use Rattle.register_machine.specs.Journal.{Journal, opened, orders, sheets}
@@ -34,7 +35,7 @@ pub record Priced : Type 0 where
 abbrev pub priced_by : List Sheet → OrderEvent → Priced
 priced_by published order = record {
   order = order;
-  sheet = option_map (λ sheet. sheet.number) (next_sheet published (order_classes order.order) order.receipt);
+  sheet = option_map (λ sheet. sheet.number) (next_sheet published (order_classes order.order) (pos order.receipt));
 }
 
 abbrev pub priced_orders : Journal → List Priced
@@ -96,7 +97,7 @@ abbrev pub replay : Journal → Register
 replay journal = fold (day (priced_orders journal)) [] (sheets journal)
 
 -- an account's position in a class, where it has lots
-abbrev pub position_of : Register → ℕ → Opened → Option PositionText
+abbrev pub position_of : Register → ℕ → Opening → Option PositionText
 position_of register account class =
     if list_any (is_of account class.class) register
     then Some (record {

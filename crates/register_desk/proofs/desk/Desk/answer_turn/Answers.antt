@@ -4,4 +4,4 @@ use Rattle.register_desk.proofs.desk.Desk.answer_turn.Goals as goal
 
 pub publish-requires-clause-listed : goal.publish-requires-clause-listed
 publish-requires-clause-listed c =
-    listed-one (opened c.args.self.now) c.args.form.now.prices c.in-Some.ensures.one_class c.requires.listed
+    listed-one (opened c.args.self.now) c.args.form.now.prices c.in-None.ensures.one_class c.requires.listed

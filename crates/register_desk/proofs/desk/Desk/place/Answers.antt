@@ -4,5 +4,4 @@ use Rattle.register_desk.proofs.desk.Desk.place.Goals as goal
 pub invariant_of-self-2 : goal.invariant_of-self-2
 invariant_of-self-2 c =
     let inside = c.self.inside in
-    kept-order inside.prices.opened inside.prices.sheets inside.events.items c.push.new.self.items c.args.now.now c.args.placed
-    c.self.invariant c.in_ok-push.ensures.items
+    kept-order inside.prices.table inside.events.items c.push.new.self.items c.args.now.now c.args.placed c.self.invariant c.in_ok-push.ensures.items
