@@ -1,7 +1,7 @@
 -- The contingent deferred sales charge of a redemption. A deferred load may not exceed a percentage of the net asset value
 -- or the offering price at the time of purchase (17 CFR 270.6c-10(a)(1)), so that it is taken on the lesser of what the
 -- shares cost and what they are worth, at a rate that falls with the years since the purchase (Form N-1A, Item 12(a)).
-use Rattle.std.specs.Prelude.{ℕ, ◌+◌, ◌-◌, ◌*◌, min, if◌then◌else◌, List, [], ◌∷◌, slice_index, sum_by}
+use Rattle.std.specs.Prelude.{ℕ, ◌+◌, ◌-◌, ◌*◌, ◌≤◌, min, if◌then◌else◌, List, [], ◌∷◌, slice_index, AllPairs, sum_by}
 use Rattle.money_units.specs.Rounding.{half}
 use Rattle.fund_calendar.specs.Dates.{anniversaries}
 use Rattle.share_lots.specs.declared.lot.Piece.{Piece}
@@ -12,6 +12,10 @@ use Rattle.contingent_charge.specs.declared.charging.Charged.{Charged}
 -- anniversaries of the purchase that have come, and 0 past the schedule
 abbrev pub rate_on : ℕ → ℕ → List ℕ → ℕ
 rate_on bought sold schedule = slice_index schedule (anniversaries bought sold)
+
+-- no later year has a greater rate
+abbrev pub NeverRises : List ℕ → Type 0
+NeverRises schedule = AllPairs (λ earlier later. later ≤ earlier) schedule
 
 -- the value of mils with so many before them: what those at their end are worth together, less those at their beginning
 abbrev pub value_between : ℕ → ℕ → ℕ → ℕ

@@ -1,7 +1,7 @@
 //! Laws of deferred charges in the trade's words. Each function is empty: its clauses hold of the definitions.
 ghost use Rattle.std.specs.Prelude.{◌≡◌, ℕ, ◌+◌, ◌-◌, ◌<◌, ◌≤◌, List, length, take, map, filter, sum_by, min, not, true};
 ghost use Rattle.std.specs.List.{slice_index_or};
-ghost use Rattle.fund_calendar.specs.Dates.{anniversaries};
+ghost use Rattle.fund_calendar.specs.Dates.{last_day, anniversaries};
 ghost use Rattle.share_lots.specs.declared.lot.Piece.{Piece};
 ghost use Rattle.share_lots.specs.Values.{value_at};
 ghost use Rattle.contingent_charge.specs.DeferredCharge as spec;
@@ -35,4 +35,9 @@ pub fn no_piece_is_charged_past_its_cost()
 /// Once a schedule is through there is no charge any more.
 pub fn charges_end_with_the_schedule()
     ensures { (bought : ℕ) (sold : ℕ) (schedule : List ℕ) → length schedule ≤ anniversaries bought sold → spec.rate_on bought sold schedule ≡ 0 }
+{}
+
+/// Under a schedule in which no later year has a greater rate, a later sale never has a greater rate.
+pub fn a_later_sale_never_has_a_greater_rate()
+    ensures { (bought : ℕ) (sold : ℕ) (later : ℕ) (schedule : List ℕ) → spec.NeverRises schedule → sold ≤ later → later ≤ last_day → spec.rate_on bought later schedule ≤ spec.rate_on bought sold schedule }
 {}

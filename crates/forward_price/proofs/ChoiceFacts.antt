@@ -1,5 +1,5 @@
 -- What is chosen step by step is the best of all.
-use Rattle.std.proofs.Common.{◌≡◌, Bool, true, false, List, [], ◌∷◌, ◌++◌, fold, Option, Some, None, ◌⊎◌, inl, inr, refl, sym, subst, ◌∙◌, ap, append-nil, append_assoc}
+use Rattle.std.proofs.Common.{◌≡◌, Bool, true, false, List, [], ◌∷◌, ◌++◌, fold, Option, Some, None, IfSome, ◌⊎◌, inl, inr, refl, sym, subst, ◌∙◌, ap, append-nil, append_assoc}
 use Rattle.std.proofs.lemmas.Bool.{true≢false}
 use Rattle.std.proofs.lemmas.List.Elements.{All-nil, All-weaker, All-contains, All-push, All-append, Contains-push, Contains-append_left, Contains-append_right}
 use Rattle.forward_price.specs.Choices.{IsChoice, preferred, considered, best, better_of}
@@ -97,6 +97,12 @@ better_of-choice passes better order xs ys (Some t) (Some y) first second =
         best = All-append (λ o. passes o ≡ true → better o t ≡ false) xs ys first.best (All-weaker (λ o. passes o ≡ true → better o y ≡ false) (λ o. passes o ≡ true → better o t ≡ false) (λ o worse passed. order.behind o y t (worse passed) under) ys second.best);
       })
     ]
+
+-- what holds of both holds of the better one
+pub better_of-holds : {X : Type 0} (P : X → Type 0) (better : X → X → Bool) (found other : Option X) → IfSome found P → IfSome other P → IfSome (better_of better found other) P
+better_of-holds P better found None h k = h
+better_of-holds P better None (Some x) h k = k
+better_of-holds P better (Some y) (Some x) h k = elim (tested (better x y)) [ inl over ↦ rw over k | inr under ↦ rw under h ]
 
 -- there is one choice
 pub same_choice : {X : Type 0} (passes : X → Bool) (better : X → X → Bool) → IsTotal better → (xs : List X) (a b : Option X) → IsChoice passes better xs a → IsChoice passes better xs b → a ≡ b

@@ -1,7 +1,7 @@
 -- Whose turn it is: the due moment of an order, the sheet that is expected next, and what a sheet must list. The net
 -- asset value is computed at least once on each pricing day (17 CFR 270.22c-1(b)(1)), so no pricing moment is passed over.
 use Rattle.std.specs.Prelude.{◌<ℤ◌, true, ◌≡◌, ℕ, ◌<◌, ℤ, pos, int_lt, Bool, false, not, ◌&&◌, ◌||◌, nat_lt, ◌==◌, if◌then◌else◌, List, ◌++◌, map, flat_map, Option, Some, None, All, AllPairs, find, option_and_then}
-use Rattle.fund_calendar.specs.PricingDays.{Listing}
+use Rattle.fund_calendar.specs.PricingDays.{Listing, IsMoment}
 use Rattle.fund_calendar.specs.declared.pricing_day.PricingDay.{PricingDay}
 use Rattle.std.specs.List.{list_any, list_all}
 use Rattle.std.specs.Ordering.{int_eq}
@@ -68,6 +68,10 @@ pricing_pair calendar e = (moment_at e, calendar)
 
 abbrev pub pairs_of : Listing → List (ℤ × ℕ)
 pairs_of c = map (pricing_pair c.number) c.days
+
+-- the moment of a pair lies in range
+abbrev pub IsMomentOf : ℤ × ℕ → Type 0
+IsMomentOf pair = IsMoment pair.0
 
 -- all pricing moments with their calendars
 abbrev pub pricing_pairs : List Listing → List (ℤ × ℕ)
@@ -139,6 +143,12 @@ pub record IsComplete (classes : List Opening) (calendar : ℕ) (moment : ℤ) (
 -- the pair is that of the sheet
 abbrev pub is_pair : ℕ → ℤ → ℤ × ℕ → Bool
 is_pair calendar moment pair = int_eq pair.0 moment && pair.1 == calendar
+
+-- the moment that a fault names lies in range
+abbrev pub NamesMoment : PublishFault → Type 0
+NamesMoment (SheetOutOfTurn moment calendar) = IsMoment moment
+NamesMoment (SheetIncomplete class) = Unit {0}
+NamesMoment (TooSoon moment) = IsMoment moment
 
 -- the fault of a sheet whose turn it is: its list, or that its moment is to come
 abbrev pub list_fault : Option ℕ → ℤ → ℤ → Option PublishFault

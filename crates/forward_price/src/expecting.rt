@@ -1,11 +1,11 @@
 //! Whose turn it is: due moments, the expected sheet, and what a sheet must list.
-ghost use Rattle.std.specs.Prelude.{◌≡◌, ℤ, ◌<ℤ◌, true, All, int_lt, ◌&&◌, ◌==◌, find, option_and_then, nat_lt, fold};
+ghost use Rattle.std.specs.Prelude.{◌≡◌, ℤ, ◌<ℤ◌, true, All, IfSome, int_lt, ◌&&◌, ◌==◌, find, option_and_then, nat_lt, fold};
 ghost use Rattle.std.specs.Option.{option_copied};
 ghost use Rattle.std.specs.List.{list_any};
-ghost use Rattle.fund_calendar.specs.PricingDays.{date_at};
+ghost use Rattle.fund_calendar.specs.PricingDays.{IsMoment, date_at};
 ghost use Rattle.forward_price.specs.Choices.{IsChoice, preferred, considered, better_of};
 ghost use Rattle.forward_price.specs.PriceTables.{calendar_numbered, is_sheet_at, date_priced};
-ghost use Rattle.forward_price.specs.Turns.{asks_for, opened_by, is_due, calendar_in, due_on, due_in, is_offered_at, is_awaited, is_sooner, pairs_of, pricing_pairs, NoneAwaitedTo, expected_in, must_list, is_wrong, class_numbers, price_numbers, wrong_class, is_pair, list_fault, fault_of};
+ghost use Rattle.forward_price.specs.Turns.{asks_for, opened_by, is_due, calendar_in, due_on, due_in, is_offered_at, is_awaited, is_sooner, pairs_of, pricing_pairs, IsMomentOf, NamesMoment, NoneAwaitedTo, expected_in, must_list, is_wrong, class_numbers, price_numbers, wrong_class, is_pair, list_fault, fault_of};
 
 use crate::lookups::lists_class;
 use crate::next_price::is_sheet_at;
@@ -69,7 +69,8 @@ fn calendar_asked<'a>(
 
 // The first pricing moment of a calendar that is due.
 fn due_on(calendar: &Calendar, classes: &[Opening], asked: &[u32], receipt: i64) -> Option<i64>
-    ensures { result ≡ due_on classes.now asked.now receipt calendar.now }
+    ensures value { result ≡ due_on classes.now asked.now receipt calendar.now }
+    ensures within { IfSome result IsMoment }
 {
     let after = last_opening(classes, asked, receipt);
     calendar.next_after(after)
@@ -77,7 +78,8 @@ fn due_on(calendar: &Calendar, classes: &[Opening], asked: &[u32], receipt: i64)
 
 /// The due moment of an order.
 pub fn due(calendars: &[Calendar], classes: &[Opening], asked: &[u32], receipt: i64) -> Option<i64>
-    ensures { result ≡ due_in calendars.now classes.now asked.now receipt }
+    ensures value { result ≡ due_in calendars.now classes.now asked.now receipt }
+    ensures within { IfSome result IsMoment }
 {
     let calendar = calendar_asked(calendars, classes, asked)?;
     due_on(calendar, classes, asked, receipt)
@@ -119,7 +121,8 @@ fn first_awaited(
     passed: i64,
 ) -> Option<(i64, u32)>
     requires { All (λ pair. is_awaited classes.now sheets.now pair ≡ true → passed <ℤ pair.0) (pairs_of calendar.now) }
-    ensures { IsChoice (is_awaited classes.now sheets.now) is_sooner (pairs_of calendar.now) result }
+    ensures choice { IsChoice (is_awaited classes.now sheets.now) is_sooner (pairs_of calendar.now) result }
+    ensures within { IfSome result IsMomentOf }
 {
     let number = calendar.number();
     let mut at = passed;
@@ -171,7 +174,8 @@ pub fn expected(
     passed: i64,
 ) -> Option<(i64, u32)>
     requires { NoneAwaitedTo calendars.now classes.now sheets.now passed }
-    ensures { result ≡ expected_in calendars.now classes.now sheets.now }
+    ensures value { result ≡ expected_in calendars.now classes.now sheets.now }
+    ensures within { IfSome result IsMomentOf }
 {
     let mut found = None;
     for calendar in calendars {
@@ -291,7 +295,8 @@ pub fn fault_of(
     moment: i64,
     now: i64,
 ) -> Option<PublishFault>
-    ensures { result ≡ fault_of expected wrong calendar moment now }
+    ensures value { result ≡ fault_of expected wrong calendar moment now }
+    ensures within { IfSome expected IsMomentOf → IfSome result NamesMoment }
 {
     match expected {
         None => Some(PublishFault::SheetOutOfTurn(0, 0)),

@@ -14,6 +14,7 @@ mod sheet;
 mod tests;
 pub mod worked;
 
+pub use crate::lookups::{lists_class, nav_on};
 pub use crate::price_book::PriceBook;
 pub use crate::price_sheet::{NoSheet, Opening, Patch, PublishFault, Sheet};
 pub use crate::sheet::Prices;

@@ -1,9 +1,9 @@
 ghost use Rattle.std.specs.Prelude.{◌≡◌, ◌↔◌, ℕ, ◌+◌, ◌<◌, ◌≤◌, nat_lt, length, is_some, true, [], ◌∷◌, Some, None, option_map, pos, OnOk, OnErr, IfOk, IfErr, IfSome, IfNone};
 ghost use Rattle.std.specs.Option.{option_copied};
 ghost use Rattle.std.specs.Bool.{OnFalse};
-ghost use Rattle.fund_calendar.specs.PricingDays.{Listing};
+ghost use Rattle.fund_calendar.specs.PricingDays.{Listing, IsMoment};
 ghost use Rattle.forward_price.specs.PriceTables.{AreNumbered, Table, Book, next_sheet, IsPricedBy, IsPending, sheet_numbered, number_at, price_on, price_before, patched, calendar_numbered, class_opened, with_calendar, with_class, with_published, without_last, with_correction, without_day_of, is_priced, prices_on};
-ghost use Rattle.forward_price.specs.Turns.{due_of, IsDue, NoneDue, expected_of, wrong_class, publish_fault, IsExpected, NoneExpected, IsRising};
+ghost use Rattle.forward_price.specs.Turns.{due_of, IsDue, NoneDue, expected_of, wrong_class, publish_fault, IsExpected, NoneExpected, IsMomentOf, NamesMoment, IsRising};
 
 use crate::price_sheet::{NoSheet, Opening, Patch, PublishFault, Sheet};
 use crate::{correcting, expecting, next_price, room};
@@ -63,27 +63,30 @@ impl PriceBook {
     }
 
     /// The due moment of an order of these classes, which are of one calendar, with this receipt: the first pricing
-    /// moment greater than the receipt and than the opening of each of the classes. `None` exactly where the calendar
-    /// has no such moment.
+    /// moment greater than the receipt and than the opening of each of the classes, in seconds since 1970-01-01 00:00
+    /// UTC and before the year 2200. `None` exactly where the calendar has no such moment.
     pub fn due(&self, classes: &[u32], receipt: i64) -> Option<i64>
         ensures computed { result ≡ due_of self.now.table classes.now receipt }
         ensures least { IfSome result (IsDue self.now.table classes.now receipt) }
         ensures none { IfNone result (NoneDue self.now.table classes.now receipt) }
+        ensures within { IfSome result IsMoment }
     {
         expecting::due(&self.calendars, &self.classes, classes, receipt)
     }
 
-    /// The pricing moment and the calendar of the expected sheet. `None` exactly where none is expected.
+    /// The pricing moment and the calendar of the expected sheet. The moment lies from 1970 to 2199. `None` exactly where
+    /// none is expected.
     pub fn expected(&self) -> Option<(i64, u32)>
         ensures computed { result ≡ expected_of self.now.table }
         ensures least { IfSome result (λ pair. IsExpected self.now.table pair) }
         ensures none { IfNone result (NoneExpected self.now.table) }
+        ensures within { IfSome result IsMomentOf }
     {
         expecting::expected(&self.calendars, &self.classes, &self.sheets, self.passed)
     }
 
     /// Whether a sheet may be published now: it is the expected one, its list is complete, and its moment isn't to come.
-    /// The faults are tried in the order of their list.
+    /// The faults are tried in the order of their list, and a moment that a fault names lies from 1970 to 2199.
     pub fn test(
         &self,
         calendar: u32,
@@ -95,6 +98,7 @@ impl PriceBook {
         ensures in_turn { IfOk result (λ _. expected_of self.now.table ≡ Some (moment, calendar)) }
         ensures complete { IfOk result (λ _. wrong_class self.now.table.classes calendar moment prices.now ≡ None) }
         ensures refused { IfErr result (λ fault. publish_fault self.now.table calendar moment prices.now now ≡ Some fault) }
+        ensures within { IfErr result NamesMoment }
     {
         let expected = self.expected();
         let wrong = expecting::wrong_class(&self.classes, calendar, moment, prices);

@@ -1,4 +1,4 @@
-use crate::{NoSheet, Patch, PriceBook, Prices, PublishFault};
+use crate::{NoSheet, Patch, PriceBook, Prices, PublishFault, lists_class, nav_on};
 use fund_calendar::{Calendar, Day, read_day};
 use money_units::Nav;
 use std::alloc::Global;
@@ -209,5 +209,15 @@ fn many_sheets_are_published_and_looked_up(rt: HostRuntime) -> Result<(), Fail> 
     assert_eq!(rt; book.first_after(-1, &[11]), Some(1));
     assert_eq!(rt; book.expected(), Some((wednesday + 86400, 1)));
     assert_eq!(rt; book.last_before(None, 12, wednesday), Some(nav(1000)?));
+    Ok(())
+}
+
+#[test]
+fn lists_are_looked_up(rt: HostRuntime) -> Result<(), Fail> {
+    let prices = [(1, nav(1000)?), (3, nav(1200)?)];
+    assert!(rt; lists_class(&prices, 3));
+    assert!(rt; !lists_class(&prices, 2));
+    assert_eq!(rt; nav_on(&prices, 3), Some(nav(1200)?));
+    assert_eq!(rt; nav_on(&prices, 2), None);
     Ok(())
 }

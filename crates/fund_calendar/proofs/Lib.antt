@@ -3,3 +3,4 @@ pub mod JiffLemmas
 pub mod InstantLemmas
 pub mod ScheduleLemmas
 pub mod LookUpLemmas
+pub mod AnniversaryLemmas

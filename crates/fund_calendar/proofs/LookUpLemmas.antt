@@ -5,11 +5,11 @@ use Rattle.std.specs.List.{list_any}
 use Rattle.std.specs.List.Sorted.{IsNonDecreasingBy, IsPartitionPoint}
 use Rattle.std.proofs.lemmas.Bool.{cases_lt}
 use Rattle.std.proofs.lemmas.Bool.Decides.{leb_tells, eqb_tells, nat_tests, Decides-eqb, Decides-ltb}
-use Rattle.std.proofs.lemmas.List.Elements.{All-cons, All-filter}
+use Rattle.std.proofs.lemmas.List.Elements.{All-cons, All-filter, All-head, All-tail}
 use Rattle.std.proofs.lemmas.List.Kept.{AllPairs-filter}
 use Rattle.fund_calendar.specs.declared.pricing_day.PricingDay.{PricingDay}
 use Rattle.jiff_core.proofs.SignedLemmas.{signed_arith}
-use Rattle.fund_calendar.specs.PricingDays.{IsListing, last_moment, above, first_above, IsLeastAbove, HasNoneAbove}
+use Rattle.fund_calendar.specs.PricingDays.{IsListing, IsMoment, last_moment, above, first_above, IsLeastAbove, HasNoneAbove}
 
 -- pairs that rise don't fall
 pub non_decreasing : {X : Type 0} (n : X → ℕ) (xs : List X) → AllPairs (λ a b. n a < n b) xs → IsNonDecreasingBy n xs
@@ -228,3 +228,19 @@ least_if_some days z (Some n) rise e = IsLeastAbove-first_above days z n rise (s
 pub none_above_if_none : (days : List PricingDay) (z : ℤ) (r : Option ℤ) → r ≡ first_above days z → IfNone r (HasNoneAbove days z)
 none_above_if_none days z None e = HasNoneAbove-first_above days z (sym e)
 none_above_if_none days z (Some n) e = tt
+
+-- what is found is in range where all are
+found_within : (days : List PricingDay) (z n : ℤ) → All (λ e. e.moment ≤ last_moment) days → first_above days z ≡ Some n → IsMoment n
+found_within [] z n all e = cc
+found_within (x ∷ xs) z n all e = elim (leb_tells (above z) x.moment) [
+  | inl (t, le) ↦
+      let here = rw t at e in
+      let same : pos x.moment ≡ n = cc in
+      let within = All-head (λ d. d.moment ≤ last_moment) x xs all in
+      rw (← same) (omega (arith, signed_arith), omega (arith, signed_arith))
+  | inr (t, gt) ↦ found_within xs z n (All-tail (λ d. d.moment ≤ last_moment) x xs all) (rw t at e)
+]
+
+pub within_if_some : (days : List PricingDay) (z : ℤ) (r : Option ℤ) → All (λ e. e.moment ≤ last_moment) days → r ≡ first_above days z → IfSome r IsMoment
+within_if_some days z None all e = tt
+within_if_some days z (Some n) all e = found_within days z n all (sym e)

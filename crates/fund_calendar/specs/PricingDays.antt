@@ -15,6 +15,9 @@ use Rattle.fund_calendar.specs.ZoneRules.{instant}
 abbrev pub last_moment : ℕ
 last_moment = 7258118399
 
+abbrev pub IsMoment : ℤ → Type 0
+IsMoment moment = (pos 0 ≤ℤ moment) × (moment ≤ℤ pos last_moment)
+
 -- the most days from a calendar's first date to its last
 abbrev pub longest_span : ℕ
 longest_span = 3660

@@ -57,7 +57,7 @@ impl<T: Drop> From<AllocFailed<T>> for CalendarFault {
     }
 }
 
-/// The pricing days of a fund, each with its moment.
+/// The pricing days of a fund, each with its moment, in seconds since 1970-01-01 00:00 UTC.
 #[derive(Drop)]
 pub struct Calendar {
     number: u32,
@@ -126,11 +126,12 @@ impl Calendar {
         }
     }
 
-    /// The least moment above, or `None` exactly without one.
+    /// The least moment above, or `None` exactly without one. It lies from 1970 to 2199.
     pub fn next_after(&self, moment: i64) -> Option<i64>
         ensures first { result ≡ spec.next_after self.now moment }
         ensures least { IfSome result (spec.IsLeastAbove self.now.days moment) }
         ensures none { IfNone result (spec.HasNoneAbove self.now.days moment) }
+        ensures within { IfSome result spec.IsMoment }
     {
         next_moment(&self.listed, moment)
     }
@@ -144,9 +145,10 @@ impl Calendar {
         Some(found.day)
     }
 
-    /// The moment of a day, or `None` exactly where the day isn't listed.
+    /// The moment of a day, or `None` exactly where the day isn't listed. It lies from 1970 to 2199.
     pub fn moment_of(&self, day: Day) -> Option<i64>
-        ensures { result ≡ spec.moment_on self.now day }
+        ensures listed { result ≡ spec.moment_on self.now day }
+        ensures within { IfSome result spec.IsMoment }
     {
         let place = place_of_day(&self.listed, day)?;
         let found = entry_at(&self.listed, place)?;

@@ -97,14 +97,32 @@ impl Day {
         })
     }
 
-    /// The year of the date.
-    pub(crate) fn year(self) -> u16
-        ensures value { result ≡ (date_of self).year }
+    /// The year, from 1970 to 2199.
+    pub fn year(&self) -> u16
+        ensures value { result ≡ (date_of self.now).year }
         ensures low { 1970 ≤ result }
         ensures high { result ≤ 2199 }
-        ensures within { self ≤ last_day }
+        ensures within { self.now ≤ last_day }
     {
         self.to_date().year as u16
+    }
+
+    /// The month of the year, from 1 to 12.
+    pub fn month(&self) -> u8
+        ensures value { result ≡ (date_of self.now).month }
+        ensures low { 1 ≤ result }
+        ensures high { result ≤ 12 }
+    {
+        self.to_date().month
+    }
+
+    /// The day of the month, from 1 to 31.
+    pub fn day(&self) -> u8
+        ensures value { result ≡ (date_of self.now).day }
+        ensures low { 1 ≤ result }
+        ensures high { result ≤ 31 }
+    {
+        self.to_date().day
     }
 
     /// Monday to Friday.

@@ -6,6 +6,7 @@ mod calendar;
 mod day;
 mod day_text;
 mod instant;
+pub mod laws;
 mod look_up;
 mod months;
 mod pricing_day;

@@ -94,3 +94,21 @@ fn months_and_anniversaries_are_counted(rt: HostRuntime) -> Result<(), Fail> {
     assert_eq!(rt; Day::from_number(84006), None);
     Ok(())
 }
+
+#[test]
+fn dates_have_parts(rt: HostRuntime) -> Result<(), Fail> {
+    let parts = [
+        ("1970-01-01", (1970, 1, 1)),
+        ("2024-02-29", (2024, 2, 29)),
+        ("2024-12-30", (2024, 12, 30)),
+        ("2100-03-01", (2100, 3, 1)),
+        ("2199-12-31", (2199, 12, 31)),
+    ];
+    for (text, (year, month, of_month)) in parts {
+        let date = day(text)?;
+        assert_eq!(rt; date.year(), year, "{text}");
+        assert_eq!(rt; date.month(), month, "{text}");
+        assert_eq!(rt; date.day(), of_month, "{text}");
+    }
+    Ok(())
+}

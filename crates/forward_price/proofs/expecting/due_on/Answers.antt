@@ -3,8 +3,8 @@ use Rattle.forward_price.specs.Turns.{is_due}
 use Rattle.forward_price.proofs.TurnFacts.{due-is}
 use Rattle.forward_price.proofs.expecting.due_on.Goals as goal
 
-pub returns : goal.returns
-returns c =
+pub returns-clause-value : goal.returns-clause-value
+returns-clause-value c =
     let days = c.args.calendar.now.days in
     let z = to_z w64 (of_z w64 c.last_opening-after.result) in
     let fits : SFits w64 c.last_opening-after.result = search rules in
