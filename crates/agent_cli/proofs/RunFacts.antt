@@ -6,8 +6,8 @@ use Rattle.std.proofs.lemmas.List.Sums.{fold_more, fold-append}
 use Rattle.std.specs.Io.KnownBytes.{Appends}
 use Rattle.std.proofs.KnownBytes.{Appends-trans}
 use Rattle.agent_events.specs.declared.item.Item.{Item}
-use Rattle.register_machine.specs.Journal.{Journal}
-use Rattle.register_machine.specs.Answer.{item_answer}
+use Rattle.register_machine.specs.Journals.{Journal}
+use Rattle.register_machine.specs.PathScript.{item_answer}
 use Rattle.register_machine.specs.PathScript.{Run, line_of, step, start, run_of}
 use Rattle.agent_cli.specs.Runs.{AppendsFront}
 

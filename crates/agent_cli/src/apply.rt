@@ -2,8 +2,8 @@
 ghost use Rattle.std.specs.Prelude.{◌≡◌, ◌≤◌, bytes_eq, IfOk, OnOk, OnErr};
 ghost use Rattle.std.specs.Io.KnownBytes.{Appends};
 ghost use Rattle.agent_edge.specs.Counts.{Rose};
-ghost use Rattle.register_machine.specs.Answer.{kept, ask_answer, item_answer};
-ghost use Rattle.register_machine.specs.PathScript.{line_of, step, run_of};
+ghost use Rattle.register_machine.specs.Answer.{kept};
+ghost use Rattle.register_machine.specs.PathScript.{ask_answer, item_answer, line_of, step, run_of};
 ghost use Rattle.agent_cli.specs.Runs.{AppendsFront, CountsWrite, lines_of};
 
 use agent_edge::{Sink, SinkFault, write_whole};

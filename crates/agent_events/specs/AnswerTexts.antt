@@ -4,8 +4,16 @@ use Rattle.std.specs.Prelude.{ℕ, ◌/◌, List, [], ◌∷◌, ◌++◌, map, 
 use Rattle.std.specs.List.{join_with_byte}
 use Rattle.money_units.specs.Texts.{last_digit, money_text, number_text, shares_text, signed_text}
 use Rattle.fund_calendar.specs.Dates.{YearMonthDay, date_of}
-use Rattle.agent_events.specs.Answers.{BooksReply, ClassBooks, DealerBooks, Gain, OrderReply, OrderState, Refusal, Reply, TraceReply}
-use Rattle.agent_events.specs.declared.lists.PositionText.{PositionText}
+use Rattle.agent_events.specs.declared.reply.BooksReply.{BooksReply}
+use Rattle.agent_events.specs.declared.reply_lists.ClassBooks.{ClassBooks}
+use Rattle.agent_events.specs.declared.reply_lists.ClassGain.{ClassGain}
+use Rattle.agent_events.specs.declared.reply_lists.DealerBooks.{DealerBooks}
+use Rattle.agent_events.specs.declared.reply.OrderReply.{OrderReply}
+use Rattle.agent_events.specs.declared.reply.OrderState.{OrderState}
+use Rattle.agent_events.specs.declared.reply_lists.PositionText.{PositionText}
+use Rattle.agent_events.specs.declared.reply.Refusal.{Refusal}
+use Rattle.agent_events.specs.declared.reply.Reply.{Reply}
+use Rattle.agent_events.specs.declared.reply.TraceReply.{TraceReply}
 
 abbrev pub refusal_values : Refusal → List (List ℕ)
 refusal_values Refusal.Unbuilt = codes "0" ∷ []
@@ -38,13 +46,13 @@ list_text items = join_with_byte 32 items
 abbrev pub colon_text : List (List ℕ) → List ℕ
 colon_text parts = join_with_byte 58 parts
 
--- a date `YYYY-MM-DD`; 45 is `-`
 abbrev pub year_text : ℕ → List ℕ
 year_text year = last_digit (year / 1000) ∷ last_digit (year / 100) ∷ last_digit (year / 10) ∷ last_digit year ∷ []
 
 abbrev pub two_digit_text : ℕ → List ℕ
 two_digit_text n = last_digit (n / 10) ∷ last_digit n ∷ []
 
+-- a date `YYYY-MM-DD`; 45 is `-`
 abbrev pub date_text : YearMonthDay → List ℕ
 date_text date = year_text date.year ++ 45 ∷ two_digit_text date.month ++ 45 ∷ two_digit_text date.day
 
@@ -52,12 +60,12 @@ abbrev pub day_text : ℕ → List ℕ
 day_text day = date_text (date_of day)
 
 -- `class:signed money`
-abbrev pub gain_text : Gain → List ℕ
+abbrev pub gain_text : ClassGain → List ℕ
 gain_text gain = colon_text (number_text gain.class ∷ signed_text gain.cents ∷ [])
 
 -- `class:loose:held:cost`
-abbrev pub held_text : PositionText → List ℕ
-held_text position =
+abbrev pub position_text : PositionText → List ℕ
+position_text position =
     colon_text (number_text position.class ∷ shares_text position.loose ∷ shares_text position.held ∷ money_text position.cost ∷ [])
 
 -- `class:outstanding:cash`
@@ -109,7 +117,7 @@ answer_texts (Reply.Dividend class moment) = said (codes "dividend") (number_tex
 answer_texts (Reply.Sheet number) = said (codes "sheet") (number_text number ∷ [])
 answer_texts (Reply.Fix fix gains) = said (codes "fix") (number_text fix ∷ list_text (map gain_text gains) ∷ [])
 answer_texts (Reply.Show account positions) =
-    said (codes "show") (number_text account ∷ list_text (map held_text positions) ∷ [])
+    said (codes "show") (number_text account ∷ list_text (map position_text positions) ∷ [])
 answer_texts (Reply.Trace traced) = said (codes "trace") (trace_texts traced)
 answer_texts (Reply.Statement account text) = said (codes "statement") (number_text account ∷ text ∷ [])
 answer_texts (Reply.Books books) = said (codes "books") (books_texts books)

@@ -1,12 +1,8 @@
--- Equal content: the verb and all fields as they were first sent. An order, a class and a sheet that are known with
--- equal content are repeats.
-use Rattle.std.specs.Prelude.{ℕ, Bool, not, ◌&&◌, ◌==◌, nat_eq, if◌then◌else◌, List, [], ◌∷◌, bytes_eq}
+-- Equal content, field by field, of the classes and sheets that the path knows: all fields as they were first sent.
+use Rattle.std.specs.Prelude.{ℕ, Bool, not, ◌&&◌, ◌==◌, nat_eq, if◌then◌else◌, List, bytes_eq}
 use Rattle.std.specs.Cmp.Lexicographic.{pointwise}
 use Rattle.class_terms.specs.declared.lists.Bracket.{Bracket}
-use Rattle.agent_events.specs.declared.request.Buy.{Buy}
 use Rattle.agent_events.specs.declared.request.ClassForm.{ClassForm}
-use Rattle.agent_events.specs.declared.request.Order.{Order}
-use Rattle.agent_events.specs.declared.request.Order.TheVariants as order
 
 abbrev pub same_flag : Bool → Bool → Bool
 same_flag a b = if a then b else not b
@@ -31,19 +27,3 @@ same_price a b = a.0 == b.0 && a.1 == b.1
 
 abbrev pub same_prices : List (ℕ × ℕ) → List (ℕ × ℕ) → Bool
 same_prices a b = pointwise same_price a b
-
-abbrev pub same_buy : Buy → Buy → Bool
-same_buy a b = a.account == b.account && (a.ref_no == b.ref_no && (a.class == b.class && a.gross == b.gross))
-
-abbrev pub same_order : Order → Order → Bool
-same_order (order.Buy a) (order.Buy b) = same_buy a b
-
--- the account of an order, what the account calls it, and the classes that its sheet has to list
-abbrev pub order_account : Order → ℕ
-order_account (order.Buy buy) = buy.account
-
-abbrev pub order_ref : Order → ℕ
-order_ref (order.Buy buy) = buy.ref_no
-
-abbrev pub order_classes : Order → List ℕ
-order_classes (order.Buy buy) = buy.class ∷ []

@@ -1,12 +1,15 @@
 -- Equal content: the verb and all fields as they were first sent, for a dealer's line its receipt too. The content of a
--- request is the list of its fields, each a list of numbers, behind a number for its verb; two requests are the same where
--- their contents are. Who sent a request isn't part of it.
+-- request is a list of lists of numbers: a number for its verb (one for all order verbs, whose own is told by the body), then its
+-- fields; two requests are the same where their contents are. Who sent a request isn't part of it.
 use Rattle.std.specs.Prelude.{ℕ, Bool, List, [], ◌∷◌, if◌then◌else◌, bytes_eq, flat_map}
 use Rattle.std.specs.Cmp.Lexicographic.{pointwise}
 use Rattle.class_terms.specs.declared.lists.Bracket.{Bracket}
-use Rattle.agent_events.specs.Fields.{flag}
-use Rattle.agent_events.specs.Requests.{Bearer, Body, EntryForm, OrderForm, Request}
+use Rattle.agent_events.specs.declared.order.Bearer.{Bearer}
+use Rattle.agent_events.specs.declared.order.Body.{Body}
 use Rattle.agent_events.specs.declared.request.ClassForm.{ClassForm}
+use Rattle.agent_events.specs.declared.request.EntryForm.{EntryForm}
+use Rattle.agent_events.specs.declared.order.Order.{Order}
+use Rattle.agent_events.specs.declared.request.Request.{Request}
 
 abbrev pub flag_number : Bool → ℕ
 flag_number flag = if flag then 1 else 0
@@ -26,7 +29,7 @@ body_content (Body.ExchangeAll class to) = 6 ∷ class ∷ to ∷ []
 body_content (Body.Letter class amount) = 7 ∷ class ∷ amount ∷ []
 body_content (Body.Elect class in_cash) = 8 ∷ class ∷ flag_number in_cash ∷ []
 
-abbrev pub order_content : OrderForm → List (List ℕ)
+abbrev pub order_content : Order → List (List ℕ)
 order_content order = (order.account ∷ order.ref_no ∷ []) ∷ body_content order.body ∷ []
 
 abbrev pub brackets_content : List Bracket → List ℕ

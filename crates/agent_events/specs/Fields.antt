@@ -1,10 +1,10 @@
 -- The forms of single fields, as readers of a text: the value where the text is in the form.
-use Rattle.std.specs.Prelude.{ℕ, ◌+◌, ◌-◌, ◌*◌, Bool, true, false, not, ◌&&◌, ◌||◌, nat_lt, nat_le, ◌==◌, if◌then◌else◌, List, [], ◌∷◌, length, take, drop, slice_index, Option, Some, None, option_map, option_and_then, codes, bytes_eq}
-use Rattle.std.specs.List.{list_all, slice_split, before_first, after_first}
+use Rattle.std.specs.Prelude.{ℕ, ◌+◌, ◌-◌, ◌*◌, Bool, true, false, not, ◌&&◌, ◌||◌, nat_lt, nat_le, nat_eq, ◌==◌, if◌then◌else◌, List, [], ◌∷◌, length, take, drop, slice_index, Option, Some, None, option_map, option_and_then, codes, bytes_eq}
+use Rattle.std.specs.List.{list_all, slice_split, before_first, after_first, starts_with}
 use Rattle.money_units.specs.Texts.{number, money, shares, rate as millionths}
 use Rattle.fund_calendar.specs.DayText.{two_digits, read_day}
 use Rattle.class_terms.specs.declared.lists.Bracket.{Bracket}
-use Rattle.agent_events.specs.Requests.{Bearer}
+use Rattle.agent_events.specs.declared.order.Bearer.{Bearer}
 
 -- a value, where it lies in its range
 abbrev pub within : ℕ → ℕ → Option ℕ → Option ℕ
@@ -37,9 +37,9 @@ minimum text = within 0 1000000000000 (money text)
 abbrev pub nav : List ℕ → Option ℕ
 nav text = within 1 10000000 (money text)
 
--- a rate in basis points, before any rule of the trade is asked
-abbrev pub rate : List ℕ → Option ℕ
-rate text = within 0 65535 (number text)
+-- the rate of a load in basis points, before any rule of the trade is asked
+abbrev pub basis_points : List ℕ → Option ℕ
+basis_points text = within 0 65535 (number text)
 
 -- `1` for yes, `0` for no
 abbrev pub flag : List ℕ → Option Bool
@@ -61,10 +61,10 @@ is_label text =
 abbrev pub label : List ℕ → Option (List ℕ)
 label text = if is_label text then Some text else None
 
--- the items of a list, with one space between them; the empty text is the empty list
 abbrev pub is_space : ℕ → Bool
 is_space byte = byte == 32
 
+-- the items of a list, with one space between them; the empty text is the empty list
 abbrev pub list_items : List ℕ → List (List ℕ)
 list_items text = if length text == 0 then [] else slice_split is_space text
 
@@ -86,20 +86,32 @@ bracket_of row = record { floor = row.0; rate = row.1 }
 
 -- a row of a table of front-end loads: a floor in money and a rate
 abbrev pub bracket : List ℕ → Option Bracket
-bracket text = option_map bracket_of (pair money rate text)
+bracket text = option_map bracket_of (pair money basis_points text)
+
+-- a floor has at most 13 digits of dollars, as all money in its form
+abbrev pub is_floor : Bracket → Bool
+is_floor row = nat_le row.floor 999999999999999
+
+abbrev pub are_floors : List Bracket → Bool
+are_floors rows = list_all is_floor rows
+
+abbrev pub if_floors : List Bracket → Option (List Bracket)
+if_floors rows = if are_floors rows then Some rows else None
 
 abbrev pub brackets : List ℕ → Option (List Bracket)
-brackets text = each bracket (list_items text)
+brackets text = option_and_then if_floors (each bracket (list_items text))
 
 -- the rates of a schedule
 abbrev pub rates : List ℕ → Option (List ℕ)
-rates text = each rate (list_items text)
+rates text = each basis_points (list_items text)
 
--- each class number is greater than the one before
+-- each class number is greater than the one before, and the first is at least 1
+abbrev pub rises_above : ℕ → List (ℕ × ℕ) → Bool
+rises_above low [] = true
+rises_above low (price ∷ rest) = nat_lt low price.0 && rises_above price.0 rest
+
 abbrev pub is_rising : List (ℕ × ℕ) → Bool
-is_rising [] = true
-is_rising (price ∷ []) = true
-is_rising (price ∷ next ∷ rest) = nat_lt price.0 next.0 && is_rising (next ∷ rest)
+is_rising prices = rises_above 0 prices
 
 abbrev pub if_rising : List (ℕ × ℕ) → Option (List (ℕ × ℕ))
 if_rising prices = if is_rising prices then Some prices else None
@@ -115,26 +127,31 @@ is_zone_text text = nat_le 1 (length text) && (nat_le (length text) 64 && list_a
 abbrev pub zone : List ℕ → Option (List ℕ)
 zone text = if is_zone_text text then Some text else None
 
--- a time of day `HH:MM`, in minutes after midnight; 58 is `:`
+-- an hour and a minute in minutes after midnight
 abbrev pub minutes_of : Option ℕ → Option ℕ → Option ℕ
 minutes_of (Some hour) (Some minute) = Some (60 * hour + minute)
 minutes_of (Some hour) None = None
 minutes_of None minute = None
 
+-- a time of day `HH:MM`, in minutes after midnight; 58 is `:`
 abbrev pub time : List ℕ → Option ℕ
 time text =
     if length text == 5 && slice_index text 2 == 58
     then minutes_of (within 0 23 (two_digits text 0)) (within 0 59 (two_digits text 3))
     else None
 
--- at most 3,660 dates that rise strictly
+-- each date is later than the one before
 abbrev pub are_rising : List ℕ → Bool
 are_rising [] = true
 are_rising (day ∷ []) = true
 are_rising (day ∷ next ∷ rest) = nat_lt day next && are_rising (next ∷ rest)
 
+-- at most 3,660 dates that rise strictly
+abbrev pub are_holidays : List ℕ → Bool
+are_holidays days = nat_le (length days) 3660 && are_rising days
+
 abbrev pub if_holidays : List ℕ → Option (List ℕ)
-if_holidays days = if are_rising days && nat_le (length days) 3660 then Some days else None
+if_holidays days = if are_holidays days then Some days else None
 
 abbrev pub holidays : List ℕ → Option (List ℕ)
 holidays text = option_and_then if_holidays (each read_day (list_items text))
@@ -143,18 +160,24 @@ holidays text = option_and_then if_holidays (each read_day (list_items text))
 abbrev pub is_key_byte : ℕ → Bool
 is_key_byte byte = (nat_le 97 byte && nat_le byte 122) || (nat_le 48 byte && nat_le byte 57)
 
--- such a beginning, and then 8 to 56 of a to z and 0 to 9
-abbrev pub is_key_behind : List ℕ → List ℕ → Bool
-is_key_behind beginning text =
-    bytes_eq (take (length beginning) text) beginning
-    && (nat_le 8 (length text - length beginning) && (nat_le (length text - length beginning) 56
-    && list_all is_key_byte (drop (length beginning) text)))
+abbrev pub begins : List ℕ → List ℕ → Bool
+begins prefix text = starts_with nat_eq text prefix
+
+-- the key of a household: `h-`, then 8 to 56 of a to z and 0 to 9
+abbrev pub is_household_key : List ℕ → Bool
+is_household_key key =
+    begins (codes "h-") key && (nat_le 10 (length key) && (nat_le (length key) 58 && list_all is_key_byte (drop 2 key)))
 
 abbrev pub household_key : List ℕ → Option (List ℕ)
-household_key text = if is_key_behind (codes "h-") text then Some text else None
+household_key text = if is_household_key text then Some text else None
+
+-- the key of a dealer: `d-`, then the same
+abbrev pub is_dealer_key : List ℕ → Bool
+is_dealer_key key =
+    begins (codes "d-") key && (nat_le 10 (length key) && (nat_le (length key) 58 && list_all is_key_byte (drop 2 key)))
 
 abbrev pub dealer_key : List ℕ → Option (List ℕ)
-dealer_key text = if is_key_behind (codes "d-") text then Some text else None
+dealer_key text = if is_dealer_key text then Some text else None
 
 -- seconds of a dealer's window, a day at most
 abbrev pub window : List ℕ → Option ℕ

@@ -29,7 +29,7 @@ asked_by verb fields =
     else if bytes_eq verb (codes "line") then with_order 2 line_asked fields
     else order_or_unknown (order_count verb) verb fields
 
--- an item of a script: a moment, a key and what is asked; a record without these is none
+-- an item of a script: a moment, a key and what is asked; a record without these is bad
 pub data ScriptItem : Type 0 where
   Bad : ScriptItem
   Good : (now : ℕ) (key : List ℕ) (asked : Asked) → ScriptItem
@@ -47,6 +47,6 @@ script_item fields =
 abbrev pub batch_line : List (List ℕ) → Asked
 batch_line fields = with_order 2 line_asked fields
 
--- a record of a batch by its text, and a whole batch; more than 4,096 lines make it no batch
+-- a whole batch by its records; more than 4,096 make it no batch
 abbrev pub batch_lines : List (List (List ℕ)) → Result (List Asked) ℕ
 batch_lines rows = if nat_le (length rows) 4096 then Ok (map batch_line rows) else Err 0

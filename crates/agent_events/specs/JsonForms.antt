@@ -29,27 +29,27 @@ texts_named members names = map (text_named members) names
 abbrev pub are_named : List (List ℕ) → List Member → Bool
 are_named names members = list_all (λ member. list_any (bytes_eq member.name) names) members
 
--- the names of the fields of an order verb
-abbrev pub account_names : List (List ℕ)
-account_names = codes "account" ∷ codes "ref" ∷ codes "class" ∷ []
+-- the names of the fields of an order verb, of which the first three are common to all
+abbrev pub lead_names : List (List ℕ)
+lead_names = codes "account" ∷ codes "ref" ∷ codes "class" ∷ []
 
 abbrev pub order_names : List ℕ → List (List ℕ)
 order_names verb =
-    if bytes_eq verb (codes "buy") then account_names ++ codes "gross" ∷ []
-    else if bytes_eq verb (codes "sell") then account_names ++ codes "shares" ∷ []
-    else if bytes_eq verb (codes "sellcash") then account_names ++ codes "amount" ∷ []
-    else if bytes_eq verb (codes "sellall") then account_names
-    else if bytes_eq verb (codes "exchange") then account_names ++ codes "to" ∷ codes "shares" ∷ []
-    else if bytes_eq verb (codes "exchangeall") then account_names ++ codes "to" ∷ []
-    else if bytes_eq verb (codes "letter") then account_names ++ codes "amount" ∷ []
-    else account_names ++ codes "pay" ∷ []
+    if bytes_eq verb (codes "buy") then lead_names ++ codes "gross" ∷ []
+    else if bytes_eq verb (codes "sell") then lead_names ++ codes "shares" ∷ []
+    else if bytes_eq verb (codes "sellcash") then lead_names ++ codes "amount" ∷ []
+    else if bytes_eq verb (codes "sellall") then lead_names
+    else if bytes_eq verb (codes "exchange") then lead_names ++ codes "to" ∷ codes "shares" ∷ []
+    else if bytes_eq verb (codes "exchangeall") then lead_names ++ codes "to" ∷ []
+    else if bytes_eq verb (codes "letter") then lead_names ++ codes "amount" ∷ []
+    else lead_names ++ codes "pay" ∷ []
 
 abbrev pub class_field_names : List (List ℕ)
 class_field_names =
     codes "class" ∷ codes "calendar" ∷ codes "fund" ∷ codes "name" ∷ codes "family" ∷ codes "counts"
     ∷ codes "first_min" ∷ codes "later_min" ∷ codes "front" ∷ codes "deferred" ∷ []
 
--- the names of the fields of a verb that carries no order
+-- the names of the fields of a verb, but for `enter` and `replace`, whose order verb brings its own
 abbrev pub field_names : List ℕ → List (List ℕ)
 field_names verb =
     if bytes_eq verb (codes "calendar")
@@ -87,7 +87,7 @@ entry_by_verb (Some count) verb order_verb members =
 abbrev pub entry_members : List ℕ → List ℕ → List Member → Asked
 entry_members verb order_verb members = entry_by_verb (order_count order_verb) verb order_verb members
 
--- the verbs that a body may carry
+-- the verbs that a body may carry besides `enter` and `replace`
 abbrev pub posted_verbs : List (List ℕ)
 posted_verbs =
     codes "calendar" ∷ codes "close" ∷ codes "class" ∷ codes "dealer" ∷ codes "household" ∷ codes "account"

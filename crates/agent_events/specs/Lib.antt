@@ -1,13 +1,10 @@
 pub mod Fields
 pub mod Forms
 pub mod Content
-pub mod Replies
-pub mod Requests
 pub mod Events
 pub mod Contents
 pub mod VerbForms
 pub mod OrderForms
 pub mod Items
-pub mod Answers
 pub mod AnswerTexts
 pub mod JsonForms

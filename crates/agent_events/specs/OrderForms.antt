@@ -3,7 +3,10 @@
 use Rattle.std.specs.Prelude.{ℕ, ◌+◌, List, length, if◌then◌else◌, nat_lt, Some, None, Ok, Err, codes, bytes_eq, Option, Result, option_map}
 use Rattle.agent_events.specs.Fields.{amount, bearer, identifier, moment, pay, quantity, reference}
 use Rattle.agent_events.specs.Forms.{at, field, ◌>>=◌}
-use Rattle.agent_events.specs.Requests.{Body, EntryForm, OrderForm, Request}
+use Rattle.agent_events.specs.declared.order.Body.{Body}
+use Rattle.agent_events.specs.declared.request.EntryForm.{EntryForm}
+use Rattle.agent_events.specs.declared.order.Order.{Order}
+use Rattle.agent_events.specs.declared.request.Request.{Request}
 use Rattle.agent_events.specs.VerbForms.{Asked, counted}
 
 -- how many fields an order verb has, where it is one
@@ -19,13 +22,14 @@ order_count verb =
     else if bytes_eq verb (codes "elect") then Some 4
     else None
 
--- what an order of a class does, by the fields behind its class, where so many fields stand before its first
+-- an exchange of some shares, by its target and its mils
 abbrev pub exchange_form : ℕ → ℕ → List (List ℕ) → Result Body ℕ
 exchange_form before class fields = do
   to ← at (before + 4) (identifier (field fields (before + 4)))
   mils ← at (before + 5) (quantity (field fields (before + 5)))
   Ok (Body.Exchange class to mils)
 
+-- what an order of a class does, by the fields behind its class, where so many fields stand before its first
 abbrev pub body_form : List ℕ → ℕ → ℕ → List (List ℕ) → Result Body ℕ
 body_form verb before class fields =
     if bytes_eq verb (codes "buy")
@@ -43,7 +47,7 @@ body_form verb before class fields =
     else at (before + 4) (option_map (Body.Elect class) (pay (field fields (before + 4))))
 
 -- an order: its account, its reference, its class and the rest
-abbrev pub order_form : List ℕ → ℕ → List (List ℕ) → Result OrderForm ℕ
+abbrev pub order_form : List ℕ → ℕ → List (List ℕ) → Result Order ℕ
 order_form verb before fields = do
   account ← at (before + 1) (identifier (field fields (before + 1)))
   ref_no ← at (before + 2) (reference (field fields (before + 2)))
@@ -55,7 +59,7 @@ abbrev pub order_asked : List ℕ → List (List ℕ) → Asked
 order_asked verb fields = order_form verb 0 fields >>= λ order. Ok (Request.Order order)
 
 -- the order behind so many fields, of which the last is its verb
-abbrev pub carried_order : ℕ → List (List ℕ) → Result OrderForm ℕ
+abbrev pub carried_order : ℕ → List (List ℕ) → Result Order ℕ
 carried_order before fields = order_form (field fields before) before fields
 
 -- a verb with lead fields, the last of them an order verb: the number of fields counts only where that verb is known

@@ -4,7 +4,7 @@ use Rattle.std.specs.Prelude.{ℕ, List, length, if◌then◌else◌, ◌==◌, 
 use Rattle.fund_calendar.specs.DayText.{read_day}
 use Rattle.agent_events.specs.Fields.{bearer, corrected_rate, dealer_key, dividend_rate, holidays, household_key, identifier, identifier_or_none, label, moment, nav, reference, time, window, zone}
 use Rattle.agent_events.specs.Forms.{at, class_form, field, sheet_form, ◌>>=◌}
-use Rattle.agent_events.specs.Requests.{Request}
+use Rattle.agent_events.specs.declared.request.Request.{Request}
 
 -- what the fields ask, or the place of the first that isn't in its form
 abbrev pub Asked : Type 0

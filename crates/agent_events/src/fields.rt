@@ -1,6 +1,6 @@
-ghost use Rattle.std.specs.Prelude.{◌≡◌, ◌≤◌, SomeIff};
+ghost use Rattle.std.specs.Prelude.{◌≡◌, ◌≤◌, ◌<◌, SomeIff};
 
-use money_units::Cents;
+use money_units::{Cents, Mils};
 use std::marker::Model;
 
 /// The number of a calendar, class, fund, dealer, household or account: 1 to 4,294,967,295.
@@ -160,5 +160,204 @@ impl Minimum {
         ensures most { result ≤ 1000000000000 }
     {
         self.cents
+    }
+}
+
+/// The mils that an order asks for: 1 to 10^12.
+#[derive(Clone, Copy, Debug, PartialEq, Eq, PartialOrd, Ord, Hash)]
+pub struct Quantity {
+    mils: u64,
+}
+
+impl Model for Quantity {
+    ghost use Rattle.std.specs.Prelude.{ℕ, ◌≤◌};
+
+    ghost Value = { ℕ };
+
+    ghost view = { λ quantity. quantity.mils };
+
+    ghost invariant = { λ quantity. (1 ≤ quantity.mils) × (quantity.mils ≤ 1000000000000) };
+
+    ghost inverse = { λ n. record { mils = n } };
+}
+
+impl Quantity {
+    /// `None` exactly outside 1 to 10^12 mils.
+    pub fn new(quantity: Mils) -> Option<Quantity>
+        ensures { SomeIff result ((1 ≤ quantity) × (quantity ≤ 1000000000000)) quantity }
+    {
+        if (1..=1_000_000_000_000).contains(&quantity.0) {
+            Some(Quantity { mils: quantity.0 })
+        } else {
+            None
+        }
+    }
+
+    /// The mils, which are in range.
+    pub fn mils(&self) -> u64
+        ensures value { result ≡ self.now }
+        ensures least { 1 ≤ result }
+        ensures most { result ≤ 1000000000000 }
+    {
+        self.mils
+    }
+}
+
+/// The rate of a dividend in millionths of a dollar per share: 1 to 10^9.
+#[derive(Clone, Copy, Debug, PartialEq, Eq, PartialOrd, Ord, Hash)]
+pub struct DividendRate {
+    millionths: u64,
+}
+
+impl Model for DividendRate {
+    ghost use Rattle.std.specs.Prelude.{ℕ, ◌≤◌};
+
+    ghost Value = { ℕ };
+
+    ghost view = { λ rate. rate.millionths };
+
+    ghost invariant = { λ rate. (1 ≤ rate.millionths) × (rate.millionths ≤ 1000000000) };
+
+    ghost inverse = { λ n. record { millionths = n } };
+}
+
+impl DividendRate {
+    /// `None` exactly outside 1 to 10^9 millionths of a dollar.
+    pub fn new(millionths: u64) -> Option<DividendRate>
+        ensures { SomeIff result ((1 ≤ millionths) × (millionths ≤ 1000000000)) millionths }
+    {
+        if (1..=1_000_000_000).contains(&millionths) {
+            Some(DividendRate { millionths })
+        } else {
+            None
+        }
+    }
+
+    /// The millionths of a dollar, which are in range.
+    pub fn millionths(&self) -> u64
+        ensures value { result ≡ self.now }
+        ensures least { 1 ≤ result }
+        ensures most { result ≤ 1000000000 }
+    {
+        self.millionths
+    }
+}
+
+/// The rate of a dividend as it is corrected, in millionths of a dollar per share: 0 for no dividend, to 10^9.
+#[derive(Clone, Copy, Debug, PartialEq, Eq, PartialOrd, Ord, Hash)]
+pub struct CorrectedRate {
+    millionths: u64,
+}
+
+impl Model for CorrectedRate {
+    ghost use Rattle.std.specs.Prelude.{ℕ, ◌≤◌};
+
+    ghost Value = { ℕ };
+
+    ghost view = { λ rate. rate.millionths };
+
+    ghost invariant = { λ rate. rate.millionths ≤ 1000000000 };
+
+    ghost inverse = { λ n. record { millionths = n } };
+}
+
+impl CorrectedRate {
+    /// `None` exactly past 10^9 millionths of a dollar.
+    pub fn new(millionths: u64) -> Option<CorrectedRate>
+        ensures { SomeIff result (millionths ≤ 1000000000) millionths }
+    {
+        if millionths <= 1_000_000_000 {
+            Some(CorrectedRate { millionths })
+        } else {
+            None
+        }
+    }
+
+    /// The millionths of a dollar, which are in range.
+    pub fn millionths(&self) -> u64
+        ensures value { result ≡ self.now }
+        ensures most { result ≤ 1000000000 }
+    {
+        self.millionths
+    }
+}
+
+/// A time of day in minutes after midnight: 0 to 1439.
+#[derive(Clone, Copy, Debug, PartialEq, Eq, PartialOrd, Ord, Hash)]
+pub struct TimeOfDay {
+    minutes: u16,
+}
+
+impl Model for TimeOfDay {
+    ghost use Rattle.std.specs.Prelude.{ℕ, ◌<◌};
+
+    ghost Value = { ℕ };
+
+    ghost view = { λ time. time.minutes };
+
+    ghost invariant = { λ time. time.minutes < 1440 };
+
+    ghost inverse = { λ n. record { minutes = n } };
+}
+
+impl TimeOfDay {
+    /// `None` exactly past 23:59.
+    pub fn new(minutes: u16) -> Option<TimeOfDay>
+        ensures { SomeIff result (minutes < 1440) minutes }
+    {
+        if minutes < 1_440 {
+            Some(TimeOfDay { minutes })
+        } else {
+            None
+        }
+    }
+
+    /// The minutes after midnight.
+    pub fn minutes(&self) -> u16
+        ensures value { result ≡ self.now }
+        ensures most { result < 1440 }
+    {
+        self.minutes
+    }
+}
+
+/// How many seconds after a pricing moment a dealer's lines for it may come: 0 to 86,400.
+#[derive(Clone, Copy, Debug, PartialEq, Eq, PartialOrd, Ord, Hash)]
+pub struct Window {
+    seconds: u32,
+}
+
+impl Model for Window {
+    ghost use Rattle.std.specs.Prelude.{ℕ, ◌≤◌};
+
+    ghost Value = { ℕ };
+
+    ghost view = { λ window. window.seconds };
+
+    ghost invariant = { λ window. window.seconds ≤ 86400 };
+
+    ghost inverse = { λ n. record { seconds = n } };
+}
+
+impl Window {
+    /// `None` exactly past a day.
+    pub fn new(seconds: u64) -> Option<Window>
+        ensures { SomeIff result (seconds ≤ 86400) seconds }
+    {
+        if seconds <= 86_400 {
+            Some(Window {
+                seconds: seconds as u32,
+            })
+        } else {
+            None
+        }
+    }
+
+    /// The seconds, at most a day.
+    pub fn seconds(&self) -> u32
+        ensures value { result ≡ self.now }
+        ensures most { result ≤ 86400 }
+    {
+        self.seconds
     }
 }

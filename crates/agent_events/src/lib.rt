@@ -1,5 +1,5 @@
 //! What comes to the register and what it answers and keeps: requests, orders, events, replies and refusals, each
-//! value in its range by its type, and the items of a script.
+//! value in its form and range by its type, the rows of accounts, orders and rates, and the items of a script.
 //!
 //! The forms of the verbs and the texts of the replies are definitions in specs/: the crates that read requests and
 //! print replies are proved to follow them.
@@ -9,14 +9,32 @@ mod event;
 mod fields;
 mod item;
 mod lists;
+mod order;
 mod reply;
+mod reply_lists;
 mod request;
+mod rows;
 #[cfg(test)]
 mod tests;
+mod texts;
 
-pub use crate::event::{Event, EventKind, OrderEvent, Source};
-pub use crate::fields::{Amount, Identifier, Minimum, Reference};
+pub use crate::event::{Event, EventKind, Placed, Source};
+pub use crate::fields::{
+    Amount, CorrectedRate, DividendRate, Identifier, Minimum, Quantity, Reference, TimeOfDay,
+    Window,
+};
 pub use crate::item::{Ask, Item, Items, KeyText};
-pub use crate::lists::{PositionText, Positions, SheetPrices};
-pub use crate::reply::{Accepted, Refusal, Reply, Shown};
-pub use crate::request::{Buy, ClassForm, Order, Request, SheetForm};
+pub use crate::lists::{Days, FrontBrackets, Holidays, RisingPrices, SheetPrices};
+pub use crate::order::{Bearer, Body, Order, OrderRow, Party, Standing};
+pub use crate::reply::{BooksReply, OrderReply, OrderState, Refusal, Reply, TraceReply};
+pub use crate::reply_lists::{
+    BooksOfClasses, BooksOfDealers, ClassBooks, ClassGain, ClassGains, DealerBooks, PositionText,
+    Positions,
+};
+pub use crate::request::{
+    AccountForm, CalendarForm, CancelForm, ClassForm, CloseForm, DealerForm, DividendForm,
+    EntryForm, FixPriceForm, FixRateForm, HouseholdForm, LineForm, Request, SheetForm,
+    StatementForm, TraceForm, VoidForm,
+};
+pub use crate::rows::{AccountRow, RateRow, Rates};
+pub use crate::texts::{DealerKey, HouseholdKey, Name, ZoneText};

@@ -1,9 +1,9 @@
 //! The forms of single fields: a value, exactly where the text is in the form.
-ghost use Rattle.std.specs.Prelude.{◌≡◌, ◌≤◌, ◌-◌, ◌==◌, ◌&&◌, not, length, slice_index, bytes_eq, IfOk};
-ghost use Rattle.std.specs.List.{list_all, before_first, after_first, position_or_len};
+ghost use Rattle.std.specs.Prelude.{◌≡◌, bytes_eq, IfOk};
+ghost use Rattle.std.specs.List.{before_first, after_first, position_or_len};
 ghost use Rattle.agent_events.specs.Fields as form;
 
-use agent_events::{Amount, Identifier, Minimum, Reference};
+use agent_events::{Amount, Identifier, Minimum, Name, Reference};
 use class_terms::{Bracket, Label};
 use money_units::{Bps, Moment, Nav, NoMemory, read_cents, read_number};
 use std::alloc::Global;
@@ -64,7 +64,7 @@ pub(crate) fn nav_of(text: &[u8]) -> Option<Nav>
 
 /// A rate in basis points.
 pub(crate) fn rate_of(text: &[u8]) -> Option<Bps>
-    ensures { result ≡ form.rate text.now }
+    ensures { result ≡ form.basis_points text.now }
 {
     let number = read_number(text).ok()?;
     if number <= 65_535 {
@@ -94,42 +94,12 @@ pub(crate) fn same_bytes(a: &[u8], b: &[u8]) -> bool
     a == b
 }
 
-fn is_label(text: &[u8]) -> bool
-    ensures { result ≡ form.is_label text.now }
-{
-    1 <= text.len() && text.len() <= 40 && all_printable(text) && has_no_outer_space(text)
-}
-
-fn all_printable(text: &[u8]) -> bool
-    ensures { result ≡ list_all form.is_printable text.now }
-{
-    text.iter().all(|byte| is_printable(*byte))
-}
-
-// A byte from space to tilde.
-fn is_printable(byte: u8) -> bool
-    ensures { result ≡ form.is_printable byte }
-{
-    32 <= byte && byte <= 126
-}
-
-// Whether neither the first nor the last byte is a space.
-fn has_no_outer_space(text: &[u8]) -> bool
-    requires { 1 ≤ length text.now }
-    ensures { result ≡ (not (slice_index text.now 0 == 32) && not (slice_index text.now (length text.now - 1) == 32)) }
-{
-    text[0] != b' ' && text[text.len() - 1] != b' '
-}
-
 /// A name of 1 to 40 printable bytes, the first and the last no space.
-pub(crate) fn label_of(alloc: Global, text: &[u8]) -> Result<Option<Label>, NoMemory>
-    ensures { IfOk result (λ label. label ≡ form.label text.now) }
+pub(crate) fn name_of(alloc: Global, text: &[u8]) -> Result<Option<Name>, NoMemory>
+    ensures { IfOk result (λ name. name ≡ form.label text.now) }
 {
-    if is_label(text) {
-        Ok(Some(label_text(alloc, text)?))
-    } else {
-        Ok(None)
-    }
+    let label = label_text(alloc, text)?;
+    Ok(Name::new(label))
 }
 
 fn label_text(alloc: Global, text: &[u8]) -> Result<Label, NoMemory>

@@ -5,6 +5,7 @@ mod fault;
 mod field_forms;
 mod list_forms;
 mod reply_lines;
+mod reply_texts;
 mod rows;
 mod script;
 #[cfg(test)]

@@ -4,9 +4,9 @@ ghost use Rattle.std.specs.List.{slice_split};
 ghost use Rattle.agent_events.specs.Fields as form;
 
 use crate::field_forms::{bracket_of, price_of, rate_of};
-use agent_events::SheetPrices;
+use agent_events::{FrontBrackets, RisingPrices, SheetPrices};
 use class_terms::{Brackets, Schedule};
-use money_units::{Nav, NoMemory};
+use money_units::NoMemory;
 use std::alloc::{AllocError, Global};
 
 // The items of a list; the empty text is the empty list.
@@ -26,8 +26,17 @@ fn space_parts(alloc: Global, text: &[u8]) -> Result<Vec<&[u8]>, AllocError>
 }
 
 /// A table of front-end loads.
-pub(crate) fn brackets_of(alloc: Global, text: &[u8]) -> Result<Option<Brackets>, NoMemory>
+pub(crate) fn brackets_of(alloc: Global, text: &[u8]) -> Result<Option<FrontBrackets>, NoMemory>
     ensures { IfOk result (λ brackets. brackets ≡ form.brackets text.now) }
+{
+    let Some(rows) = listed_brackets(alloc, text)? else {
+        return Ok(None);
+    };
+    Ok(FrontBrackets::new(rows))
+}
+
+fn listed_brackets(alloc: Global, text: &[u8]) -> Result<Option<Brackets>, NoMemory>
+    ensures { IfOk result (λ brackets. brackets ≡ form.each form.bracket (form.list_items text.now)) }
 {
     let items = list_items(alloc, text)?;
     let mut brackets = Brackets::new(alloc);
@@ -56,17 +65,13 @@ pub(crate) fn rates_of(alloc: Global, text: &[u8]) -> Result<Option<Schedule>, N
 }
 
 /// The list of a sheet, by strictly rising class.
-pub(crate) fn prices_of(alloc: Global, text: &[u8]) -> Result<Option<SheetPrices>, NoMemory>
+pub(crate) fn prices_of(alloc: Global, text: &[u8]) -> Result<Option<RisingPrices>, NoMemory>
     ensures { IfOk result (λ prices. prices ≡ form.prices text.now) }
 {
     let Some(prices) = listed_prices(alloc, text)? else {
         return Ok(None);
     };
-    if is_rising(prices.as_slice()) {
-        Ok(Some(prices))
-    } else {
-        Ok(None)
-    }
+    Ok(RisingPrices::new(prices))
 }
 
 fn listed_prices(alloc: Global, text: &[u8]) -> Result<Option<SheetPrices>, NoMemory>
@@ -81,16 +86,4 @@ fn listed_prices(alloc: Global, text: &[u8]) -> Result<Option<SheetPrices>, NoMe
         prices.push(price)?;
     }
     Ok(Some(prices))
-}
-
-// Whether each class number is greater than the one before.
-fn is_rising(prices: &[(u32, Nav)]) -> bool
-    ensures { result ≡ form.is_rising prices.now }
-{
-    for i in 1..prices.len() {
-        if prices[i].0 <= prices[i - 1].0 {
-            return false;
-        }
-    }
-    true
 }

@@ -7,16 +7,15 @@ ghost use Rattle.agent_http.specs.Reading.{Gives};
 
 use crate::fault::FormFault;
 use crate::field_forms::{
-    amount_of, flag_of, identifier_of, identifier_or_none_of, label_of, minimum_of, moment_of,
+    amount_of, flag_of, identifier_of, identifier_or_none_of, minimum_of, moment_of, name_of,
     reference_of, same_bytes,
 };
 use crate::list_forms::{brackets_of, prices_of, rates_of};
 use agent_events::{
-    Amount, Ask, Buy, ClassForm, Identifier, Minimum, Order, Reference, Request, SheetForm,
-    SheetPrices,
+    Ask, Body, ClassForm, FrontBrackets, Identifier, Minimum, Name, Order, Request, SheetForm,
 };
-use class_terms::{Brackets, Label, Schedule};
-use money_units::{Moment, NoMemory};
+use class_terms::Schedule;
+use money_units::NoMemory;
 use std::alloc::Global;
 
 // The field at this place, from 1; past the last it is empty.
@@ -44,13 +43,13 @@ fn at<T>(place: u8, value: Option<T>) -> Result<T, FormFault>
 fn class_names(
     alloc: Global,
     fields: &[Vec<u8>],
-) -> Result<(Identifier, Identifier, Identifier, Label, u32), FormFault>
+) -> Result<(Identifier, Identifier, Identifier, Name, u32), FormFault>
     ensures { Gives result (form.class_names (map (λ text. text.items) fields.now)) }
 {
     let class = at(1, identifier_of(field(fields, 1)))?;
     let calendar = at(2, identifier_of(field(fields, 2)))?;
     let fund = at(3, identifier_of(field(fields, 3)))?;
-    let name = at(4, label_of(alloc, field(fields, 4))?)?;
+    let name = at(4, name_of(alloc, field(fields, 4))?)?;
     let family = at(5, identifier_or_none_of(field(fields, 5)))?;
     Ok((class, calendar, fund, name, family))
 }
@@ -59,7 +58,7 @@ fn class_names(
 fn class_loads(
     alloc: Global,
     fields: &[Vec<u8>],
-) -> Result<(bool, Minimum, Minimum, Brackets, Schedule), FormFault>
+) -> Result<(bool, Minimum, Minimum, FrontBrackets, Schedule), FormFault>
     ensures { Gives result (form.class_loads (map (λ text. text.items) fields.now)) }
 {
     let counts = at(6, flag_of(field(fields, 6)))?;
@@ -105,18 +104,17 @@ fn sheet_form(alloc: Global, fields: &[Vec<u8>]) -> Result<SheetForm, FormFault>
 }
 
 #[tactic(auto, unfolding(agent_events::specs::Forms::buy_form))]
-fn buy_form(fields: &[Vec<u8>]) -> Result<Buy, FormFault>
+fn buy_form(fields: &[Vec<u8>]) -> Result<Order, FormFault>
     ensures { Gives result (form.buy_form (map (λ text. text.items) fields.now)) }
 {
     let account = at(1, identifier_of(field(fields, 1)))?;
     let ref_no = at(2, reference_of(field(fields, 2)))?;
     let class = at(3, identifier_of(field(fields, 3)))?;
     let gross = at(4, amount_of(field(fields, 4)))?;
-    Ok(Buy {
+    Ok(Order {
         account,
         ref_no,
-        class,
-        gross,
+        body: Body::Buy { class, gross },
     })
 }
 
@@ -135,7 +133,7 @@ fn sheet_request(alloc: Global, fields: &[Vec<u8>]) -> Result<Request, FormFault
 fn buy_request(fields: &[Vec<u8>]) -> Result<Request, FormFault>
     ensures { Gives result (form.buy_request (map (λ text. text.items) fields.now)) }
 {
-    Ok(Request::Order(Order::Buy(buy_form(fields)?)))
+    Ok(Request::Order(buy_form(fields)?))
 }
 
 fn show_request(fields: &[Vec<u8>]) -> Result<Request, FormFault>

@@ -1,35 +1,55 @@
 -- What one more event changes in what the journal says.
-use Rattle.std.proofs.Common.{◌≡◌, ◌≤◌, ◌<◌, ℕ, ℤ, pos, List, [], ◌∷◌, ◌++◌, length, length-append, sym, ap, ◌∙◌, append-nil, append_assoc, arith, refl, true, false, cond, ◌==◌, ◌&&◌, not, fold, Bool, Option, Some, None, inl, inr, zero, suc, AllPairs}
-use Rattle.std.specs.List.{list_all, list_any, cons_option}
+use Rattle.std.proofs.Common.{◌≡◌, ◌≤◌, ℕ, ℤ, pos, List, [], ◌∷◌, ◌++◌, length, length-append, sym, ap, ◌∙◌, append-nil, append_assoc, arith, refl, true, ◌==◌, ◌&&◌, fold, Some, None, option_map, inl, inr}
+use Rattle.std.specs.List.{list_all, cons_option}
 use Rattle.std.proofs.lemmas.Bool.{or_cases, and_parts, eqb-true}
 use Rattle.std.proofs.lemmas.List.Elements.{filter_map-append}
 use Rattle.std.proofs.lemmas.List.Sums.{fold-append}
-use Rattle.agent_events.specs.declared.event.Event.{Event}
 use Rattle.agent_events.specs.declared.event.EventKind.{EventKind}
 use Rattle.agent_events.specs.declared.event.EventKind.TheVariants as kind
-use Rattle.agent_events.specs.declared.event.OrderEvent.{OrderEvent}
+use Rattle.agent_events.specs.declared.event.Placed.{Placed}
 use Rattle.agent_events.specs.declared.request.ClassForm.{ClassForm}
 use Rattle.agent_events.specs.declared.request.SheetForm.{SheetForm}
+use Rattle.agent_events.specs.Events.{Event, fits_row}
 use Rattle.forward_price.specs.declared.price_sheet.Opening.{Opening}
 use Rattle.forward_price.specs.declared.price_sheet.Sheet.{Sheet}
-use Rattle.forward_price.specs.Choices.{best, considered}
+use Rattle.forward_price.specs.Choices.{considered}
 use Rattle.forward_price.specs.PriceTables.{Table, with_class, with_published, class_opened}
 use Rattle.forward_price.specs.Sheets.{lists_class}
 use Rattle.forward_price.specs.Turns.{expected_of, is_awaited, is_sooner, pricing_pairs, IsRising}
-use Rattle.register_machine.specs.Journal.{Journal, table_by, table_after, first_table, table_of, opening_by, opening_of, opened}
-use Rattle.register_machine.specs.Answer.{event_at, lists_open}
+use Rattle.register_machine.specs.Journals.{Journal, class_in}
+use Rattle.register_machine.specs.Pricing.{table_after, table_behind, table_by}
+use Rattle.register_machine.specs.Journal.{first_table, table_of, opening_at, opening_of, opened}
+use Rattle.register_machine.specs.Answer.{event_at, is_built_class, is_no_load, lists_open}
 
--- the table behind one more event
+-- the table behind no event, and behind one more
+pub table-none : table_of [] ≡ first_table
+unfolding table_behind
+table-none = refl
+
 pub table-more : (journal : Journal) (event : Event) → table_of (journal ++ event ∷ []) ≡ table_by (table_of journal) event.moment event.kind
+unfolding table_behind
 table-more journal event = fold-append table_after first_table journal (event ∷ [])
 
 -- one event more brings its class to the table and to those that are open
-by-kind : (t : Table) (moment : ℕ) (what : EventKind) (more : List Opening) (after : Table) → after.classes ≡ (table_by t moment what).classes ++ more → after.classes ≡ t.classes ++ cons_option (opening_by moment what) more
-by-kind t moment (kind.Class form) more after e = e ∙ append_assoc t.classes (record { class = form.class; calendar = form.calendar; opened = pos moment } ∷ []) more
-by-kind t moment (kind.Order order) more after e = e
+by-kind : (t : Table) (moment : ℕ) (what : EventKind) (more : List Opening) (after : Table) → after.classes ≡ (table_by t moment what).classes ++ more → after.classes ≡ t.classes ++ cons_option (option_map (opening_at moment) (class_in what)) more
+by-kind t moment (kind.Class form) more after e = e ∙ append_assoc t.classes (opening_at moment form ∷ []) more
+by-kind t moment (kind.Calendar form) more after e = e
+by-kind t moment (kind.Close form) more after e = e
+by-kind t moment (kind.Dealer form) more after e = e
+by-kind t moment (kind.Household form) more after e = e
+by-kind t moment (kind.Account form) more after e = e
+by-kind t moment (kind.Order form) more after e = e
+by-kind t moment (kind.Cancel form) more after e = e
 by-kind t moment (kind.Sheet form) more after e = e
+by-kind t moment (kind.Dividend form) more after e = e
+by-kind t moment (kind.FixPrice form) more after e = e
+by-kind t moment (kind.FixRate form) more after e = e
+by-kind t moment (kind.Enter form) more after e = e
+by-kind t moment (kind.Replace form) more after e = e
+by-kind t moment (kind.Void form) more after e = e
 
 one-more : (t : Table) (event : Event) (more : List Opening) (after : Table) → after.classes ≡ (table_after t event).classes ++ more → after.classes ≡ t.classes ++ cons_option (opening_of event) more
+unfolding opening_of
 one-more t event more after e = by-kind t event.moment event.kind more after e
 
 -- the classes of the table are those that the journal opened
@@ -38,15 +58,19 @@ classes-from t [] = sym (append-nil t.classes)
 classes-from t (event ∷ rest) = one-more t event (opened rest) (fold table_after (table_after t event) rest) (classes-from (table_after t event) rest)
 
 pub classes-opened : (journal : Journal) → (table_of journal).classes ≡ opened journal
+unfolding table_behind
 classes-opened journal = classes-from first_table journal
 
 pub opened-class : (journal : Journal) (now : ℕ) (form : ClassForm) → opened (journal ++ event_at now (kind.Class form) ∷ []) ≡ opened journal ++ record { class = form.class; calendar = form.calendar; opened = pos now } ∷ []
+unfolding opening_of
 opened-class journal now form = filter_map-append opening_of journal (event_at now (kind.Class form) ∷ [])
 
-pub opened-order : (journal : Journal) (now : ℕ) (placed : OrderEvent) → opened (journal ++ event_at now (kind.Order placed) ∷ []) ≡ opened journal
+pub opened-order : (journal : Journal) (now : ℕ) (placed : Placed) → opened (journal ++ event_at now (kind.Order placed) ∷ []) ≡ opened journal
+unfolding opening_of
 opened-order journal now placed = filter_map-append opening_of journal (event_at now (kind.Order placed) ∷ []) ∙ append-nil (opened journal)
 
 pub opened-sheet : (journal : Journal) (now : ℕ) (form : SheetForm) → opened (journal ++ event_at now (kind.Sheet form) ∷ []) ≡ opened journal
+unfolding opening_of
 opened-sheet journal now form = filter_map-append opening_of journal (event_at now (kind.Sheet form) ∷ []) ∙ append-nil (opened journal)
 
 -- a table that says what the journal says, with at most one class
@@ -60,7 +84,7 @@ kept-class table after journal longer now class calendar form kept none named of
       omega (arith, ap length says, length-append (opened journal) (record { class = form.class; calendar = form.calendar; opened = pos now } ∷ [])),
     )
 
-pub kept-order : (table : Table) (journal longer : Journal) (now : ℕ) (placed : OrderEvent) → IsTableOf table journal → longer ≡ journal ++ event_at now (kind.Order placed) ∷ [] → IsTableOf table longer
+pub kept-order : (table : Table) (journal longer : Journal) (now : ℕ) (placed : Placed) → IsTableOf table journal → longer ≡ journal ++ event_at now (kind.Order placed) ∷ [] → IsTableOf table longer
 kept-order table journal longer now placed kept appended =
     (kept.0 ∙ sym (ap table_of appended ∙ table-more journal (event_at now (kind.Order placed))), omega (arith, ap length (ap opened appended ∙ opened-order journal now placed), kept.1))
 
@@ -102,3 +126,17 @@ listed-one classes prices one listed =
 -- and a list of one price rises
 pub one-rises : (prices : List (ℕ × ℕ)) → length prices ≡ 1 → IsRising prices
 one-rises prices one = λ i j d lt short. absurd (omega arith)
+
+-- a class that is built, and a list of one price, fit a stored row
+pub built-fits : (form : ClassForm) → is_built_class form ≡ true → fits_row (kind.Class form) ≡ true
+built-fits form built =
+    let family = and_parts (form.family == 0) (form.first_min == 1 && (form.later_min == 1 && (is_no_load form.front && length form.deferred == 0))) built in
+    let first = and_parts (form.first_min == 1) (form.later_min == 1 && (is_no_load form.front && length form.deferred == 0)) family.1 in
+    let later = and_parts (form.later_min == 1) (is_no_load form.front && length form.deferred == 0) first.1 in
+    let loads = and_parts (is_no_load form.front) (length form.deferred == 0) later.1 in
+    let front = eqb-true (length form.front) 1 (and_parts (length form.front == 1) _ loads.0).0 in
+    let deferred = eqb-true (length form.deferred) 0 loads.1 in
+    rw (front, deferred) refl
+
+pub one-fits : (form : SheetForm) → length form.prices ≡ 1 → fits_row (kind.Sheet form) ≡ true
+one-fits form one = rw one refl

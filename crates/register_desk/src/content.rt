@@ -1,9 +1,9 @@
 //! Equal content: whether what was sent is what was sent before.
 ghost use Rattle.std.specs.Prelude.{◌≡◌, nat_eq, bytes_eq};
 ghost use Rattle.std.specs.Cmp.Lexicographic.{pointwise};
-ghost use Rattle.agent_events.specs.Content.{same_flag, same_bracket, same_class_names, same_class_loads, same_class, same_price, same_prices, same_buy, same_order};
+ghost use Rattle.agent_events.specs.Content.{same_flag, same_bracket, same_class_names, same_class_loads, same_class, same_price, same_prices};
 
-use agent_events::{Buy, ClassForm, Order};
+use agent_events::ClassForm;
 use class_terms::Bracket;
 use money_units::{Bps, Nav};
 
@@ -63,22 +63,4 @@ pub fn same_class(a: &ClassForm, b: &ClassForm) -> bool
     ensures { result ≡ same_class a.now b.now }
 {
     same_class_names(a, b) && same_class_loads(a, b)
-}
-
-fn same_buy(a: &Buy, b: &Buy) -> bool
-    ensures { result ≡ same_buy a.now b.now }
-{
-    a.account.number() == b.account.number()
-        && a.ref_no.number() == b.ref_no.number()
-        && a.class.number() == b.class.number()
-        && a.gross.cents() == b.gross.cents()
-}
-
-/// Whether two orders were sent with the same content.
-pub fn same_order(a: &Order, b: &Order) -> bool
-    ensures { result ≡ same_order a.now b.now }
-{
-    match (a, b) {
-        (Order::Buy(a), Order::Buy(b)) => same_buy(a, b),
-    }
 }

@@ -1,29 +1,49 @@
 //! Copies of what a request holds, for the journal.
 ghost use Rattle.std.specs.Prelude.{◌≡◌, IfOk};
 
-use agent_events::{ClassForm, SheetForm, SheetPrices};
-use class_terms::{Brackets, Label, Schedule};
-use money_units::NoMemory;
+use agent_events::{ClassForm, FrontBrackets, Name, RisingPrices, SheetForm, SheetPrices};
+use class_terms::{Bracket, Brackets, Label, Schedule};
+use money_units::{Nav, NoMemory};
 use std::alloc::Global;
 
-fn copy_label(alloc: Global, label: &Label) -> Result<Label, NoMemory>
-    ensures { IfOk result (λ copy. copy ≡ label.now) }
+fn copy_label(alloc: Global, text: &[u8]) -> Result<Label, NoMemory>
+    ensures { IfOk result (λ copy. copy ≡ text.now) }
 {
     let mut copy = Label::new(alloc);
-    for byte in label.as_slice() {
+    for byte in text {
         copy.push(*byte)?;
     }
     Ok(copy)
 }
 
-fn copy_brackets(alloc: Global, brackets: &Brackets) -> Result<Brackets, NoMemory>
-    ensures { IfOk result (λ copy. copy ≡ brackets.now) }
+fn copy_name(alloc: Global, name: &Name) -> Result<Name, NoMemory>
+    ensures { IfOk result (λ copy. copy ≡ name.now) }
+{
+    let label = copy_label(alloc, name.as_slice())?;
+    match Name::new(label) {
+        Some(copy) => Ok(copy),
+        None => unreachable!(),
+    }
+}
+
+fn copy_rows(alloc: Global, rows: &[Bracket]) -> Result<Brackets, NoMemory>
+    ensures { IfOk result (λ copy. copy ≡ rows.now) }
 {
     let mut copy = Brackets::new(alloc);
-    for row in brackets.as_slice() {
+    for row in rows {
         copy.push(*row)?;
     }
     Ok(copy)
+}
+
+fn copy_front(alloc: Global, front: &FrontBrackets) -> Result<FrontBrackets, NoMemory>
+    ensures { IfOk result (λ copy. copy ≡ front.now) }
+{
+    let rows = copy_rows(alloc, front.as_slice())?;
+    match FrontBrackets::new(rows) {
+        Some(copy) => Ok(copy),
+        None => unreachable!(),
+    }
 }
 
 fn copy_schedule(alloc: Global, schedule: &Schedule) -> Result<Schedule, NoMemory>
@@ -36,14 +56,24 @@ fn copy_schedule(alloc: Global, schedule: &Schedule) -> Result<Schedule, NoMemor
     Ok(copy)
 }
 
-fn copy_prices(alloc: Global, prices: &SheetPrices) -> Result<SheetPrices, NoMemory>
-    ensures { IfOk result (λ copy. copy ≡ prices.now) }
+fn copy_list(alloc: Global, list: &[(u32, Nav)]) -> Result<SheetPrices, NoMemory>
+    ensures { IfOk result (λ copy. copy ≡ list.now) }
 {
     let mut copy = SheetPrices::new(alloc);
-    for price in prices.as_slice() {
+    for price in list {
         copy.push(*price)?;
     }
     Ok(copy)
+}
+
+fn copy_prices(alloc: Global, prices: &RisingPrices) -> Result<RisingPrices, NoMemory>
+    ensures { IfOk result (λ copy. copy ≡ prices.now) }
+{
+    let list = copy_list(alloc, prices.as_slice())?;
+    match RisingPrices::new(list) {
+        Some(copy) => Ok(copy),
+        None => unreachable!(),
+    }
 }
 
 /// A copy of a class's form.
@@ -54,12 +84,12 @@ pub fn copy_class(alloc: Global, form: &ClassForm) -> Result<ClassForm, NoMemory
         class: form.class,
         calendar: form.calendar,
         fund: form.fund,
-        name: copy_label(alloc, &form.name)?,
+        name: copy_name(alloc, &form.name)?,
         family: form.family,
         counts: form.counts,
         first_min: form.first_min,
         later_min: form.later_min,
-        front: copy_brackets(alloc, &form.front)?,
+        front: copy_front(alloc, &form.front)?,
         deferred: copy_schedule(alloc, &form.deferred)?,
     })
 }

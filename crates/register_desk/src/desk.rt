@@ -1,25 +1,24 @@
 //! The desk: the journal, its price book, and the answer to each request.
-ghost use Rattle.std.specs.Prelude.{◌≡◌, ◌==◌, ◌&&◌, not, nat_lt, nat_le, length, find, filter, [], ◌∷◌, ◌++◌, ◌+◌, ◌≤◌, true, pos, Some, None, option_map, IfNone, IfOk, OnOk, OnErr, Ok};
+ghost use Rattle.std.specs.Prelude.{◌≡◌, ◌==◌, ◌&&◌, not, nat_lt, nat_le, length, find, filter, [], ◌∷◌, ◌++◌, ◌+◌, ◌≤◌, true, pos, nat_abs, Some, None, option_map, IfSome, IfNone, IfOk, OnOk, OnErr, Ok};
 ghost use Rattle.std.specs.List.{list_any, list_all, filter_map};
-ghost use Rattle.fund_calendar.specs.PricingDays.{Listing};
+ghost use Rattle.fund_calendar.specs.PricingDays.{IsMoment};
 ghost use Rattle.forward_price.specs.Sheets.{lists_class};
-ghost use Rattle.forward_price.specs.Turns.{expected_of, wrong_class};
+ghost use Rattle.forward_price.specs.Turns.{NamesMoment, expected_of, wrong_class};
 ghost use Rattle.agent_events.specs.declared.reply.Reply.TheVariants as reply;
-ghost use Rattle.agent_events.specs.Content.{order_account, order_ref};
 ghost use Rattle.agent_events.specs.declared.event.EventKind.TheVariants as kind;
-ghost use Rattle.register_machine.specs.Journal.{last_moment, first_calendar, table_of, opening_of, opened, orders, sheets};
+ghost use Rattle.register_machine.specs.Journal.{last_moment, first_calendar, table_of, opening_of, opened, purchases, sheets};
 ghost use Rattle.register_machine.specs.Replay.{replay, positions_of};
-ghost use Rattle.register_machine.specs.Answer.{kept, event_at, repeats_class, is_no_load, has_calendar, is_built_class, class_answer, has_reference, first_order, orders_of, is_open_class, is_built_order, order_reply, told, due_now, new_order_answer, buy_answer, is_same_sheet, lists_open, is_built_sheet, fault_now, turn_answer, sheet_answer, show_answer, answer};
+ghost use Rattle.register_machine.specs.Answer.{kept, event_at, repeats_class, is_no_load, has_calendar, is_built_class, class_answer, has_reference, first_purchase, same_buy, purchases_of, is_open_class, order_of, is_built_purchase, purchase_reply, due_now, new_purchase_answer, buy_answer, order_answer, is_same_sheet, lists_open, is_built_sheet, fault_now, turn_answer, sheet_answer, show_answer, answer};
 
-use crate::content::{same_class, same_order, same_prices};
+use crate::content::{same_class, same_prices};
 use crate::copies::{copy_class, copy_sheet};
-use crate::register;
+use crate::register::{self, Buy, Purchase};
 use agent_events::{
-    Accepted, Buy, ClassForm, Event, EventKind, Identifier, Order, OrderEvent, Positions,
-    Reference, Refusal, Reply, Request, SheetForm, Shown, Source,
+    Body, ClassForm, Event, EventKind, Identifier, Order, OrderReply, Placed, Positions, Refusal,
+    Reply, Request, SheetForm, Source,
 };
 use class_terms::Bracket;
-use forward_price::{Opening, PriceBook, PublishFault, Sheet};
+use forward_price::{PriceBook, PublishFault, Sheet, lists_class};
 use fund_calendar::{Calendar, Day};
 use money_units::{Moment, Nav, NoMemory};
 use std::alloc::Global;
@@ -41,7 +40,8 @@ pub struct Desk {
 
 impl Model for Desk {
     ghost use Rattle.std.specs.Prelude.{◌≡◌, ◌≤◌, length};
-    ghost use Rattle.register_machine.specs.Journal.{Journal, table_of, opened};
+    ghost use Rattle.register_machine.specs.Journal.{table_of, opened};
+    ghost use Rattle.register_machine.specs.Journals.{Journal};
 
     ghost Value = { Journal };
 
@@ -57,15 +57,14 @@ fn repeats_class(form: &ClassForm, kind: &EventKind) -> bool
 {
     match kind {
         EventKind::Class(known) => same_class(known, form),
-        EventKind::Order(_) => false,
-        EventKind::Sheet(_) => false,
+        _ => false,
     }
 }
 
 fn is_known_class(events: &[Event], form: &ClassForm) -> bool
     ensures { result ≡ list_any (λ event. repeats_class form.now event.kind) events.now }
 {
-    events.iter().any(|event| repeats_class(form, &event.kind))
+    events.iter().any(|event| repeats_class(form, event.kind()))
 }
 
 fn is_free_row(row: &Bracket) -> bool
@@ -96,45 +95,48 @@ fn is_built_class(form: &ClassForm) -> bool
         && form.deferred.as_slice().is_empty()
 }
 
-fn account_of(order: &Order) -> u32
-    ensures { result ≡ order_account order.now }
+fn has_reference(account: u32, ref_no: u64, known: &Purchase) -> bool
+    ensures { result ≡ has_reference account ref_no known.now }
 {
-    match order {
-        Order::Buy(buy) => buy.account.number(),
-    }
+    known.buy.account.number() == account && known.buy.ref_no.number() == ref_no
 }
 
-fn ref_of(order: &Order) -> u64
-    ensures { result ≡ order_ref order.now }
-{
-    match order {
-        Order::Buy(buy) => buy.ref_no.number(),
-    }
-}
-
-fn has_reference(account: u32, ref_no: u64, placed: &OrderEvent) -> bool
-    ensures { result ≡ has_reference account ref_no placed.now }
-{
-    account_of(&placed.order) == account && ref_of(&placed.order) == ref_no
-}
-
-fn first_order(events: &[Event], account: u32, ref_no: u64) -> Option<OrderEvent>
-    ensures { result ≡ find (has_reference account ref_no) (orders events.now) }
+fn first_purchase(events: &[Event], account: u32, ref_no: u64) -> Option<Purchase>
+    ensures { result ≡ find (has_reference account ref_no) (purchases events.now) }
 {
     events
         .iter()
-        .filter_map(|event| register::order_of(event))
-        .find(|placed| has_reference(account, ref_no, placed))
+        .filter_map(|event| register::purchase_of(event))
+        .find(|known| has_reference(account, ref_no, known))
 }
 
-fn orders_of(events: &[Event], account: u32) -> usize
-    ensures { result ≡ orders_of events.now account }
+fn same_buy(a: &Buy, b: &Buy) -> bool
+    ensures { result ≡ same_buy a.now b.now }
 {
-    events
-        .iter()
-        .filter_map(|event| register::order_of(event))
-        .filter(|placed| account_of(&placed.order) == account)
-        .count()
+    a.account.number() == b.account.number()
+        && a.ref_no.number() == b.ref_no.number()
+        && a.class.number() == b.class.number()
+        && a.gross.cents() == b.gross.cents()
+}
+
+fn is_of_account(account: u32, known: &Purchase) -> bool
+    ensures { result ≡ (known.now.buy.account == account) }
+{
+    known.buy.account.number() == account
+}
+
+fn purchases_of(events: &[Event], account: u32) -> usize
+    ensures { result ≡ purchases_of events.now account }
+{
+    let mut count = 0;
+    for event in events {
+        if let Some(known) = register::purchase_of(event) {
+            if is_of_account(account, &known) {
+                count += 1;
+            }
+        }
+    }
+    count
 }
 
 fn is_open_class(events: &[Event], class: u32) -> bool
@@ -149,10 +151,13 @@ fn is_open_class(events: &[Event], class: u32) -> bool
 fn classes_of(events: &[Event]) -> usize
     ensures { result ≡ length (opened events.now) }
 {
-    events
-        .iter()
-        .filter_map(|event| register::opening_of(event))
-        .count()
+    let mut count = 0;
+    for event in events {
+        if register::opening_of(event).is_some() {
+            count += 1;
+        }
+    }
+    count
 }
 
 fn is_same_sheet(form: &SheetForm, sheet: &Sheet) -> bool
@@ -161,12 +166,6 @@ fn is_same_sheet(form: &SheetForm, sheet: &Sheet) -> bool
     sheet.calendar == form.calendar.number()
         && sheet.moment == form.moment.seconds()
         && same_prices(sheet.prices.as_slice(), form.prices.as_slice())
-}
-
-fn lists_class(prices: &[(u32, Nav)], class: u32) -> bool
-    ensures { result ≡ lists_class prices.now class }
-{
-    prices.iter().any(|price| price.0 == class)
 }
 
 fn lists_all_open(events: &[Event], prices: &[(u32, Nav)]) -> bool
@@ -194,16 +193,28 @@ fn find_sheet(sheets: &[Sheet], form: &SheetForm) -> Option<u32>
         .map(|sheet| sheet.number)
 }
 
-fn order_reply(placed: &OrderEvent) -> Reply
-    ensures { result ≡ order_reply placed.now }
+fn purchase_reply(purchase: &Purchase) -> Reply
+    ensures { result ≡ purchase_reply purchase.now }
 {
-    match &placed.order {
-        Order::Buy(buy) => Reply::Order(Accepted {
-            account: buy.account,
-            ref_no: buy.ref_no,
-            receipt: placed.receipt,
-            due: placed.due,
-        }),
+    Reply::Order(OrderReply {
+        account: purchase.buy.account,
+        ref_no: purchase.buy.ref_no,
+        receipt: purchase.receipt,
+        due: purchase.due,
+    })
+}
+
+// The purchase as an order.
+fn order_of(buy: &Buy) -> Order
+    ensures { result ≡ order_of buy.now }
+{
+    Order {
+        account: buy.account,
+        ref_no: buy.ref_no,
+        body: Body::Buy {
+            class: buy.class,
+            gross: buy.gross,
+        },
     }
 }
 
@@ -213,13 +224,14 @@ fn refused(refusal: Refusal) -> Result<Reply, NoMemory>
     Ok(Reply::Refused(refusal))
 }
 
-// A moment of the price book as it is told.
-fn told(moment: i64) -> Moment
-    ensures { result ≡ told moment }
+// A moment of the price book.
+fn moment_of(moment: i64) -> Moment
+    requires { IsMoment moment }
+    ensures { result ≡ nat_abs moment }
 {
     match Moment::from_seconds(moment.unsigned_abs()) {
         Some(moment) => moment,
-        None => Moment::start(),
+        None => unreachable!(),
     }
 }
 
@@ -256,6 +268,28 @@ fn positions(
     Ok(positions)
 }
 
+// What the desk appends to its journal.
+
+fn class_event(now: &Moment, form: ClassForm) -> Event
+    requires { is_built_class form ≡ true }
+    ensures { result ≡ event_at now.now (kind.Class form) }
+{
+    Event::new(*now, EventKind::Class(form))
+}
+
+fn sheet_event(now: &Moment, form: SheetForm) -> Event
+    requires { length form.prices ≡ 1 }
+    ensures { result ≡ event_at now.now (kind.Sheet form) }
+{
+    Event::new(*now, EventKind::Sheet(form))
+}
+
+fn order_event(now: &Moment, placed: Placed) -> Event
+    ensures { result ≡ event_at now.now (kind.Order placed) }
+{
+    Event::new(*now, EventKind::Order(placed))
+}
+
 impl Desk {
     /// A desk with an empty journal.
     pub fn new(alloc: Global) -> Result<Desk, NoMemory>
@@ -277,7 +311,7 @@ impl Desk {
         ensures { result ≡ last_moment self.now }
     {
         match self.events.last() {
-            Some(event) => event.moment,
+            Some(event) => event.moment(),
             None => Moment::start(),
         }
     }
@@ -285,6 +319,7 @@ impl Desk {
     // Appends a class to the journal, opened now.
     fn open_class(&mut self, now: &Moment, form: &ClassForm) -> Result<(), NoMemory>
         requires none { length (opened self.old) ≡ 0 }
+        requires built { is_built_class form.now ≡ true }
         requires calendar { has_calendar self.old form.now.calendar ≡ true }
         ensures ok { OnOk result (self.new ≡ self.old ++ event_at now.now (kind.Class form.now) ∷ []) }
         ensures err { OnErr result (self.new ≡ self.old) }
@@ -295,10 +330,7 @@ impl Desk {
         self.events.reserve(1)?;
         self.prices.reserve(1)?;
         self.prices.add_class(class, calendar, now.seconds());
-        self.events.push_reserved(Event {
-            moment: *now,
-            kind: EventKind::Class(form),
-        });
+        self.events.push_reserved(class_event(now, form));
         Ok(())
     }
 
@@ -321,22 +353,16 @@ impl Desk {
         let number = self
             .prices
             .publish(calendar, form.moment.seconds(), form.prices.as_slice());
-        self.events.push_reserved(Event {
-            moment: *now,
-            kind: EventKind::Sheet(form),
-        });
+        self.events.push_reserved(sheet_event(now, form));
         Ok(number)
     }
 
     // Appends an order to the journal, received now.
-    fn place(&mut self, now: &Moment, placed: OrderEvent) -> Result<(), NoMemory>
+    fn place(&mut self, now: &Moment, placed: Placed) -> Result<(), NoMemory>
         ensures ok { OnOk result (self.new ≡ self.old ++ event_at now.now (kind.Order placed) ∷ []) }
         ensures err { OnErr result (self.new ≡ self.old) }
     {
-        self.events.push(Event {
-            moment: *now,
-            kind: EventKind::Order(placed),
-        })?;
+        self.events.push(order_event(now, placed))?;
         Ok(())
     }
 }
@@ -355,10 +381,10 @@ impl Desk {
         classes_of(&self.events) == 0
     }
 
-    fn first_order(&self, order: &Order) -> Option<OrderEvent>
-        ensures { result ≡ first_order self.now order.now }
+    fn first_purchase(&self, buy: &Buy) -> Option<Purchase>
+        ensures { result ≡ first_purchase self.now buy.now }
     {
-        first_order(&self.events, account_of(order), ref_of(order))
+        first_purchase(&self.events, buy.account.number(), buy.ref_no.number())
     }
 
     fn due(&self, now: &Moment, buy: &Buy) -> Option<Moment>
@@ -366,7 +392,7 @@ impl Desk {
     {
         let class = buy.class.number();
         match self.prices.due(&[class], now.seconds()) {
-            Some(moment) => Some(told(moment)),
+            Some(moment) => Some(moment_of(moment)),
             None => None,
         }
     }
@@ -377,12 +403,12 @@ impl Desk {
         self.prices.calendar(number.number()).is_some()
     }
 
-    fn may_place(&self, is_operator: bool, buy: &Buy) -> bool
-        ensures { result ≡ is_built_order self.now is_operator buy.now }
+    fn may_buy(&self, is_operator: bool, buy: &Buy) -> bool
+        ensures { result ≡ is_built_purchase self.now is_operator buy.now }
     {
         is_operator
             && is_open_class(&self.events, buy.class.number())
-            && orders_of(&self.events, buy.account.number()) < MAX_ORDERS
+            && purchases_of(&self.events, buy.account.number()) < MAX_ORDERS
     }
 
     fn known_sheet(&self, form: &SheetForm) -> Option<u32>
@@ -406,6 +432,7 @@ impl Desk {
         ensures in_turn { IfNone result (expected_of (table_of self.now) ≡ Some (pos form.now.moment, form.now.calendar)) }
         ensures complete { IfNone result (wrong_class (table_of self.now).classes form.now.calendar (pos form.now.moment) form.now.prices ≡ None) }
         ensures one_class { IfNone result (length (opened self.now) ≡ 1) }
+        ensures within { IfSome result NamesMoment }
     {
         let calendar = form.calendar.number();
         match self.prices.test(
@@ -445,50 +472,77 @@ impl Desk {
         refused(Refusal::Unbuilt)
     }
 
-    // An order that is no repeat.
-    fn answer_new_order(
+    // A purchase that is no repeat.
+    fn answer_new_purchase(
         &mut self,
         now: &Moment,
         is_operator: bool,
         buy: &Buy,
         is_known: bool,
     ) -> Result<Reply, NoMemory>
-        ensures answered { IfOk result (λ said. kept self.new said ≡ new_order_answer self.old now.now is_operator buy.now (due_now self.old now.now buy.now) is_known) }
+        ensures answered { IfOk result (λ said. kept self.new said ≡ new_purchase_answer self.old now.now is_operator buy.now (due_now self.old now.now buy.now) is_known) }
         ensures err { OnErr result (self.new ≡ self.old) }
     {
         let Some(due) = self.due(now, buy) else {
             return refused(Refusal::Unbuilt);
         };
-        if !self.may_place(is_operator, buy) {
+        if !self.may_buy(is_operator, buy) {
             return refused(Refusal::Unbuilt);
         }
         if is_known {
             return refused(Refusal::RefUsed);
         }
-        let placed = OrderEvent {
-            order: Order::Buy(*buy),
+        let placed = Placed {
+            order: order_of(buy),
             source: Source::Direct,
             receipt: *now,
             due,
         };
         self.place(now, placed)?;
-        Ok(order_reply(&placed))
+        Ok(purchase_reply(&Purchase {
+            buy: *buy,
+            receipt: *now,
+            due,
+        }))
     }
 
     fn answer_buy(&mut self, now: &Moment, is_operator: bool, buy: &Buy) -> Result<Reply, NoMemory>
         ensures answered { IfOk result (λ said. kept self.new said ≡ buy_answer self.old now.now is_operator buy.now) }
         ensures err { OnErr result (self.new ≡ self.old) }
     {
-        let order = Order::Buy(*buy);
-        match self.first_order(&order) {
-            None => self.answer_new_order(now, is_operator, buy, false),
+        match self.first_purchase(buy) {
+            None => self.answer_new_purchase(now, is_operator, buy, false),
             Some(first) => {
-                if same_order(&first.order, &order) {
-                    Ok(order_reply(&first))
+                if same_buy(&first.buy, buy) {
+                    Ok(purchase_reply(&first))
                 } else {
-                    self.answer_new_order(now, is_operator, buy, true)
+                    self.answer_new_purchase(now, is_operator, buy, true)
                 }
             }
+        }
+    }
+
+    // An order; all but purchases aren't built yet.
+    fn answer_order(
+        &mut self,
+        now: &Moment,
+        is_operator: bool,
+        order: &Order,
+    ) -> Result<Reply, NoMemory>
+        ensures answered { IfOk result (λ said. kept self.new said ≡ order_answer self.old now.now is_operator order.now order.now.body) }
+        ensures err { OnErr result (self.new ≡ self.old) }
+    {
+        match order.body {
+            Body::Buy { class, gross } => {
+                let buy = Buy {
+                    account: order.account,
+                    ref_no: order.ref_no,
+                    class,
+                    gross,
+                };
+                self.answer_buy(now, is_operator, &buy)
+            }
+            _ => refused(Refusal::Unbuilt),
         }
     }
 
@@ -504,7 +558,7 @@ impl Desk {
                 Ok(Reply::Sheet(number))
             }
             Some(PublishFault::SheetOutOfTurn(moment, calendar)) => {
-                refused(Refusal::SheetOutOfTurn(told(moment), calendar))
+                refused(Refusal::SheetOutOfTurn(moment_of(moment), calendar))
             }
             Some(PublishFault::SheetIncomplete(_)) => refused(Refusal::Unbuilt),
             Some(PublishFault::TooSoon(_)) => refused(Refusal::Unbuilt),
@@ -536,10 +590,10 @@ impl Desk {
             return refused(Refusal::Unbuilt);
         }
         let positions = positions(self.alloc, &self.events, &self.prices, account)?;
-        Ok(Reply::Show(Shown {
+        Ok(Reply::Show {
             account: *account,
             positions,
-        }))
+        })
     }
 
     /// The answer to a request at this moment, by the operator or by somebody else.
@@ -557,8 +611,9 @@ impl Desk {
         match request {
             Request::Class(form) => self.answer_class(moment, key_is_operator, form),
             Request::Sheet(form) => self.answer_sheet(moment, key_is_operator, form),
-            Request::Order(Order::Buy(buy)) => self.answer_buy(moment, key_is_operator, buy),
+            Request::Order(order) => self.answer_order(moment, key_is_operator, order),
             Request::Show(account) => self.answer_show(key_is_operator, account),
+            _ => refused(Refusal::Unbuilt),
         }
     }
 }

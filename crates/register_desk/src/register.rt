@@ -1,15 +1,15 @@
-//! The register as the replay of the orders over all sheets.
-ghost use Rattle.std.specs.Prelude.{◌≡◌, ℕ, ℤ, ◌+◌, ◌*◌, ◌^◌, ◌<◌, ◌≤◌, ◌∷◌, [], pos, length, map, fold, filter, option_and_then, IfOk, OnOk};
+//! The register as the replay of the purchases over all sheets.
+ghost use Rattle.std.specs.Prelude.{◌≡◌, ℕ, ℤ, ◌+◌, ◌*◌, ◌^◌, ◌<◌, ◌≤◌, ◌∷◌, [], pos, length, map, fold, filter, option_map, option_and_then, IfOk, OnOk};
 ghost use Rattle.std.specs.List.{list_any, filter_map};
-ghost use Rattle.agent_events.specs.Content.{order_classes};
+ghost use Rattle.forward_price.specs.PriceTables.{next_sheet};
 ghost use Rattle.forward_price.specs.Sheets.{nav_on};
-ghost use Rattle.register_machine.specs.Journal.{order_of, opening_of, orders};
+ghost use Rattle.register_machine.specs.Journal.{Buy as buy, Purchase as purchase, purchase_by, purchase_of, opening_of, purchases};
 ghost use Rattle.register_machine.specs.Replay.{Lot as lot, Priced as priced, priced_by, is_on, is_of, mils_in, cost_in, mils_of, cost_of, keeps_ceiling, with_lot, bought_at, execute, day, position_of};
 ghost use Rattle.register_desk.specs.Within.{IsWithin};
 
-use agent_events::{Buy, Event, EventKind, Identifier, Order, OrderEvent, PositionText};
-use forward_price::{Opening, PriceBook, Sheet};
-use money_units::{Bps, Cents, Mils, Nav, NoMemory};
+use agent_events::{Amount, Body, Event, EventKind, Identifier, Placed, PositionText, Reference};
+use forward_price::{Opening, PriceBook, Sheet, nav_on};
+use money_units::{Bps, Cents, Mils, Moment, NoMemory};
 use offering_price::buy_split;
 use std::alloc::Global;
 use std::marker::Model;
@@ -36,10 +36,47 @@ impl Model for Lot {
     ghost view = { λ l. record { account = l.account; class = l.class; mils = l.mils; cost = l.cost } };
 }
 
-/// An order, and the number of the sheet that prices it, once there is one.
+/// A purchase: who buys what for how much, and what the account calls it.
+#[derive(Clone, Copy)]
+pub struct Buy {
+    pub account: Identifier,
+    pub ref_no: Reference,
+    pub class: Identifier,
+    pub gross: Amount,
+}
+
+impl Model for Buy {
+    ghost use Rattle.register_machine.specs.Journal.{Buy as buy};
+
+    ghost Value = { buy };
+
+    ghost view = { λ b. record { account = b.account; ref_no = b.ref_no; class = b.class; gross = b.gross } };
+
+    ghost inverse = { λ b. record { account = b.account; ref_no = b.ref_no; class = b.class; gross = b.gross } };
+}
+
+/// A purchase as it was accepted.
+#[derive(Clone, Copy)]
+pub struct Purchase {
+    pub buy: Buy,
+    pub receipt: Moment,
+    pub due: Moment,
+}
+
+impl Model for Purchase {
+    ghost use Rattle.register_machine.specs.Journal.{Purchase as purchase};
+
+    ghost Value = { purchase };
+
+    ghost view = { λ p. record { buy = p.buy; receipt = p.receipt; due = p.due } };
+
+    ghost inverse = { λ p. record { buy = p.buy; receipt = p.receipt; due = p.due } };
+}
+
+/// A purchase, and the number of the sheet that prices it, once there is one.
 #[derive(Drop)]
 pub struct Priced {
-    order: OrderEvent,
+    purchase: Purchase,
     sheet: Option<u32>,
 }
 
@@ -48,49 +85,65 @@ impl Model for Priced {
 
     ghost Value = { priced };
 
-    ghost view = { λ p. record { order = p.order; sheet = p.sheet } };
+    ghost view = { λ p. record { purchase = p.purchase; sheet = p.sheet } };
 }
 
-/// The order that an event brought, if it brought one.
-pub fn order_of(event: &Event) -> Option<OrderEvent>
-    ensures { result ≡ order_of event.now }
+fn purchase_by(placed: &Placed) -> Option<Purchase>
+    ensures { result ≡ purchase_by placed.now placed.now.order.body }
 {
-    match &event.kind {
-        EventKind::Class(_) => None,
-        EventKind::Order(order) => Some(*order),
-        EventKind::Sheet(_) => None,
+    match placed.order.body {
+        Body::Buy { class, gross } => Some(Purchase {
+            buy: Buy {
+                account: placed.order.account,
+                ref_no: placed.order.ref_no,
+                class,
+                gross,
+            },
+            receipt: placed.receipt,
+            due: placed.due,
+        }),
+        _ => None,
+    }
+}
+
+/// The purchase that an event brought, if it brought one.
+#[tactic(auto, unfolding(register_machine::specs::Journal::purchase_of))]
+pub fn purchase_of(event: &Event) -> Option<Purchase>
+    ensures { result ≡ purchase_of event.now }
+{
+    match event.kind() {
+        EventKind::Order(placed) => purchase_by(placed),
+        _ => None,
     }
 }
 
 /// The class that an event opened, if it opened one.
+#[tactic(auto, unfolding(register_machine::specs::Journal::opening_of))]
 pub fn opening_of(event: &Event) -> Option<Opening>
     ensures { result ≡ opening_of event.now }
 {
-    match &event.kind {
+    match event.kind() {
         EventKind::Class(form) => Some(Opening {
             class: form.class.number(),
             calendar: form.calendar.number(),
-            opened: event.moment.seconds(),
+            opened: event.moment().seconds(),
         }),
-        EventKind::Order(_) => None,
-        EventKind::Sheet(_) => None,
+        _ => None,
     }
 }
 
-fn class_of(order: &Order) -> u32
-    ensures { order_classes order.now ≡ result ∷ [] }
+// The sheet of a purchase of this class received then, once there is one.
+fn sheet_of(prices: &PriceBook, class: u32, receipt: &Moment) -> Option<u32>
+    ensures { result ≡ option_map (λ sheet. sheet.number) (next_sheet prices.now.table.sheets (class ∷ []) (pos receipt.now)) }
 {
-    match order {
-        Order::Buy(buy) => buy.class.number(),
-    }
+    prices.first_after(receipt.seconds(), &[class])
 }
 
-fn price(prices: &PriceBook, order: OrderEvent) -> Priced
-    ensures { result ≡ priced_by prices.now.table.sheets order }
+fn price(prices: &PriceBook, purchase: Purchase) -> Priced
+    ensures { result ≡ priced_by prices.now.table.sheets purchase }
 {
-    let class = class_of(&order.order);
-    let sheet = prices.first_after(order.receipt.seconds(), &[class]);
-    Priced { order, sheet }
+    let sheet = sheet_of(prices, purchase.buy.class.number(), &purchase.receipt);
+    Priced { purchase, sheet }
 }
 
 fn is_on(number: u32, priced: &Priced) -> bool
@@ -167,17 +220,7 @@ fn with_lot(register: &mut Vec<Lot>, lot: Lot) -> Result<(), NoMemory>
     Ok(())
 }
 
-// The net asset value of a class on a list.
-fn nav_on(prices: &[(u32, Nav)], class: u32) -> Option<Nav>
-    ensures { result ≡ nav_on prices.now class }
-{
-    prices
-        .iter()
-        .find(|price| price.0 == class)
-        .map(|price| price.1)
-}
-
-fn buy(register: &mut Vec<Lot>, sheet: &Sheet, buy: &Buy) -> Result<(), NoMemory>
+fn execute_buy(register: &mut Vec<Lot>, sheet: &Sheet, buy: &Buy) -> Result<(), NoMemory>
     ensures ok { OnOk result (register.new.items ≡ bought_at register.old.items buy.now (nav_on sheet.now.prices buy.now.class)) }
     ensures within { IsWithin register.old.items → OnOk result (IsWithin register.new.items) }
 {
@@ -201,34 +244,32 @@ fn execute(register: &mut Vec<Lot>, sheet: &Sheet, priced: &Priced) -> Result<()
     ensures ok { OnOk result (register.new.items ≡ execute sheet.now register.old.items priced.now) }
     ensures within { IsWithin register.old.items → OnOk result (IsWithin register.new.items) }
 {
-    match &priced.order.order {
-        Order::Buy(order) => buy(register, sheet, order),
-    }
+    execute_buy(register, sheet, &priced.purchase.buy)
 }
 
 fn day(register: &mut Vec<Lot>, sheet: &Sheet, priced: &[Priced]) -> Result<(), NoMemory>
     ensures ok { OnOk result (register.new.items ≡ day priced.now register.old.items sheet.now) }
     ensures within { IsWithin register.old.items → OnOk result (IsWithin register.new.items) }
 {
-    for order in priced {
-        if is_on(sheet.number, order) {
-            execute(register, sheet, order)?;
+    for purchase in priced {
+        if is_on(sheet.number, purchase) {
+            execute(register, sheet, purchase)?;
         }
     }
     Ok(())
 }
 
-fn priced_orders(
+fn priced_purchases(
     alloc: Global,
     events: &[Event],
     prices: &PriceBook,
 ) -> Result<Vec<Priced>, NoMemory>
-    ensures { IfOk result (λ priced. priced.items ≡ map (priced_by prices.now.table.sheets) (orders events.now)) }
+    ensures { IfOk result (λ priced. priced.items ≡ map (priced_by prices.now.table.sheets) (purchases events.now)) }
 {
     let mut priced = Vec::new(alloc);
     for event in events {
-        if let Some(order) = order_of(event) {
-            priced.push(price(prices, order))?;
+        if let Some(purchase) = purchase_of(event) {
+            priced.push(price(prices, purchase))?;
         }
     }
     Ok(priced)
@@ -236,10 +277,10 @@ fn priced_orders(
 
 /// The register after all sheets of the book.
 pub fn replay(alloc: Global, events: &[Event], prices: &PriceBook) -> Result<Vec<Lot>, NoMemory>
-    ensures value { IfOk result (λ register. register.items ≡ fold (day (map (priced_by prices.now.table.sheets) (orders events.now))) [] prices.now.table.sheets) }
+    ensures value { IfOk result (λ register. register.items ≡ fold (day (map (priced_by prices.now.table.sheets) (purchases events.now))) [] prices.now.table.sheets) }
     ensures within { IfOk result (λ register. IsWithin register.items) }
 {
-    let priced = priced_orders(alloc, events, prices)?;
+    let priced = priced_purchases(alloc, events, prices)?;
     let mut register = Vec::new(alloc);
     for sheet in prices.sheets() {
         day(&mut register, sheet, &priced)?;
@@ -272,13 +313,13 @@ fn position_of(register: &[Lot], account: &Identifier, class: &Identifier) -> Op
 }
 
 /// The position of an account in the class that an event opened, if it opened one and the account has lots there.
+#[tactic(auto, unfolding(register_machine::specs::Journal::opening_of))]
 pub fn position_in(register: &[Lot], account: &Identifier, event: &Event) -> Option<PositionText>
     requires { IsWithin register.now }
     ensures { result ≡ option_and_then (position_of register.now account.now) (opening_of event.now) }
 {
-    match &event.kind {
+    match event.kind() {
         EventKind::Class(form) => position_of(register, account, &form.class),
-        EventKind::Order(_) => None,
-        EventKind::Sheet(_) => None,
+        _ => None,
     }
 }

@@ -3,21 +3,21 @@ use Rattle.std.proofs.Common.{◌≡◌, ℕ, ◌+◌, ◌*◌, Bool, true, fals
 use Rattle.std.proofs.lemmas.List.Sums.{sum_by-cons}
 use Rattle.std.proofs.lemmas.List.Elements.{All-head, All-tail}
 use Rattle.std.proofs.Math.IntN.{+ℤ_assoc, +ℤ_comm, +ℤ_invr, neg_ℤ-+ℤ, pos-+ℤ-pos}
-use Rattle.agent_events.specs.Requests.{Party}
-use Rattle.register_machine.specs.Cash.{Movement, same_party, received_in, paid_in, received, paid_out, balance}
-use Rattle.register_machine.specs.MachineLaws.{IsBetween, BalancesToZero}
+use Rattle.agent_events.specs.declared.order.Party.{Party}
+use Rattle.register_machine.specs.Cash.{Movement, same_party, received_in, paid_out_in, received, paid_out, balance}
+use Rattle.register_machine.specs.CashLaws.{IsBetween, BalancesToZero}
 
 -- sums over lists
-zeros : {X : Type 0} (xs : List X) → sum_by (λ x. 0) xs ≡ 0
+pub zeros : {X : Type 0} (xs : List X) → sum_by (λ x. 0) xs ≡ 0
 zeros [] = refl
 zeros (x ∷ xs) = omega (arith, sum_by-cons (λ y. 0) x xs, zeros xs)
 
-sum-plus : {X : Type 0} (f g h : X → ℕ) → ((x : X) → h x ≡ f x + g x) → (xs : List X) → sum_by h xs ≡ sum_by f xs + sum_by g xs
+pub sum-plus : {X : Type 0} (f g h : X → ℕ) → ((x : X) → h x ≡ f x + g x) → (xs : List X) → sum_by h xs ≡ sum_by f xs + sum_by g xs
 sum-plus f g h same [] = refl
 sum-plus f g h same (x ∷ xs) =
     omega (arith, sum_by-cons f x xs, sum_by-cons g x xs, sum_by-cons h x xs, same x, sum-plus f g h same xs)
 
-sums-exchange : {X Y : Type 0} (f : X → Y → ℕ) (xs : List X) (ys : List Y) → sum_by (λ x. sum_by (f x) ys) xs ≡ sum_by (λ y. sum_by (λ x. f x y) xs) ys
+pub sums-exchange : {X Y : Type 0} (f : X → Y → ℕ) (xs : List X) (ys : List Y) → sum_by (λ x. sum_by (f x) ys) xs ≡ sum_by (λ y. sum_by (λ x. f x y) xs) ys
 sums-exchange f xs [] = zeros xs
 sums-exchange f xs (y ∷ ys) =
     let first = sum-plus (λ x. f x y) (λ x. sum_by (f x) ys) (λ x. sum_by (f x) (y ∷ ys)) (λ x. sum_by-cons (f x) y ys) xs in
@@ -41,7 +41,7 @@ brings-once : (parties : List Party) (movement : Movement) → IsBetween parties
 brings-once parties movement between =
     passing (same_party movement.taker) movement.cents parties ∙ (ap (λ n. movement.cents * n) between.taker_once ∙ omega arith)
 
-takes-once : (parties : List Party) (movement : Movement) → IsBetween parties movement → sum_by (λ party. paid_in party movement) parties ≡ movement.cents
+takes-once : (parties : List Party) (movement : Movement) → IsBetween parties movement → sum_by (λ party. paid_out_in party movement) parties ≡ movement.cents
 takes-once parties movement between =
     passing (same_party movement.giver) movement.cents parties ∙ (ap (λ n. movement.cents * n) between.giver_once ∙ omega arith)
 
@@ -54,9 +54,9 @@ sum-same P f g same (x ∷ xs) all =
 received-is-paid : (parties : List Party) (movements : List Movement) → All (IsBetween parties) movements → sum_by (received movements) parties ≡ sum_by (paid_out movements) parties
 received-is-paid parties movements between =
     let in_all = sums-exchange received_in parties movements in
-    let out_all = sums-exchange paid_in parties movements in
+    let out_all = sums-exchange paid_out_in parties movements in
     in_all
-    ∙ (sum-same (IsBetween parties) (λ movement. sum_by (λ party. received_in party movement) parties) (λ movement. sum_by (λ party. paid_in party movement) parties) (λ movement is. brings-once parties movement is ∙ sym (takes-once parties movement is)) movements between
+    ∙ (sum-same (IsBetween parties) (λ movement. sum_by (λ party. received_in party movement) parties) (λ movement. sum_by (λ party. paid_out_in party movement) parties) (λ movement is. brings-once parties movement is ∙ sym (takes-once parties movement is)) movements between
     ∙ sym out_all)
 
 -- whole numbers with signs

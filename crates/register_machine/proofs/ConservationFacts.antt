@@ -9,13 +9,13 @@ use Rattle.std.proofs.lemmas.List.Sums.{sum_by-cons, sum_by-append, get_or-le-su
 use Rattle.money_units.specs.Rounding.{half}
 use Rattle.share_lots.specs.declared.lot.Lot.{Lot}
 use Rattle.share_lots.specs.declared.lot.Piece.{Piece}
-use Rattle.share_lots.specs.Lots.{HasLoose, IsHolding, cost_total, hold_in, hold_mils, most_cost, most_mils, release_all, release_lot, Holding, mils, loose_total, held_total, new_lot, with_lot, join_free, added, added_to}
+use Rattle.share_lots.specs.Lots.{HasLoose, IsHolding, cost_total, hold_in, hold_mils, most_cost, most_mils, release_all, release_lot, Holding, loose_total, held_total, new_lot, with_lot, join_free, added, added_to}
 use Rattle.share_lots.specs.Taking.{after_paying, lot_paying, pieces, lot_less, lots_less, has_mils, after_taking}
 use Rattle.share_lots.proofs.PaidLemmas.{paying-keeps_loose, paying-whole}
 use Rattle.share_lots.proofs.PayingLemmas.{IsHolding-paying}
 use Rattle.share_lots.proofs.LotLemmas.{All-placed, IsHolding-hold, IsHolding-joined, IsHolding-release, IsHolding-taking, IsHolding-with_lot, lone_free, sum-mils, sum-placed, sum_by-filter-le}
 use Rattle.share_lots.proofs.KeptLemmas.{hold-keeps_mils, release-keeps_mils, pieces-whole, taking-keeps_mils}
-use Rattle.register_machine.specs.Journals.{first_some, when}
+use Rattle.register_machine.specs.Journals.{Journal, first_some, when}
 use Rattle.register_machine.specs.Positions.{Position, Register, fresh_position, is_fresh, stands_before, is_position, position_of, unless_fresh, put, with_holding, mils_of, has_room}
 use Rattle.register_machine.specs.Cash.{Movement, movements_of, outstanding_in, outstanding, same_party}
 use Rattle.contingent_charge.specs.DeferredCharge.{charged}
@@ -28,20 +28,26 @@ use Rattle.dividend_reinvest.specs.declared.payment.Payment.{Payment}
 use Rattle.dividend_reinvest.specs.declared.payment.Payment.TheVariants as pays
 use Rattle.dividend_reinvest.specs.Dividend.{passes_ceiling, paid, payment, cash_of as cents_paid, mils_of as mils_paid}
 use Rattle.forward_price.specs.declared.price_sheet.Sheet.{Sheet}
-use Rattle.agent_events.specs.Requests.{Body, OrderForm, Party}
-use Rattle.register_machine.specs.CorrectedBook.{Book, OrderRow, class_of, front_of, schedule_of, stands, target_of}
+use Rattle.agent_events.specs.declared.order.Body.{Body}
+use Rattle.agent_events.specs.declared.order.Order.{Order}
+use Rattle.agent_events.specs.declared.order.OrderRow.{OrderRow}
+use Rattle.agent_events.specs.declared.order.Party.{Party}
+use Rattle.register_machine.specs.CorrectedBook.{Book, class_of, front_of, schedule_of, stands, target_of, book_of}
+use Rattle.register_machine.specs.Corrections.{booked_movements}
 use Rattle.register_machine.specs.Pricing.{Rates, rate_at, moment_of}
 use Rattle.register_machine.specs.Trades.{Why, Outcome, TradeKind, Trade, Day, with_trade, with_position, traded, done_unless, filled_unless, order_trade, plain_trade, nav_of}
 use Rattle.register_machine.specs.Purchases.{purchase_rate, credit_of, position_noted, purchase_trade, reached_or_kept, lot_added, bought_at}
 use Rattle.register_machine.specs.Redemptions.{piece_added, short_of, redemption_trade, taken, sold_mils, sold, sold_for, loose_of, pieces_added, exchange_trade, exchange_reasons, exchanged}
-use Rattle.register_machine.specs.DayStep.{dividend_trade, cash_dividend_trade, letter_end_trade, dividend_paid, payment_on, position_paid, is_of_class, class_paid_at, class_paid, dividends_paid, ends_on, letter_ended_in, letter_ended, letters_ended, letter_begun, elected, executed_body, executed, day_step}
+use Rattle.register_machine.specs.DayStep.{dividend_trade, cash_dividend_trade, letter_end_trade, dividend_paid, payment_on, position_paid, is_of_class, class_paid_at, class_paid, dividends_paid, has_letter_over, letter_ended_in, letter_ended, letters_ended, letter_begun, elected, executed_body, executed, day_step}
 use Rattle.register_machine.specs.Replays.{Priced, priced_in, priced_orders, is_priced_on, in_turn, orders_on, turn_of, sheet_done, first_day, replay}
-use Rattle.register_machine.specs.MachineLaws.{IsOutstandingByTrades, IsWithFewLots, LeavesItsClass, SharesGoByTrades, IsBetween, ReplayBalances, if_of, mils_in, mils_out, parties_of, stays_in_class, times_among, with_both, with_party}
+use Rattle.register_machine.specs.TradeLaws.{IsOutstandingByTrades, IsWithFewLots, LeavesItsClass, if_of, mils_in, mils_out, stays_in_class}
+use Rattle.forward_price.specs.PriceTables.{Table}
+use Rattle.register_machine.specs.CashLaws.{Balances, BookedBalances, IsBetween, ReplayBalances, parties_of, times_among, with_both, with_party}
 use Rattle.register_machine.proofs.CashFacts.{balances_to_zero, passing}
 
 -- ---- sums over what passes
 
-sum-filtered : {X : Type 0} (f : X → ℕ) (p : X → Bool) (xs : List X) → sum_by f (filter p xs) ≡ sum_by (λ x. cond (p x) (f x) 0) xs
+pub sum-filtered : {X : Type 0} (f : X → ℕ) (p : X → Bool) (xs : List X) → sum_by f (filter p xs) ≡ sum_by (λ x. cond (p x) (f x) 0) xs
 sum-filtered f p [] = refl
 sum-filtered f p (x ∷ xs) =
     rw (sum_by-cons (λ y. cond (p y) (f y) 0) x xs) (elim (p x) as (λ b. sum_by f (cond b (x ∷ filter p xs) (filter p xs)) ≡ cond b (f x) 0 + sum_by (λ y. cond (p y) (f y) 0) xs) [
@@ -49,7 +55,7 @@ sum-filtered f p (x ∷ xs) =
       | false ↦ omega (arith, sum-filtered f p xs)
     ])
 
-sum-same : {X : Type 0} (f g : X → ℕ) → ((x : X) → f x ≡ g x) → (xs : List X) → sum_by f xs ≡ sum_by g xs
+pub sum-same : {X : Type 0} (f g : X → ℕ) → ((x : X) → f x ≡ g x) → (xs : List X) → sum_by f xs ≡ sum_by g xs
 sum-same f g same [] = refl
 sum-same f g same (x ∷ xs) = omega (arith, sum_by-cons f x xs, sum_by-cons g x xs, same x, sum-same f g same xs)
 
@@ -88,7 +94,7 @@ found-is P p d holds base (x ∷ xs) =
       | false ↦ λ e. found-is P p d holds base xs
     ] refl
 
-found-of : {X : Type 0} (P : X → Type 0) (p : X → Bool) (d : X) → P d → (xs : List X) → All P xs → P (unwrap_or (find p xs) d)
+pub found-of : {X : Type 0} (P : X → Type 0) (p : X → Bool) (d : X) → P d → (xs : List X) → All P xs → P (unwrap_or (find p xs) d)
 found-of P p d base [] all = base
 found-of P p d base (x ∷ xs) all =
     elim (p x) as (λ b. P (unwrap_or (cond b (Some x) (find p xs)) d)) [
@@ -98,32 +104,32 @@ found-of P p d base (x ∷ xs) all =
 
 -- ---- the order of the register
 
-lt-yes : (a b : ℕ) → a < b → nat_lt a b ≡ true
+pub lt-yes : (a b : ℕ) → a < b → nat_lt a b ≡ true
 lt-yes a b h = elim (leb_tells (suc a) b) [
   | inl (t, _) ↦ t
   | inr (t, late) ↦ absurd (omega (arith, h, late))
 ]
 
-lt-no : (a b : ℕ) → b ≤ a → nat_lt a b ≡ false
+pub lt-no : (a b : ℕ) → b ≤ a → nat_lt a b ≡ false
 lt-no a b h = elim (leb_tells (suc a) b) [
   | inl (t, early) ↦ absurd (omega (arith, h, early))
   | inr (t, _) ↦ t
 ]
 
-eq-yes : (a b : ℕ) → a ≡ b → (a == b) ≡ true
+pub eq-yes : (a b : ℕ) → a ≡ b → (a == b) ≡ true
 eq-yes a b h = elim (eqb_tells a b) [
   | inl (t, _) ↦ t
   | inr (t, apart) ↦ absurd (apart h)
 ]
 
-eq-no : (a b : ℕ) → (a ≡ b → ⊥) → (a == b) ≡ false
+pub eq-no : (a b : ℕ) → (a ≡ b → ⊥) → (a == b) ≡ false
 eq-no a b h = elim (eqb_tells a b) [
   | inl (t, same) ↦ absurd (h same)
   | inr (t, _) ↦ t
 ]
 
 -- of two numbers one is less, or they are the same
-three : (a b n : ℕ) → cond (nat_lt a b) n 0 + (cond (a == b) n 0 + cond (nat_lt b a) n 0) ≡ n
+pub three : (a b n : ℕ) → cond (nat_lt a b) n 0 + (cond (a == b) n 0 + cond (nat_lt b a) n 0) ≡ n
 three a b n = elim (cases_lt a b) [
   | inl low ↦ rw (lt-yes a b low, lt-no b a (omega (arith, low)), eq-no a b (λ e. omega (arith, e, low))) (omega arith)
   | inr high ↦ elim (cases_lt b a) [
@@ -170,21 +176,21 @@ unless_fresh-le f p =
     ]
 
 -- a position comes in the stead of those in its place
-put-sum : (f : Position → ℕ) (p : Position) (register : Register) → (is_fresh p ≡ true → f p ≡ 0) → sum_by f (put p register) + sum_by f (filter (is_position p.account p.class) register) ≡ sum_by f register + f p
+pub put-sum : (f : Position → ℕ) (p : Position) (register : Register) → (is_fresh p ≡ true → f p ≡ 0) → sum_by f (put p register) + sum_by f (filter (is_position p.account p.class) register) ≡ sum_by f register + f p
 put-sum f p register none =
     omega (arith, put-parts f p register, thirds f p register, unless_fresh-sum f p none)
 
 -- no place is taken twice
-Once : Register → Type 0
+pub Once : Register → Type 0
 Once register = (a c : ℕ) → count_by (is_position a c) register ≤ 1
 
 abbrev at_place : ℕ → ℕ → Position → ℕ
 at_place a c x = cond (is_position a c x) 1 0
 
-own-place : (p : Position) → is_position p.account p.class p ≡ true
+pub own-place : (p : Position) → is_position p.account p.class p ≡ true
 own-place p = rw (eq-yes p.account p.account refl, eq-yes p.class p.class refl) refl
 
-same-place : (a c : ℕ) (p : Position) → is_position a c p ≡ true → (p.account ≡ a) × (p.class ≡ c)
+pub same-place : (a c : ℕ) (p : Position) → is_position a c p ≡ true → (p.account ≡ a) × (p.class ≡ c)
 same-place a c p e =
     let parts = and_parts (p.account == a) (p.class == c) e in
     (eqb-true p.account a parts.0, eqb-true p.class c parts.1)
@@ -198,7 +204,7 @@ at_own a c register =
     sum-filtered (at_place a c) (is_position a c) register
     ∙ sum-same (λ x. cond (is_position a c x) (at_place a c x) 0) (at_place a c) (λ x. same-twice (is_position a c x) 1) register
 
-put-once : (p : Position) (register : Register) → Once register → Once (put p register)
+pub put-once : (p : Position) (register : Register) → Once register → Once (put p register)
 unfolding Once
 put-once p register once a c =
     let whole = thirds (at_place a c) p register in
@@ -218,10 +224,10 @@ put-once p register once a c =
 abbrev its_mils : Position → ℕ
 its_mils x = mils_of x.holding
 
-abbrev f_at : (Position → ℕ) → ℕ → ℕ → Position → ℕ
+abbrev pub f_at : (Position → ℕ) → ℕ → ℕ → Position → ℕ
 f_at f a c x = cond (is_position a c x) (f x) 0
 
-abbrev mass : (Position → ℕ) → ℕ → ℕ → Register → ℕ
+abbrev pub mass : (Position → ℕ) → ℕ → ℕ → Register → ℕ
 mass f a c register = sum_by (f_at f a c) register
 
 no-mils : (h : Holding) → length h.lots ≡ 0 → mils_of h ≡ 0
@@ -236,20 +242,20 @@ fresh-no_mils p e =
     no-mils p.holding (eqb-true (length p.holding.lots) 0 (and_parts (length p.holding.lots == 0) (p.holding.next_lot == 1 && (not p.in_cash && is_none p.letter)) e).0)
 
 -- what a place has is that of its position
-mass-own : (f : Position → ℕ) (register : Register) (a c : ℕ) → f (fresh_position a c) ≡ 0 → Once register → mass f a c register ≡ f (position_of register a c)
+pub mass-own : (f : Position → ℕ) (register : Register) (a c : ℕ) → f (fresh_position a c) ≡ 0 → Once register → mass f a c register ≡ f (position_of register a c)
 unfolding Once
 mass-own f register a c zero once = sum-found f (is_position a c) (fresh_position a c) zero register (once a c)
 
-own-account : (register : Register) (a c : ℕ) → (position_of register a c).account ≡ a
+pub own-account : (register : Register) (a c : ℕ) → (position_of register a c).account ≡ a
 own-account register a c =
     found-is (λ x. x.account ≡ a) (is_position a c) (fresh_position a c) (λ x e. (same-place a c x e).0) refl register
 
-own-class : (register : Register) (a c : ℕ) → (position_of register a c).class ≡ c
+pub own-class : (register : Register) (a c : ℕ) → (position_of register a c).class ≡ c
 own-class register a c =
     found-is (λ x. x.class ≡ c) (is_position a c) (fresh_position a c) (λ x e. (same-place a c x e).1) refl register
 
 -- a position put elsewhere leaves a place as it is
-put-elsewhere : (f : Position → ℕ) (a c : ℕ) (p : Position) (register : Register) → is_position a c p ≡ false → mass f a c (put p register) ≡ mass f a c register
+pub put-elsewhere : (f : Position → ℕ) (a c : ℕ) (p : Position) (register : Register) → is_position a c p ≡ false → mass f a c (put p register) ≡ mass f a c register
 put-elsewhere f a c p register away =
     let moved = put-sum (f_at f a c) p register (λ e. rw away refl) in
     let none : f_at f a c p ≡ 0 = rw away refl in
@@ -273,7 +279,7 @@ put-elsewhere f a c p register away =
     zeros (x ∷ xs) = omega (arith, sum_by-cons (λ (y : Position). 0) x xs, zeros xs)
 
 -- and its own place has it
-put-own : (f : Position → ℕ) (p : Position) (register : Register) → (is_fresh p ≡ true → f p ≡ 0) → mass f p.account p.class (put p register) ≡ f p
+pub put-own : (f : Position → ℕ) (p : Position) (register : Register) → (is_fresh p ≡ true → f p ≡ 0) → mass f p.account p.class (put p register) ≡ f p
 put-own f p register none =
     let here : f_at f p.account p.class p ≡ f p = rw (own-place p) refl in
     let moved = put-sum (f_at f p.account p.class) p register (λ e. here ∙ none e) in
@@ -366,10 +372,10 @@ low-before p register fewer low =
 
 -- ---- lots
 
-abbrev frees : List Lot → ℕ
+abbrev pub frees : List Lot → ℕ
 frees lots = count_by (λ (lot : Lot). lot.free) lots
 
-abbrev free_of : Lot → ℕ
+abbrev pub free_of : Lot → ℕ
 free_of lot = cond lot.free 1 0
 
 -- an addition brings its mils, where no more than one lot is free
@@ -389,7 +395,7 @@ join-held quantity cents (x ∷ xs) =
     let one = elim x.free as (λ b. (cond b (record x { loose = x.loose + quantity; cost = x.cost + cents }) x).held ≡ x.held) [ true ↦ refl | false ↦ refl ] in
     omega (arith, one, join-held quantity cents xs, sum_by-cons (λ (l : Lot). l.held) x xs, sum_by-cons (λ (l : Lot). l.held) (join_free quantity cents x) (map (join_free quantity cents) xs))
 
-join-frees : (quantity cents : ℕ) (lots : List Lot) → frees (map (join_free quantity cents) lots) ≡ frees lots
+pub join-frees : (quantity cents : ℕ) (lots : List Lot) → frees (map (join_free quantity cents) lots) ≡ frees lots
 join-frees quantity cents [] = refl
 join-frees quantity cents (x ∷ xs) =
     omega (arith, one x, join-frees quantity cents xs, sum_by-cons free_of x xs, sum_by-cons free_of (join_free quantity cents x) (map (join_free quantity cents) xs))
@@ -397,7 +403,7 @@ join-frees quantity cents (x ∷ xs) =
     one : (lot : Lot) → free_of (join_free quantity cents lot) ≡ free_of lot
     one lot = elim lot.free as (λ b. lot.free ≡ b → free_of (cond b (record lot { loose = lot.loose + quantity; cost = lot.cost + cents }) lot) ≡ free_of lot) [ true ↦ λ e. refl | false ↦ λ e. refl ] refl
 
-none-free : (lots : List Lot) → find (λ (lot : Lot). lot.free) lots ≡ None → frees lots ≡ 0
+pub none-free : (lots : List Lot) → find (λ (lot : Lot). lot.free) lots ≡ None → frees lots ≡ 0
 none-free [] e = refl
 none-free (x ∷ xs) e =
     elim x.free as (λ b. cond b (Some x) (find (λ (lot : Lot). lot.free) xs) ≡ None → frees (x ∷ xs) ≡ cond b 1 0 + frees xs → frees (x ∷ xs) ≡ 0) [
@@ -408,7 +414,7 @@ none-free (x ∷ xs) e =
     some_none : (Some x ≡ None) → ⊥
     some_none h = cc
 
-some-free : (lots : List Lot) (lot : Lot) → find (λ (lot : Lot). lot.free) lots ≡ Some lot → 1 ≤ frees lots
+pub some-free : (lots : List Lot) (lot : Lot) → find (λ (lot : Lot). lot.free) lots ≡ Some lot → 1 ≤ frees lots
 some-free [] lot e = absurd (none_some e)
   where
     none_some : None ≡ Some lot → ⊥
@@ -420,11 +426,11 @@ some-free (x ∷ xs) lot e =
     ] e (sum_by-cons free_of x xs)
 
 -- so many mils more, and one free lot at most
-record Grown (before after : Holding) (quantity : ℕ) : Type 0 where
-  grown : mils_of after ≡ mils_of before + quantity
-  one_free : frees after.lots ≤ 1
+pub record Grown (before after : Holding) (quantity : ℕ) : Type 0 where
+  pub grown : mils_of after ≡ mils_of before + quantity
+  pub one_free : frees after.lots ≤ 1
 
-added-grown : (h : Holding) (day quantity cents : ℕ) (free : Bool) → frees h.lots ≤ 1 → Grown h (added h day quantity cents free).holding quantity
+pub added-grown : (h : Holding) (day quantity cents : ℕ) (free : Bool) → frees h.lots ≤ 1 → Grown h (added h day quantity cents free).holding quantity
 added-grown h day quantity cents false few =
     let lot = new_lot h day quantity cents false in
     record { grown = lot-mils h lot refl; one_free = omega (arith, few, sum-placed free_of lot h.lots) }
@@ -441,7 +447,7 @@ added-grown h day quantity cents true few =
           }
     ] refl
 
-less-frees : (asked : ℕ) (lots : List Lot) → frees (lots_less asked lots) ≡ frees lots
+pub less-frees : (asked : ℕ) (lots : List Lot) → frees (lots_less asked lots) ≡ frees lots
 unfolding lots_less
 less-frees asked [] = refl
 less-frees asked (x ∷ xs) =
@@ -451,7 +457,7 @@ taking-shrinks : (h : Holding) (asked : ℕ) → asked ≤ loose_total h → mil
 taking-shrinks h asked enough =
     omega (arith, sum-mils h.lots, sum-mils (filter has_mils (lots_less asked h.lots)), taking-keeps_mils asked h.lots, pieces-whole asked h.lots enough)
 
-taking-frees : (h : Holding) (asked : ℕ) → frees h.lots ≤ 1 → frees (after_taking h asked).lots ≤ 1
+pub taking-frees : (h : Holding) (asked : ℕ) → frees h.lots ≤ 1 → frees (after_taking h asked).lots ≤ 1
 taking-frees h asked few =
     omega (arith, few, less-frees asked h.lots, sum_by-filter-le free_of has_mils (lots_less asked h.lots))
 
@@ -523,18 +529,18 @@ pieces-sound (piece ∷ given) h few sound some fits cost =
     (rest.0, omega (arith, rest.1, added-next h piece.day piece.mils piece.cost piece.free))
 
 -- held back, released and paid
-hold-frees : (number quantity : ℕ) (lots : List Lot) → frees (map (hold_in number quantity) lots) ≡ frees lots
+pub hold-frees : (number quantity : ℕ) (lots : List Lot) → frees (map (hold_in number quantity) lots) ≡ frees lots
 hold-frees number quantity [] = refl
 hold-frees number quantity (x ∷ xs) =
     let one = elim (x.number == number) as (λ b. free_of (cond b (record x { loose = x.loose - quantity; held = x.held + quantity }) x) ≡ free_of x) [ true ↦ refl | false ↦ refl ] in
     omega (arith, one, hold-frees number quantity xs, sum_by-cons free_of x xs, sum_by-cons free_of (hold_in number quantity x) (map (hold_in number quantity) xs))
 
-release-frees : (lots : List Lot) → frees (map release_lot lots) ≡ frees lots
+pub release-frees : (lots : List Lot) → frees (map release_lot lots) ≡ frees lots
 release-frees [] = refl
 release-frees (x ∷ xs) =
     omega (arith, release-frees xs, sum_by-cons free_of x xs, sum_by-cons free_of (release_lot x) (map release_lot xs))
 
-paying-frees : (all : List Lot) (asked : ℕ) (lots : List Lot) → frees (map (lot_paying all asked) lots) ≡ frees lots
+pub paying-frees : (all : List Lot) (asked : ℕ) (lots : List Lot) → frees (map (lot_paying all asked) lots) ≡ frees lots
 paying-frees all asked [] = refl
 paying-frees all asked (x ∷ xs) =
     omega (arith, paying-frees all asked xs, sum_by-cons free_of x xs, sum_by-cons free_of (lot_paying all asked x) (map (lot_paying all asked) xs))
@@ -651,7 +657,7 @@ same-position class day p trade kept tidy fewer same brought taken =
     nothing false = refl
 
 -- what the place of a position looked up has
-own-mass : (f : Position → ℕ) (register : Register) (a c : ℕ) → f (fresh_position a c) ≡ 0 → Once register → mass f (position_of register a c).account (position_of register a c).class register ≡ f (position_of register a c)
+pub own-mass : (f : Position → ℕ) (register : Register) (a c : ℕ) → f (fresh_position a c) ≡ 0 → Once register → mass f (position_of register a c).account (position_of register a c).class register ≡ f (position_of register a c)
 own-mass f register a c zero once =
     ap (λ x. mass f x (position_of register a c).class register) (own-account register a c)
     ∙ (ap (λ x. mass f a x register) (own-class register a c) ∙ mass-own f register a c zero once)
@@ -673,7 +679,7 @@ fold-kept class P f keeps day (x ∷ xs) all kept =
     fold-kept class P f keeps (f day x) xs (All-tail P x xs all) (keeps day x (All-head P x xs all) kept)
 
 -- the first of some reasons, and the others, where none holds
-clear-first : (why : Option Why) (rest : List (Option Why)) → first_some (why ∷ rest) ≡ None → (why ≡ None) × (first_some rest ≡ None)
+pub clear-first : (why : Option Why) (rest : List (Option Why)) → first_some (why ∷ rest) ≡ None → (why ≡ None) × (first_some rest ≡ None)
 clear-first None rest e = (refl, e)
 clear-first (Some why) rest e = absurd (some_none e)
   where
@@ -735,7 +741,7 @@ reached-kept class sheet day p trade true tidy kept =
     (omega (arith, put-own over p day.register (fresh-over p)))
     (release-mils p.holding ∙ sym (put-own its_mils p day.register (λ e. fresh-no_mils p e))) refl refl
 
-bought-letter : (class : ℕ) (sheet : Sheet) (day : Day) (order : OrderForm) (gross : ℕ) (split : Split) (letter : Option Letter) → 1 ≤ split.mils → (mils_of (position_of day.register order.account (class_of order.body)).holding + split.mils ≤ most_mils) × (cost_total (position_of day.register order.account (class_of order.body)).holding + gross ≤ most_cost) → Kept class day → Kept class (lot_added sheet day (position_of day.register order.account (class_of order.body)) (added (position_of day.register order.account (class_of order.body)).holding sheet.day split.mils gross false) letter gross split (purchase_trade (order_trade sheet order TradeKind.Buy) gross split))
+bought-letter : (class : ℕ) (sheet : Sheet) (day : Day) (order : Order) (gross : ℕ) (split : Split) (letter : Option Letter) → 1 ≤ split.mils → (mils_of (position_of day.register order.account (class_of order.body)).holding + split.mils ≤ most_mils) × (cost_total (position_of day.register order.account (class_of order.body)).holding + gross ≤ most_cost) → Kept class day → Kept class (lot_added sheet day (position_of day.register order.account (class_of order.body)) (added (position_of day.register order.account (class_of order.body)).holding sheet.day split.mils gross false) letter gross split (purchase_trade (order_trade sheet order TradeKind.Buy) gross split))
 unfolding Sound
 bought-letter class sheet day order gross split None some fits kept =
     let p = position_of day.register order.account (class_of order.body) in
@@ -769,7 +775,7 @@ bought-letter class sheet day order gross split (Some letter) some fits kept =
     omega (arith, grown.grown, own-mass its_mils day.register order.account (class_of order.body) refl kept.once, hold-mils lot.holding lot.number hold (new-loose p.holding sheet.day split.mils gross hold (tidy.sound (omega (arith, few, further))) le)))
     (if_of-same class (class_of order.body) p.class split.mils (sym (own-class day.register order.account (class_of order.body)))) refl)
 
-bought_at-kept : (class : ℕ) (sheet : Sheet) (day : Day) (order : OrderForm) (gross : ℕ) (found : Option Split) → ((split : Split) → found ≡ Some split → 1 ≤ split.mils) → Kept class day → Kept class (bought_at sheet day (position_of day.register order.account (class_of order.body)) gross found (order_trade sheet order TradeKind.Buy))
+bought_at-kept : (class : ℕ) (sheet : Sheet) (day : Day) (order : Order) (gross : ℕ) (found : Option Split) → ((split : Split) → found ≡ Some split → 1 ≤ split.mils) → Kept class day → Kept class (bought_at sheet day (position_of day.register order.account (class_of order.body)) gross found (order_trade sheet order TradeKind.Buy))
 bought_at-kept class sheet day order gross None some kept =
     filled-kept class (Some Why.TooSmall ∷ []) day (order_trade sheet order TradeKind.Buy) day kept (λ e. kept)
 bought_at-kept class sheet day order gross (Some split) some kept =
@@ -781,7 +787,7 @@ bought_at-kept class sheet day order gross (Some split) some kept =
 
 -- ---- redemptions
 
-sold_mils-kept : (class : ℕ) (book : Book) (sheet : Sheet) (day : Day) (order : OrderForm) (asked : ℕ) → Kept class day → short_of (position_of day.register order.account (class_of order.body)).holding asked ≡ None → Kept class (sold_mils book sheet day (position_of day.register order.account (class_of order.body)) asked (order_trade sheet order TradeKind.Sell))
+sold_mils-kept : (class : ℕ) (book : Book) (sheet : Sheet) (day : Day) (order : Order) (asked : ℕ) → Kept class day → short_of (position_of day.register order.account (class_of order.body)).holding asked ≡ None → Kept class (sold_mils book sheet day (position_of day.register order.account (class_of order.body)) asked (order_trade sheet order TradeKind.Sell))
 sold_mils-kept class book sheet day order asked kept clear =
     let p = position_of day.register order.account (class_of order.body) in
     let tidy = own-tidy day.register order.account (class_of order.body) kept.tidy in
@@ -793,14 +799,14 @@ sold_mils-kept class book sheet day order asked kept clear =
     (λ low. omega (arith, taking-shrinks p.holding asked (enough p.holding asked clear), own-mass its_mils day.register order.account (class_of order.body) refl kept.once))
     (if_of-same class (class_of order.body) p.class asked (sym (own-class day.register order.account (class_of order.body)))) refl
 
-sold-kept : (class : ℕ) (book : Book) (sheet : Sheet) (day : Day) (order : OrderForm) (asked : ℕ) → Kept class day → Kept class (sold book sheet day order asked)
+sold-kept : (class : ℕ) (book : Book) (sheet : Sheet) (day : Day) (order : Order) (asked : ℕ) → Kept class day → Kept class (sold book sheet day order asked)
 sold-kept class book sheet day order asked kept =
     let p = position_of day.register order.account (class_of order.body) in
     let trade = order_trade sheet order TradeKind.Sell in
     filled-kept class (short_of p.holding asked ∷ []) day trade (sold_mils book sheet day p asked trade) kept
     (λ e. sold_mils-kept class book sheet day order asked kept (clear-first (short_of p.holding asked) [] e).0)
 
-sold_for-kept : (class : ℕ) (book : Book) (sheet : Sheet) (day : Day) (order : OrderForm) (amount : ℕ) → Kept class day → Kept class (sold_for book sheet day order amount)
+sold_for-kept : (class : ℕ) (book : Book) (sheet : Sheet) (day : Day) (order : Order) (amount : ℕ) → Kept class day → Kept class (sold_for book sheet day order amount)
 sold_for-kept class book sheet day order amount kept =
     let p = position_of day.register order.account (class_of order.body) in
     let asked = half (1000 * amount) (nav_of sheet p.class) in
@@ -817,7 +823,7 @@ swap true false o0 o1 o2 m1 n1 a m2 n2 g outs ins x y z w u v = omega (arith, x,
 swap false true o0 o1 o2 m1 n1 a m2 n2 g outs ins x y z w u v = omega (arith, x, y, z, w, u, v)
 swap false false o0 o1 o2 m1 n1 a m2 n2 g outs ins x y z w u v = omega (arith, x, y, z, w, u, v)
 
-and-false : (b c : Bool) → c ≡ false → (b && c) ≡ false
+pub and-false : (b c : Bool) → c ≡ false → (b && c) ≡ false
 and-false true c e = e
 and-false false c e = refl
 
@@ -828,7 +834,7 @@ carried-some (piece ∷ given) = elim (leb_tells 1 piece.mils) [
   | inr (t, none) ↦ rw t (carried-some given)
 ]
 
-exchanged-kept : (class : ℕ) (sheet : Sheet) (day : Day) (order : OrderForm) (to asked : ℕ) → target_of order.body ≡ Some to → (to ≡ class_of order.body → ⊥) → Kept class day → Kept class (exchanged sheet day order to asked)
+exchanged-kept : (class : ℕ) (sheet : Sheet) (day : Day) (order : Order) (to asked : ℕ) → target_of order.body ≡ Some to → (to ≡ class_of order.body → ⊥) → Kept class day → Kept class (exchanged sheet day order to asked)
 exchanged-kept class sheet day order to asked target_is apart kept =
     let from = class_of order.body in
     let p = position_of day.register order.account from in
@@ -876,7 +882,7 @@ exchanged-kept class sheet day order to asked target_is apart kept =
 -- ---- elections, letters and all orders
 
 -- a position looked up, with another election or letter
-as_it_is : (class : ℕ) (day : Day) (order : OrderForm) (in_cash : Bool) (letter : Option Letter) (trade : Trade) → Kept class day → mils_in class trade ≡ 0 → mils_out class trade ≡ 0 → Kept class (traded day (record (position_of day.register order.account (class_of order.body)) { in_cash = in_cash; letter = letter }) trade)
+as_it_is : (class : ℕ) (day : Day) (order : Order) (in_cash : Bool) (letter : Option Letter) (trade : Trade) → Kept class day → mils_in class trade ≡ 0 → mils_out class trade ≡ 0 → Kept class (traded day (record (position_of day.register order.account (class_of order.body)) { in_cash = in_cash; letter = letter }) trade)
 as_it_is class day order in_cash letter trade kept brought taken =
     let p = position_of day.register order.account (class_of order.body) in
     let tidy = own-tidy day.register order.account (class_of order.body) kept.tidy in
@@ -885,13 +891,13 @@ as_it_is class day order in_cash letter trade kept brought taken =
     (own-fewer day.register order.account (class_of order.body) changed kept.once (omega arith))
     (sym (own-mass its_mils day.register order.account (class_of order.body) refl kept.once)) brought taken
 
-elected-kept : (class : ℕ) (sheet : Sheet) (day : Day) (order : OrderForm) (in_cash : Bool) → Kept class day → Kept class (elected sheet day order in_cash)
+elected-kept : (class : ℕ) (sheet : Sheet) (day : Day) (order : Order) (in_cash : Bool) → Kept class day → Kept class (elected sheet day order in_cash)
 elected-kept class sheet day order true kept =
     as_it_is class day order true (position_of day.register order.account (class_of order.body)).letter (order_trade sheet order TradeKind.ElectCash) kept refl refl
 elected-kept class sheet day order false kept =
     as_it_is class day order false (position_of day.register order.account (class_of order.body)).letter (order_trade sheet order TradeKind.ElectShares) kept refl refl
 
-letter_begun-kept : (class : ℕ) (book : Book) (sheet : Sheet) (day : Day) (order : OrderForm) (amount : ℕ) → Kept class day → Kept class (letter_begun book sheet day order amount)
+letter_begun-kept : (class : ℕ) (book : Book) (sheet : Sheet) (day : Day) (order : Order) (amount : ℕ) → Kept class day → Kept class (letter_begun book sheet day order amount)
 letter_begun-kept class book sheet day order amount kept =
     let p = position_of day.register order.account (class_of order.body) in
     let trade = order_trade sheet order TradeKind.Letter in
@@ -901,11 +907,11 @@ letter_begun-kept class book sheet day order amount kept =
     (traded day (record p { letter = letter }) (record trade { cash = amount })) kept
     (λ e. as_it_is class day order p.in_cash letter (record trade { cash = amount }) kept refl refl)
 
-goes-elsewhere : (body : Body) (order : OrderForm) (to from : ℕ) → order.body ≡ body → class_of body ≡ from → (to == from) ≡ false → to ≡ class_of order.body → ⊥
+pub goes-elsewhere : (body : Body) (order : Order) (to from : ℕ) → order.body ≡ body → class_of body ≡ from → (to == from) ≡ false → to ≡ class_of order.body → ⊥
 goes-elsewhere body order to from e is away same =
     true≢false (sym (eq-yes to from (same ∙ (ap class_of e ∙ is))) ∙ away)
 
-body-kept : (class : ℕ) (book : Book) (sheet : Sheet) (day : Day) (order : OrderForm) (body : Body) → order.body ≡ body → stays_in_class body ≡ false → Kept class day → Kept class (executed_body book sheet day order body)
+body-kept : (class : ℕ) (book : Book) (sheet : Sheet) (day : Day) (order : Order) (body : Body) → order.body ≡ body → stays_in_class body ≡ false → Kept class day → Kept class (executed_body book sheet day order body)
 body-kept class book sheet day order (Body.Buy of_class gross) e away kept =
     let p = position_of day.register order.account (class_of order.body) in
     bought_at-kept class sheet day order gross (split_of gross (nav_of sheet p.class) (purchase_rate book sheet day.register p gross))
@@ -922,14 +928,14 @@ body-kept class book sheet day order (Body.Elect of_class in_cash) e away kept =
 
 -- ---- each position of a list in turn
 
-once-tail : (x : Position) (xs : Register) → Once (x ∷ xs) → Once xs
+pub once-tail : (x : Position) (xs : Register) → Once (x ∷ xs) → Once xs
 unfolding Once
 once-tail x xs once a c =
     let few : sum_by (at_place a c) (x ∷ xs) ≤ 1 = once a c in
     omega (arith, few, sum_by-cons (at_place a c) x xs)
 
 -- the first isn't in the place of another
-first-apart : (x : Position) (xs : Register) → Once (x ∷ xs) → All (λ y. is_position y.account y.class x ≡ false) xs
+pub first-apart : (x : Position) (xs : Register) → Once (x ∷ xs) → All (λ y. is_position y.account y.class x ≡ false) xs
 unfolding Once
 first-apart x xs once k d short =
     let y = get_or xs k d in
@@ -952,7 +958,7 @@ none-there f x xs once =
     sum-none f (is_position x.account x.class) xs none
 
 -- each position of a register has its place alone
-places-own : (f : Position → ℕ) (register : Register) → Once register → All (λ x. mass f x.account x.class register ≡ f x) register
+pub places-own : (f : Position → ℕ) (register : Register) → Once register → All (λ x. mass f x.account x.class register ≡ f x) register
 places-own f [] once = All-nil (λ x. mass f x.account x.class [] ≡ f x)
 places-own f (x ∷ xs) once =
     All-cons (λ y. mass f y.account y.class (x ∷ xs) ≡ f y) x xs first
@@ -976,7 +982,7 @@ all-stand : (register : Register) → Once register → All (Stands register) re
 all-stand register once k d short =
     record { mils_are = places-own its_mils register once k d short; over_is = places-own over register once k d short }
 
-once-filter : (p : Position → Bool) (register : Register) → Once register → Once (filter p register)
+pub once-filter : (p : Position → Bool) (register : Register) → Once register → Once (filter p register)
 unfolding Once
 once-filter p register once a c =
     let few : sum_by (at_place a c) register ≤ 1 = once a c in
@@ -1081,7 +1087,7 @@ unfolding day_step
 step-kept class book sheet rows day without kept =
     let paid = fold-kept class (λ (price : ℕ × ℕ). Unit {0}) (class_paid book.rates sheet) (λ d price _. class_paid-kept class book.rates sheet d price) day sheet.prices (λ k d short. tt) kept in
     let after_dividends = dividends_paid book sheet day in
-    let ended = passing-kept class (letter_ended book sheet) (ends_on sheet) (λ d x k tidy stand. ended-moves class book sheet d x x.letter k tidy stand) after_dividends paid in
+    let ended = passing-kept class (letter_ended book sheet) (has_letter_over sheet) (λ d x k tidy stand. ended-moves class book sheet d x x.letter k tidy stand) after_dividends paid in
     fold-kept class LeavesItsClass (executed book sheet) (λ d row is. body-kept class book sheet d row.order row.order.body refl is.elsewhere) (letters_ended book sheet after_dividends) rows without ended
 
 in_turn-all : (P : OrderRow → Type 0) (ordered rows : List OrderRow) → All P ordered → All P rows → All P (fold (λ ordered row. in_turn row ordered) ordered rows)
@@ -1093,12 +1099,22 @@ in_turn-all P ordered (row ∷ rows) done all =
     (All-cons P row (filter (λ other. nat_lt (turn_of row) (turn_of other)) ordered) (All-head P row rows all) (All-filter (λ other. nat_lt (turn_of row) (turn_of other)) P ordered done)))
     (All-tail P row rows all)
 
-rows-without : (book : Book) (sheet : Sheet) → All LeavesItsClass (filter stands book.orders) → All LeavesItsClass (orders_on (priced_orders book) sheet)
-rows-without book sheet without =
-    let priced = All-map (λ (q : Priced). LeavesItsClass q.row) (priced_in book.table.sheets) (filter stands book.orders) without in
-    in_turn-all LeavesItsClass [] (map (λ order. order.row) (filter (is_priced_on sheet.number) (priced_orders book))) (All-nil LeavesItsClass)
-    (All-map LeavesItsClass (λ (order : Priced). order.row) (filter (is_priced_on sheet.number) (priced_orders book))
-    (All-filter (is_priced_on sheet.number) (λ (q : Priced). LeavesItsClass q.row) (priced_orders book) priced))
+-- what holds of the orders of a sheet holds of them in turn
+pub rows-on : (P : OrderRow → Type 0) (priced : List Priced) (sheet : Sheet) → All (λ (q : Priced). P q.row) (filter (is_priced_on sheet.number) priced) → All P (orders_on priced sheet)
+rows-on P priced sheet all =
+    in_turn-all P [] (map (λ order. order.row) (filter (is_priced_on sheet.number) priced)) (All-nil P)
+    (All-map P (λ (order : Priced). order.row) (filter (is_priced_on sheet.number) priced) all)
+
+-- what holds of all standing orders holds of those on a sheet
+pub rows-standing : (P : OrderRow → Type 0) (book : Book) (sheet : Sheet) → All P (filter stands book.orders) → All P (orders_on (priced_orders book) sheet)
+rows-standing P book sheet all =
+    rows-on P (priced_orders book) sheet
+    (All-filter (is_priced_on sheet.number) (λ (q : Priced). P q.row) (priced_orders book)
+    (All-map (λ (q : Priced). P q.row) (priced_in book.table.sheets) (filter stands book.orders) all))
+
+pub empty-once : Once []
+unfolding Once
+empty-once a c = omega arith
 
 first-kept : (class : ℕ) → Kept class first_day
 unfolding Once
@@ -1107,10 +1123,10 @@ first-kept class = record { once = λ a c. omega arith; tidy = All-nil Tidy; eve
 replay-kept : (class : ℕ) (book : Book) → All LeavesItsClass (filter stands book.orders) → Kept class (replay book)
 unfolding replay
 replay-kept class book without =
-    fold-kept class (λ (sheet : Sheet). Unit {0}) (sheet_done book (priced_orders book)) (λ day sheet _. step-kept class book sheet (orders_on (priced_orders book) sheet) day (rows-without book sheet without)) first_day book.table.sheets (λ k d short. tt) (first-kept class)
+    fold-kept class (λ (sheet : Sheet). Unit {0}) (sheet_done book (priced_orders book)) (λ day sheet _. step-kept class book sheet (orders_on (priced_orders book) sheet) day (rows-standing LeavesItsClass book sheet without)) first_day book.table.sheets (λ k d short. tt) (first-kept class)
 
-pub shares_go_by_trades : (book : Book) (class : ℕ) → SharesGoByTrades book class
-shares_go_by_trades book class without few =
+pub few_lots_go_by_trades : (book : Book) (class : ℕ) → All LeavesItsClass (filter stands book.orders) → All IsWithFewLots (replay book).register → IsOutstandingByTrades class (replay book)
+few_lots_go_by_trades book class without few =
     (replay-kept class book without).even (low-all (replay book).register few)
 
 -- ---- all parties of a replay
@@ -1207,8 +1223,13 @@ all-between parties (x ∷ xs) few =
     })
     (all-between (with_both parties x) xs (both-few parties x few))
 
-pub replay_balances : (book : Book) → ReplayBalances book
+movements-balance : (movements : List Movement) → Balances movements
 unfolding FewParties
-replay_balances book =
-    let movements = movements_of (replay book).trades in
+movements-balance movements =
     balances_to_zero (parties_of movements) movements (all-between [] movements (λ party. omega arith))
+
+pub replay_balances : (book : Book) → ReplayBalances book
+replay_balances book = movements-balance (movements_of (replay book).trades)
+
+pub booked_balances : (table : Table) (journal : Journal) → BookedBalances table journal
+booked_balances table journal = movements-balance (booked_movements journal (replay (book_of table journal)))

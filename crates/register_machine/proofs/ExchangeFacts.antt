@@ -1,31 +1,35 @@
 -- In the book of a run no order exchanges a class into itself.
-use Rattle.std.proofs.Common.{◌≡◌, ℕ, ◌+◌, Bool, true, false, cond, not, ◌==◌, ◌&&◌, is_some, List, [], ◌∷◌, ◌++◌, find, drop, get_or, length, fold, option_map, option_to_list, All, Option, Some, None, inl, inr, refl, sym, ◌∙◌, subst, append-nil}
+use Rattle.std.proofs.Common.{◌≡◌, ℕ, Bool, true, false, cond, not, ◌==◌, ◌&&◌, is_some, List, [], ◌∷◌, ◌++◌, filter, find, drop, get_or, length, option_map, All, Option, Some, None, inl, inr, refl, sym, ◌∙◌, subst, append-nil}
 use Rattle.std.specs.Option.{option_map_or}
 use Rattle.std.proofs.lemmas.Bool.{true≢false, and_parts}
 use Rattle.std.proofs.lemmas.Bool.Decides.{eqb_tells}
-use Rattle.std.proofs.lemmas.List.Elements.{All-nil, All-cons, All-head, All-tail, All-append, All-push, All-filter, All-map}
-use Rattle.std.specs.List.{cons_option}
+use Rattle.std.proofs.lemmas.List.Elements.{All-nil, All-push, All-filter}
 use Rattle.std.specs.Prelude.{option_and_then}
-use Rattle.agent_events.specs.Answers.{Refusal}
-use Rattle.agent_events.specs.Events.{Kind, event_of}
+use Rattle.agent_events.specs.declared.order.Body.{Body}
+use Rattle.agent_events.specs.declared.request.EntryForm.{EntryForm}
+use Rattle.agent_events.specs.declared.event.EventKind.{EventKind}
+use Rattle.agent_events.specs.declared.order.Order.{Order}
+use Rattle.agent_events.specs.declared.order.OrderRow.{OrderRow}
+use Rattle.agent_events.specs.declared.reply.Refusal.{Refusal}
+use Rattle.agent_events.specs.declared.request.Request.{Request}
+use Rattle.agent_events.specs.Events.{event_of}
 use Rattle.agent_events.specs.Items.{ScriptItem}
-use Rattle.agent_events.specs.Requests.{Body, EntryForm, Request}
 use Rattle.register_machine.specs.Callers.{Situation}
-use Rattle.register_machine.specs.CorrectedBook.{Book, OrderRow, book_of, order_begun, order_named, orders_begun, orders_of, replaces, row_as_corrected, row_as_sent, stands, struck_in}
-use Rattle.register_machine.specs.Journals.{Journal, each_in, last_of, replacement_in}
+use Rattle.register_machine.specs.CorrectedBook.{Book, order_named, orders_of, row_as_sent, stands}
+use Rattle.register_machine.specs.Journals.{Journal}
 use Rattle.register_machine.specs.NamedThings.{has_account, has_bearer, has_order, named, named_in_order, named_in_replacement, none_such}
 use Rattle.register_machine.specs.OrderRules.{family_of, is_exchangeable, is_offered, not_offered, refused_order}
 use Rattle.register_machine.specs.RegisterRules.{event_at, sheet_fault}
-use Rattle.register_machine.specs.Machine.{answer, due_now, first_broken_rule, later_rules}
+use Rattle.register_machine.specs.Machine.{answer, due_now, later_broken_rule, later_rules}
 use Rattle.register_machine.specs.Script.{empty_run, run_from}
-use Rattle.register_machine.specs.MachineLaws.{LeavesItsClass, SharesGoByTradesIn, stays_in_class}
+use Rattle.register_machine.specs.TradeLaws.{LeavesItsClass, stays_in_class}
+use Rattle.register_machine.proofs.BookOrderFacts.{SaidAs, SaysAs, order_said, orders-as}
 use Rattle.register_machine.proofs.WholeFacts.{AllClear, all_clear, each-answer, not_when, run-keeps}
-use Rattle.register_machine.proofs.ConservationFacts.{shares_go_by_trades}
 
-abbrev stays_in : Kind → Bool
-stays_in (Kind.Order placed) = stays_in_class placed.order.body
-stays_in (Kind.Enter form) = stays_in_class form.order.body
-stays_in (Kind.Replace form) = stays_in_class form.order.body
+abbrev stays_in : EventKind → Bool
+stays_in (EventKind.Order placed) = stays_in_class placed.order.body
+stays_in (EventKind.Enter form) = stays_in_class form.order.body
+stays_in (EventKind.Replace form) = stays_in_class form.order.body
 stays_in _ = false
 
 Elsewhere : Journal → Type 0
@@ -103,7 +107,7 @@ brings-leaving situation (Request.Replace form) now due known clear =
     (not-false (has_order situation form.order.account form.order.ref_no) third.0) clear
 brings-leaving situation request now due known clear = refl
 
-rules-clear : (situation : Situation) (request : Request) → first_broken_rule situation request ≡ None → (none_such situation request ≡ None) × (refused_order not_offered situation request ≡ None)
+rules-clear : (situation : Situation) (request : Request) → later_broken_rule situation request ≡ None → (none_such situation request ≡ None) × (refused_order not_offered situation request ≡ None)
 unfolding AllClear
 rules-clear situation request clear =
     let all = all_clear (later_rules situation request (sheet_fault situation request)) clear in (all.0, all.1.1.1.1.0)
@@ -114,7 +118,7 @@ more-elsewhere situation request before =
     each-answer (λ said. Elsewhere (situation.journal ++ said.events)) situation request
     (λ reply. subst Elsewhere (sym (append-nil situation.journal)) before) more
   where
-    more : (kind : Kind) → event_of request situation.now (due_now situation request) ≡ Some kind → first_broken_rule situation request ≡ None → Elsewhere (situation.journal ++ event_at situation kind ∷ [])
+    more : (kind : EventKind) → event_of request situation.now (due_now situation request) ≡ Some kind → later_broken_rule situation request ≡ None → Elsewhere (situation.journal ++ event_at situation kind ∷ [])
     more kind e clear =
         let rules = rules-clear situation request clear in
         All-push (λ event. stays_in event.kind ≡ false) situation.journal (event_at situation kind) before
@@ -122,68 +126,24 @@ more-elsewhere situation request before =
 
 -- ---- the orders of the book
 
-Leaves : OrderRow → Type 0
-Leaves row = stays_in_class row.order.body ≡ false
+abbrev LeavesClass : Order → Type 0
+LeavesClass order = stays_in_class order.body ≡ false
 
-begun-one : (place : ℕ) (kind : Kind) → stays_in kind ≡ false → All Leaves (option_to_list (order_begun place kind))
-unfolding Leaves
-begun-one place (Kind.Order placed) e = All-cons Leaves (row_as_sent place placed.receipt placed.order) [] e (All-nil Leaves)
-begun-one place (Kind.Enter form) e = All-cons Leaves (row_as_sent place form.receipt form.order) [] e (All-nil Leaves)
-begun-one place kind e = All-nil Leaves
-
-begun-all : (place : ℕ) (journal : Journal) → Elsewhere journal → All Leaves (orders_begun place journal)
-unfolding Elsewhere
-begun-all place [] all = All-nil Leaves
-begun-all place (event ∷ later) all =
-    All-append Leaves (option_to_list (order_begun place event.kind)) (orders_begun (place + 1) later)
-    (begun-one place event.kind (All-head (λ event. stays_in event.kind ≡ false) event later all))
-    (begun-all (place + 1) later (All-tail (λ event. stays_in event.kind ≡ false) event later all))
-
-EntryLeaves : EntryForm → Type 0
-EntryLeaves form = stays_in_class form.order.body ≡ false
-
-replaced-one : (kind : Kind) (rest : List EntryForm) → stays_in kind ≡ false → All EntryLeaves rest → All EntryLeaves (cons_option (replacement_in kind) rest)
-unfolding EntryLeaves
-replaced-one (Kind.Replace form) rest e all = All-cons EntryLeaves form rest e all
-replaced-one kind rest e all = all
-
-replaced-all : (journal : Journal) → Elsewhere journal → All EntryLeaves (each_in replacement_in journal)
-unfolding Elsewhere
-replaced-all [] all = All-nil EntryLeaves
-replaced-all (event ∷ later) all =
-    replaced-one event.kind (each_in replacement_in later) (All-head (λ event. stays_in event.kind ≡ false) event later all)
-    (replaced-all later (All-tail (λ event. stays_in event.kind ≡ false) event later all))
-
-abbrev FoundLeaves : Option EntryForm → Type 0
-FoundLeaves None = Unit {0}
-FoundLeaves (Some form) = EntryLeaves form
-
-last-leaves : (test : EntryForm → Bool) (forms : List EntryForm) (found : Option EntryForm) → All EntryLeaves forms → FoundLeaves found → FoundLeaves (fold (λ found form. cond (test form) (Some form) found) found forms)
-last-leaves test [] found all is = is
-last-leaves test (form ∷ forms) found all is =
-    last-leaves test forms (cond (test form) (Some form) found) (All-tail EntryLeaves form forms all)
-    (elim (test form) as (λ b. FoundLeaves (cond b (Some form) found)) [
-      | true ↦ All-head EntryLeaves form forms all
-      | false ↦ is
-    ])
-
-corrected-leaves : (row : OrderRow) (last : Option EntryForm) → Leaves row → FoundLeaves last → stays_in_class (option_map_or (λ form. form.order) last row.order).body ≡ false
-unfolding Leaves EntryLeaves
-corrected-leaves row None own is = own
-corrected-leaves row (Some form) own is = is
+said-leaves : (kind : EventKind) → stays_in kind ≡ false → SaidAs LeavesClass (order_said kind)
+said-leaves (EventKind.Order placed) e = e
+said-leaves (EventKind.Enter form) e = e
+said-leaves (EventKind.Replace form) e = e
+said-leaves _ e = tt
 
 orders-leave : (journal : Journal) → Elsewhere journal → All LeavesItsClass (orders_of journal)
+unfolding Elsewhere SaysAs
 orders-leave journal all =
-    All-map LeavesItsClass (row_as_corrected (each_in struck_in journal) (each_in replacement_in journal)) (orders_begun 0 journal)
-    (λ k d short. record {
-      elsewhere = corrected-leaves (get_or (orders_begun 0 journal) k d) (last_of (replaces (get_or (orders_begun 0 journal) k d).order) (each_in replacement_in journal)) (begun-all 0 journal all k d short)
-          (last-leaves (replaces (get_or (orders_begun 0 journal) k d).order) (each_in replacement_in journal) None (replaced-all journal all) tt);
-    })
+    let rows = orders-as LeavesClass journal (λ k d short. said-leaves (get_or journal k d).kind (all k d short)) in
+    λ k d short. record { elsewhere = rows k d short }
 
-pub shares_go_by_trades_in_runs : (built : Request → Bool) (operator : List ℕ) (items : List ScriptItem) (class : ℕ) → SharesGoByTradesIn (run_from built operator empty_run items) class
+pub run-leaves : (built : Request → Bool) (operator : List ℕ) (items : List ScriptItem) → All LeavesItsClass (filter stands (orders_of (run_from built operator empty_run items).journal))
 unfolding run_from Elsewhere
-shares_go_by_trades_in_runs built operator items class few =
+run-leaves built operator items =
     let run = run_from built operator empty_run items in
     let all = run-keeps Elsewhere (λ situation request late. more-elsewhere situation request) built operator empty_run items (All-nil (λ event. stays_in event.kind ≡ false)) in
-    shares_go_by_trades (book_of run.table run.journal) class
-    (All-filter stands LeavesItsClass (orders_of run.journal) (orders-leave run.journal all)) few
+    All-filter stands LeavesItsClass (orders_of run.journal) (orders-leave run.journal all)

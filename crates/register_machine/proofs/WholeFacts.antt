@@ -10,21 +10,25 @@ use Rattle.std.proofs.lemmas.Grind.{common_steps}
 use Rattle.forward_price.specs.declared.price_sheet.Sheet.{Sheet}
 use Rattle.forward_price.specs.PriceTables.{Table, next_sheet, IsPricedBy}
 use Rattle.forward_price.proofs.PricingFacts.{next_sheet-next}
-use Rattle.agent_events.specs.Answers.{Refusal, Reply}
-use Rattle.agent_events.specs.Events.{Kind, Event, request_of, event_of}
-use Rattle.agent_events.specs.Requests.{Request}
+use Rattle.agent_events.specs.declared.event.EventKind.{EventKind}
+use Rattle.agent_events.specs.declared.reply.Refusal.{Refusal}
+use Rattle.agent_events.specs.declared.reply.Reply.{Reply}
+use Rattle.agent_events.specs.declared.request.Request.{Request}
+use Rattle.agent_events.specs.Events.{Event, request_of, event_of}
 use Rattle.agent_events.specs.Items.{ScriptItem}
 use Rattle.agent_events.specs.VerbForms.{Asked}
 use Rattle.register_machine.specs.Journals.{Journal, last_moment, first_some, when, MomentsNeverFall}
 use Rattle.register_machine.specs.Pricing.{table_after, table_behind, table_of, empty_table}
-use Rattle.register_machine.specs.CorrectedBook.{Book, OrderRow, classes_in, stands}
+use Rattle.agent_events.specs.declared.order.OrderRow.{OrderRow}
+use Rattle.register_machine.specs.CorrectedBook.{Book, classes_in, stands}
 use Rattle.register_machine.specs.Replays.{priced_in, priced_orders}
-use Rattle.register_machine.specs.Callers.{Caller, Situation, situation_at, caller_of}
+use Rattle.register_machine.specs.Callers.{Situation, situation_at, caller_of}
 use Rattle.register_machine.specs.OrderRules.{reference_of, fix_of, brings_reference, brings_fix, has_reference, has_fix, ref_used}
 use Rattle.register_machine.specs.RegisterRules.{event_at, sheet_fault, something_stands}
-use Rattle.register_machine.specs.Machine.{Answer, says, refuses, appends, first_rules, later_rules, first_broken_rule, reply_by, reply_of, first_reply, looked_up, due_now, done_by, done, unless_refused, repeats, unless_repeated, answer, answer_asked}
+use Rattle.register_machine.specs.Machine.{Answer, says, refuses, appends, first_rules, later_rules, later_broken_rule, reply_by, reply_of, first_reply, looked_up, due_now, done_by, done, unless_refused, repeats, unless_repeated, answer, answer_asked}
 use Rattle.register_machine.specs.Script.{Run, situation_in, item_answer, item_step, run_from, empty_run}
-use Rattle.register_machine.specs.MachineLaws.{AnswersByTheJournal, is_query, QueryAppendsNothing, RefusalAppendsNothing, RepeatsItsFirst, IsAppended, AppendsAtMostIt, SaysItsFirstReply, NoReferenceTwice, NoFixTwice, KeepsItsTable, IsForwardPriced}
+use Rattle.register_machine.specs.MachineLaws.{AnswersByTheJournal, is_query, QueryAppendsNothing, RefusalAppendsNothing, RepeatsItsFirst, IsAppended, AppendsAtMostIt, SaysItsFirstReply, KeepsItsTable, IsForwardPriced}
+use Rattle.register_machine.specs.IdentityLaws.{NoReferenceTwice, NoFixTwice}
 
 -- the event of a request asks for that request
 asks-same : (request : Request) (now due : ℕ) → option_map_or request_of (event_of request now due) request ≡ request
@@ -49,19 +53,19 @@ asks-same (Request.Statement form) now due = refl
 asks-same Request.Books now due = refl
 asks-same (Request.Line line) now due = refl
 
-pub asks : (request : Request) (now due : ℕ) (kind : Kind) → event_of request now due ≡ Some kind → request_of kind ≡ request
+pub asks : (request : Request) (now due : ℕ) (kind : EventKind) → event_of request now due ≡ Some kind → request_of kind ≡ request
 asks request now due kind e = sym (ap (λ k. option_map_or request_of k request) e) ∙ asks-same request now due
 
 -- What holds of every reply by itself, and of the request's own event where it is new and no rule is broken, holds of every
 -- answer.
-pub each-new : (C : Answer → Type 0) (situation : Situation) (request : Request) → ((reply : Reply) → C (says reply)) → (first_some (first_rules situation request) ≡ None → position (repeats request) situation.journal ≡ None → (kind : Kind) → event_of request situation.now (due_now situation request) ≡ Some kind → first_broken_rule situation request ≡ None → C (appends situation (event_at situation kind))) → C (answer situation request)
+pub each-new : (C : Answer → Type 0) (situation : Situation) (request : Request) → ((reply : Reply) → C (says reply)) → (first_some (first_rules situation request) ≡ None → position (repeats request) situation.journal ≡ None → (kind : EventKind) → event_of request situation.now (due_now situation request) ≡ Some kind → later_broken_rule situation request ≡ None → C (appends situation (event_at situation kind))) → C (answer situation request)
 each-new C situation request said one = by_right (first_some (first_rules situation request)) refl
   where
-    by_event : first_some (first_rules situation request) ≡ None → position (repeats request) situation.journal ≡ None → (found : Option Kind) → event_of request situation.now (due_now situation request) ≡ found → first_broken_rule situation request ≡ None → C (done_by situation request found)
+    by_event : first_some (first_rules situation request) ≡ None → position (repeats request) situation.journal ≡ None → (found : Option EventKind) → event_of request situation.now (due_now situation request) ≡ found → later_broken_rule situation request ≡ None → C (done_by situation request found)
     by_event allowed new None e clear = said (looked_up situation request)
     by_event allowed new (Some kind) e clear = one allowed new kind e clear
 
-    by_rule : first_some (first_rules situation request) ≡ None → position (repeats request) situation.journal ≡ None → (broken : Option Refusal) → first_broken_rule situation request ≡ broken → C (unless_refused broken (done situation request))
+    by_rule : first_some (first_rules situation request) ≡ None → position (repeats request) situation.journal ≡ None → (broken : Option Refusal) → later_broken_rule situation request ≡ broken → C (unless_refused broken (done situation request))
     by_rule allowed new (Some why) e = said (Reply.Refused why)
     by_rule allowed new None e = by_event allowed new (event_of request situation.now (due_now situation request)) refl e
 
@@ -71,28 +75,31 @@ each-new C situation request said one = by_right (first_some (first_rules situat
 
     by_place : first_some (first_rules situation request) ≡ None → (place : Option ℕ) → position (repeats request) situation.journal ≡ place → C (unless_repeated place situation request)
     by_place allowed (Some place) new = by_first place (slice_get situation.journal place)
-    by_place allowed None new = by_rule allowed new (first_broken_rule situation request) refl
+    by_place allowed None new = by_rule allowed new (later_broken_rule situation request) refl
 
     by_right : (broken : Option Refusal) → first_some (first_rules situation request) ≡ broken → C (unless_refused broken (unless_repeated (position (repeats request) situation.journal) situation request))
     by_right (Some why) e = said (Reply.Refused why)
     by_right None e = by_place e (position (repeats request) situation.journal) refl
 
-pub each-answer : (C : Answer → Type 0) (situation : Situation) (request : Request) → ((reply : Reply) → C (says reply)) → ((kind : Kind) → event_of request situation.now (due_now situation request) ≡ Some kind → first_broken_rule situation request ≡ None → C (appends situation (event_at situation kind))) → C (answer situation request)
+pub each-answer : (C : Answer → Type 0) (situation : Situation) (request : Request) → ((reply : Reply) → C (says reply)) → ((kind : EventKind) → event_of request situation.now (due_now situation request) ≡ Some kind → later_broken_rule situation request ≡ None → C (appends situation (event_at situation kind))) → C (answer situation request)
 each-answer C situation request said one = each-new C situation request said (λ allowed new. one)
 
 pub appends_at_most_it : (situation : Situation) (request : Request) → AppendsAtMostIt situation request
 appends_at_most_it situation request =
-    each-answer (λ said. (said.events ≡ []) ⊎ IsAppended situation request said.events) situation request (λ reply. inl refl)
-    (λ kind e clear. inr (record {
+    each-new (λ said. (said.events ≡ []) ⊎ IsAppended situation request said.events) situation request (λ reply. inl refl)
+    (λ allowed new kind e clear. inr (record {
       kind = kind;
       one = refl;
       asked = asks request situation.now (due_now situation request) kind e;
+      brings = e;
+      allowed = allowed;
+      new = new;
       clear = clear;
     }))
 
 -- ---- queries, refusals, repeats
 
-is_event : (request : Request) (now due : ℕ) (kind : Kind) → is_query request ≡ true → event_of request now due ≡ Some kind → ⊥
+is_event : (request : Request) (now due : ℕ) (kind : EventKind) → is_query request ≡ true → event_of request now due ≡ Some kind → ⊥
 is_event (Request.Calendar form) now due kind q e = true≢false (sym q)
 is_event (Request.Close form) now due kind q e = true≢false (sym q)
 is_event (Request.Class form) now due kind q e = true≢false (sym q)
@@ -123,22 +130,22 @@ pub repeats_its_first : (situation : Situation) (request : Request) (place : ℕ
 repeats_its_first situation request place event allowed known there = rw (allowed, known, there) refl
 
 -- the reply to an event is no refusal
-no_refusal : (situation : Situation) (event : Event) (kind : Kind) (refusal : Refusal) → reply_by situation.table situation.journal event kind ≡ Reply.Refused refusal → ⊥
-no_refusal situation event (Kind.Calendar form) why e = cc
-no_refusal situation event (Kind.Close form) why e = cc
-no_refusal situation event (Kind.Class form) why e = cc
-no_refusal situation event (Kind.Dealer form) why e = cc
-no_refusal situation event (Kind.Household form) why e = cc
-no_refusal situation event (Kind.Account form) why e = cc
-no_refusal situation event (Kind.Order placed) why e = cc
-no_refusal situation event (Kind.Cancel form) why e = cc
-no_refusal situation event (Kind.Sheet form) why e = cc
-no_refusal situation event (Kind.Dividend form) why e = cc
-no_refusal situation event (Kind.FixPrice form) why e = cc
-no_refusal situation event (Kind.FixRate form) why e = cc
-no_refusal situation event (Kind.Enter form) why e = cc
-no_refusal situation event (Kind.Replace form) why e = cc
-no_refusal situation event (Kind.Void form) why e = cc
+no_refusal : (situation : Situation) (event : Event) (kind : EventKind) (refusal : Refusal) → reply_by situation.table situation.journal event kind ≡ Reply.Refused refusal → ⊥
+no_refusal situation event (EventKind.Calendar form) why e = cc
+no_refusal situation event (EventKind.Close form) why e = cc
+no_refusal situation event (EventKind.Class form) why e = cc
+no_refusal situation event (EventKind.Dealer form) why e = cc
+no_refusal situation event (EventKind.Household form) why e = cc
+no_refusal situation event (EventKind.Account form) why e = cc
+no_refusal situation event (EventKind.Order placed) why e = cc
+no_refusal situation event (EventKind.Cancel form) why e = cc
+no_refusal situation event (EventKind.Sheet form) why e = cc
+no_refusal situation event (EventKind.Dividend form) why e = cc
+no_refusal situation event (EventKind.FixPrice form) why e = cc
+no_refusal situation event (EventKind.FixRate form) why e = cc
+no_refusal situation event (EventKind.Enter form) why e = cc
+no_refusal situation event (EventKind.Replace form) why e = cc
+no_refusal situation event (EventKind.Void form) why e = cc
 
 pub refusal_appends_nothing : (situation : Situation) (request : Request) (refusal : Refusal) → RefusalAppendsNothing situation request refusal
 refusal_appends_nothing situation request refusal =
@@ -164,11 +171,11 @@ at_most_one p xs x few none =
     ] refl both
 
 -- where no rule of a list is broken, none is
-unfoldable pub AllClear : List (Option Refusal) → Type 0
+unfoldable pub AllClear : {X : Type 0} → List (Option X) → Type 0
 AllClear [] = Unit {0}
 AllClear (x ∷ xs) = (x ≡ None) × AllClear xs
 
-pub all_clear : (rules : List (Option Refusal)) → first_some rules ≡ None → AllClear rules
+pub all_clear : {X : Type 0} (rules : List (Option X)) → first_some rules ≡ None → AllClear rules
 unfolding AllClear
 all_clear [] e = tt
 all_clear (None ∷ rules) e = (refl, all_clear rules e)
@@ -184,15 +191,15 @@ not_when true x e = absurd (some_none e)
     some_none h = cc
 not_when false x e = refl
 
-ref_clear : (situation : Situation) (request : Request) → first_broken_rule situation request ≡ None → ref_used situation request ≡ None
+ref_clear : (situation : Situation) (request : Request) → later_broken_rule situation request ≡ None → ref_used situation request ≡ None
 unfolding AllClear
 ref_clear situation request clear = (all_clear (later_rules situation request (sheet_fault situation request)) clear).1.0
 
-pub stands_clear : (situation : Situation) (request : Request) → first_broken_rule situation request ≡ None → something_stands situation request ≡ None
+pub stands_clear : (situation : Situation) (request : Request) → later_broken_rule situation request ≡ None → something_stands situation request ≡ None
 unfolding AllClear
 stands_clear situation request clear = (all_clear (later_rules situation request (sheet_fault situation request)) clear).1.1.1.1.1.1.1.1.1.1.1.0
 
-ref_parts : (situation : Situation) (request : Request) → first_broken_rule situation request ≡ None → (option_map_or (has_reference situation) (reference_of request) false ≡ false) × (option_map_or (has_fix situation) (fix_of request) false ≡ false)
+ref_parts : (situation : Situation) (request : Request) → later_broken_rule situation request ≡ None → (option_map_or (has_reference situation) (reference_of request) false ≡ false) × (option_map_or (has_fix situation) (fix_of request) false ≡ false)
 ref_parts situation request clear =
     or_parts (option_map_or (has_reference situation) (reference_of request) false) (option_map_or (has_fix situation) (fix_of request) false)
     (not_when (option_map_or (has_reference situation) (reference_of request) false || option_map_or (has_fix situation) (fix_of request) false) Refusal.RefUsed (ref_clear situation request clear))
@@ -217,7 +224,7 @@ more-references situation request once =
     each-answer (λ said. NoReferenceTwice (situation.journal ++ said.events)) situation request
     (λ reply. subst NoReferenceTwice (sym (append-nil situation.journal)) once) more
   where
-    more : (kind : Kind) → event_of request situation.now (due_now situation request) ≡ Some kind → first_broken_rule situation request ≡ None → NoReferenceTwice (situation.journal ++ event_at situation kind ∷ [])
+    more : (kind : EventKind) → event_of request situation.now (due_now situation request) ≡ Some kind → later_broken_rule situation request ≡ None → NoReferenceTwice (situation.journal ++ event_at situation kind ∷ [])
     more kind e clear named =
         at_most_one (brings_reference named) situation.journal (event_at situation kind) (once named)
         (unknown_reference situation named (reference_of (request_of kind))
@@ -228,7 +235,7 @@ more-fixes situation request once =
     each-answer (λ said. NoFixTwice (situation.journal ++ said.events)) situation request
     (λ reply. subst NoFixTwice (sym (append-nil situation.journal)) once) more
   where
-    more : (kind : Kind) → event_of request situation.now (due_now situation request) ≡ Some kind → first_broken_rule situation request ≡ None → NoFixTwice (situation.journal ++ event_at situation kind ∷ [])
+    more : (kind : EventKind) → event_of request situation.now (due_now situation request) ≡ Some kind → later_broken_rule situation request ≡ None → NoFixTwice (situation.journal ++ event_at situation kind ∷ [])
     more kind e clear fix =
         at_most_one (brings_fix fix) situation.journal (event_at situation kind) (once fix)
         (unknown_fix situation fix (fix_of (request_of kind))
@@ -261,7 +268,7 @@ more-ordered situation request late ordered =
     each-answer (λ said. Ordered (situation.journal ++ said.events)) situation request
     (λ reply. subst Ordered (sym (append-nil situation.journal)) ordered) more
   where
-    more : (kind : Kind) → event_of request situation.now (due_now situation request) ≡ Some kind → first_broken_rule situation request ≡ None → Ordered (situation.journal ++ event_at situation kind ∷ [])
+    more : (kind : EventKind) → event_of request situation.now (due_now situation request) ≡ Some kind → later_broken_rule situation request ≡ None → Ordered (situation.journal ++ event_at situation kind ∷ [])
     more kind e clear = (
       all_pairs_push (λ a b. a.moment ≤ b.moment) situation.journal (event_at situation kind) ordered.0 (λ k d within. omega (arith, ordered.1 k d within, late)),
       more-up_to_last situation.journal (event_at situation kind) late ordered.1,
@@ -329,22 +336,22 @@ pub run_keeps_its_table : (built : Request → Bool) (operator : List ℕ) (item
 unfolding run_from table_behind
 run_keeps_its_table built operator items = table-run built operator empty_run items refl
 
--- so what each answer keeps in a situation with its journal's own table, a run keeps
-run-with-table : (P : Journal → Type 0) → ((journal : Journal) (now : ℕ) (caller : Caller) (request : Request) → last_moment journal ≤ now → P journal → P (journal ++ (answer (situation_at (table_of journal) journal now caller) request).events)) → (built : Request → Bool) (operator : List ℕ) (run : Run) (items : List ScriptItem) → KeepsItsTable run → P run.journal → P (fold (item_step built operator) run items).journal
+-- so what each answer to a caller by its key keeps, in a situation with its journal's own table, a run keeps
+run-with-table : (P : Journal → Type 0) (operator : List ℕ) → ((journal : Journal) (now : ℕ) (key : List ℕ) (request : Request) → last_moment journal ≤ now → P journal → P (journal ++ (answer (situation_at (table_of journal) journal now (caller_of journal operator key)) request).events)) → (built : Request → Bool) (run : Run) (items : List ScriptItem) → KeepsItsTable run → P run.journal → P (fold (item_step built operator) run items).journal
 unfolding item_step
-run-with-table P keeps built operator run [] own holds = holds
-run-with-table P keeps built operator run (first ∷ items) own holds =
-    run-with-table P keeps built operator (item_step built operator run first) items
+run-with-table P operator keeps built run [] own holds = holds
+run-with-table P operator keeps built run (first ∷ items) own holds =
+    run-with-table P operator keeps built (item_step built operator run first) items
     (table-more run.table run.journal (item_answer built operator run first).events own)
     (each-item (λ said. P (run.journal ++ said.events)) built operator run first
     (λ refusal. subst P (sym (append-nil run.journal)) holds)
     (λ now key request late.
     subst (λ table. P (run.journal ++ (answer (situation_at table run.journal now (caller_of run.journal operator key)) request).events)) (sym own)
-    (keeps run.journal now (caller_of run.journal operator key) request late holds)))
+    (keeps run.journal now key request late holds)))
 
-pub run-keeps-its : (P : Journal → Type 0) → ((journal : Journal) (now : ℕ) (caller : Caller) (request : Request) → last_moment journal ≤ now → P journal → P (journal ++ (answer (situation_at (table_of journal) journal now caller) request).events)) → (built : Request → Bool) (operator : List ℕ) (items : List ScriptItem) → P [] → P (run_from built operator empty_run items).journal
+pub run-keeps-its : (P : Journal → Type 0) (operator : List ℕ) → ((journal : Journal) (now : ℕ) (key : List ℕ) (request : Request) → last_moment journal ≤ now → P journal → P (journal ++ (answer (situation_at (table_of journal) journal now (caller_of journal operator key)) request).events)) → (built : Request → Bool) (items : List ScriptItem) → P [] → P (run_from built operator empty_run items).journal
 unfolding run_from table_behind
-run-keeps-its P keeps built operator items holds = run-with-table P keeps built operator empty_run items refl holds
+run-keeps-its P operator keeps built items holds = run-with-table P operator keeps built empty_run items refl holds
 
 -- ---- the next price
 

@@ -1,29 +1,18 @@
--- The register machine: what it answers to a request at a moment, and the journal after it. The rules are tried in turn,
+-- The path's machine: what it answers to a request at a moment, and the journal after it. The rules are tried in turn,
 -- and the first that is broken is the refusal. A refused request and a repeat leave the journal as it is.
-use Rattle.std.specs.Prelude.{ℕ, ◌+◌, Bool, true, false, not, ◌&&◌, ◌||◌, nat_lt, nat_le, ◌==◌, if◌then◌else◌, List, [], ◌∷◌, ◌++◌, length, filter, find, pos, nat_abs, ℤ, Option, Some, None, is_some, option_map, bytes_eq}
+use Rattle.std.specs.Prelude.{ℕ, ◌+◌, Bool, true, false, not, ◌&&◌, ◌||◌, nat_lt, nat_le, ◌==◌, if◌then◌else◌, List, [], ◌∷◌, ◌++◌, length, filter, find, pos, nat_abs, Option, Some, None, is_some, option_map}
 use Rattle.std.specs.List.{list_any, list_all}
 use Rattle.class_terms.specs.declared.lists.Bracket.{Bracket}
-use Rattle.agent_events.specs.declared.event.Event.{Event}
 use Rattle.agent_events.specs.declared.event.EventKind.{EventKind}
-use Rattle.agent_events.specs.declared.event.EventKind.TheVariants as kind
-use Rattle.agent_events.specs.declared.event.OrderEvent.{OrderEvent}
-use Rattle.agent_events.specs.declared.event.Source.TheVariants as source
-use Rattle.agent_events.specs.declared.item.Ask.{Ask}
-use Rattle.agent_events.specs.declared.item.Ask.TheVariants as ask
-use Rattle.agent_events.specs.declared.item.Item.{Item}
-use Rattle.agent_events.specs.declared.item.Item.TheVariants as item
+use Rattle.agent_events.specs.declared.order.Body.{Body}
+use Rattle.agent_events.specs.declared.order.Order.{Order}
 use Rattle.agent_events.specs.declared.reply.Refusal.{Refusal}
-use Rattle.agent_events.specs.declared.reply.Refusal.TheVariants as refusal
 use Rattle.agent_events.specs.declared.reply.Reply.{Reply}
-use Rattle.agent_events.specs.declared.reply.Reply.TheVariants as reply
-use Rattle.agent_events.specs.declared.request.Buy.{Buy}
 use Rattle.agent_events.specs.declared.request.ClassForm.{ClassForm}
-use Rattle.agent_events.specs.declared.request.SheetForm.{SheetForm}
-use Rattle.agent_events.specs.declared.request.Order.{Order}
-use Rattle.agent_events.specs.declared.request.Order.TheVariants as order
 use Rattle.agent_events.specs.declared.request.Request.{Request}
-use Rattle.agent_events.specs.declared.request.Request.TheVariants as request
-use Rattle.agent_events.specs.Content.{same_class, same_order, same_prices, order_account, order_ref}
+use Rattle.agent_events.specs.declared.request.SheetForm.{SheetForm}
+use Rattle.agent_events.specs.Content.{same_class, same_prices}
+use Rattle.agent_events.specs.Events.{Event, placed_now}
 use Rattle.std.specs.Ordering.{int_eq}
 use Rattle.forward_price.specs.declared.price_sheet.Opening.{Opening}
 use Rattle.forward_price.specs.declared.price_sheet.PublishFault.{PublishFault}
@@ -32,7 +21,8 @@ use Rattle.forward_price.specs.declared.price_sheet.Sheet.{Sheet}
 use Rattle.forward_price.specs.PriceTables.{calendar_numbered}
 use Rattle.forward_price.specs.Sheets.{lists_class}
 use Rattle.forward_price.specs.Turns.{due_of, publish_fault}
-use Rattle.register_machine.specs.Journal.{Journal, last_moment, table_of, opened, orders, sheets}
+use Rattle.register_machine.specs.Journal.{Buy, Purchase, table_of, opened, purchases, sheets}
+use Rattle.register_machine.specs.Journals.{Journal}
 use Rattle.register_machine.specs.Replay.{positions_of}
 
 -- a reply, and the journal after it
@@ -44,7 +34,7 @@ abbrev pub kept : Journal → Reply → Answer
 kept journal said = record { reply = said; journal = journal }
 
 abbrev pub refused : Journal → Refusal → Answer
-refused journal why = kept journal (reply.Refused why)
+refused journal why = kept journal (Reply.Refused why)
 
 abbrev pub event_at : ℕ → EventKind → Event
 event_at now happened = record { moment = now; kind = happened }
@@ -55,11 +45,10 @@ appended journal now happened said = kept (journal ++ event_at now happened ∷ 
 -- ---- class
 
 abbrev pub repeats_class : ClassForm → EventKind → Bool
-repeats_class form (kind.Class known) = same_class known form
-repeats_class form (kind.Order order) = false
-repeats_class form (kind.Sheet sheet) = false
+repeats_class form (EventKind.Class known) = same_class known form
+repeats_class form _ = false
 
--- no load, and both minimums a cent
+-- one row, from nothing on and without a load
 abbrev pub is_no_load : List Bracket → Bool
 is_no_load front = length front == 1 && list_any (λ row. row.floor == 0 && row.rate == 0) front
 
@@ -75,65 +64,72 @@ is_built_class form =
 
 abbrev pub class_answer : Journal → ℕ → Bool → ClassForm → Answer
 class_answer journal now is_operator form =
-    if list_any (λ event. repeats_class form event.kind) journal then kept journal (reply.Class form.class)
+    if list_any (λ event. repeats_class form event.kind) journal then kept journal (Reply.Class form.class)
     else if is_operator && (has_calendar journal form.calendar && (is_built_class form && length (opened journal) == 0))
-    then appended journal now (kind.Class form) (reply.Class form.class)
-    else refused journal refusal.Unbuilt
+    then appended journal now (EventKind.Class form) (Reply.Class form.class)
+    else refused journal Refusal.Unbuilt
 
--- ---- orders
+-- ---- purchases
 
--- what the account calls one of its orders
-abbrev pub has_reference : ℕ → ℕ → OrderEvent → Bool
-has_reference account ref_no placed = order_account placed.order == account && order_ref placed.order == ref_no
+-- what the account calls one of its purchases
+abbrev pub has_reference : ℕ → ℕ → Purchase → Bool
+has_reference account ref_no known = known.buy.account == account && known.buy.ref_no == ref_no
 
-abbrev pub first_order : Journal → Order → Option OrderEvent
-first_order journal placed = find (has_reference (order_account placed) (order_ref placed)) (orders journal)
+abbrev pub first_purchase : Journal → Buy → Option Purchase
+first_purchase journal buy = find (has_reference buy.account buy.ref_no) (purchases journal)
 
-abbrev pub orders_of : Journal → ℕ → ℕ
-orders_of journal account = length (filter (λ placed. order_account placed.order == account) (orders journal))
+abbrev pub same_buy : Buy → Buy → Bool
+same_buy a b = a.account == b.account && (a.ref_no == b.ref_no && (a.class == b.class && a.gross == b.gross))
+
+abbrev pub purchases_of : Journal → ℕ → ℕ
+purchases_of journal account = length (filter (λ known. known.buy.account == account) (purchases journal))
 
 abbrev pub is_open_class : List Opening → ℕ → Bool
 is_open_class classes class = list_any (λ known. known.class == class) classes
 
--- the order as an event: received now
-abbrev pub placed_now : Order → ℕ → ℕ → OrderEvent
-placed_now placed now due = record { order = placed; source = source.Direct; receipt = now; due = due }
+-- the purchase as an order, and as it is kept: received now
+abbrev pub order_of : Buy → Order
+order_of buy = record { account = buy.account; ref_no = buy.ref_no; body = Body.Buy buy.class buy.gross }
 
-abbrev pub order_reply : OrderEvent → Reply
-order_reply placed = reply.Order (record {
-  account = order_account placed.order;
-  ref_no = order_ref placed.order;
-  receipt = placed.receipt;
-  due = placed.due;
+abbrev pub purchase_reply : Purchase → Reply
+purchase_reply purchase = Reply.Order (record {
+  account = purchase.buy.account;
+  ref_no = purchase.buy.ref_no;
+  receipt = purchase.receipt;
+  due = purchase.due;
 })
 
--- an order may be placed: by the operator, in a class that is open, as one of at most 4,096 of its account
-abbrev pub is_built_order : Journal → Bool → Buy → Bool
-is_built_order journal is_operator buy =
-    is_operator && (is_open_class (opened journal) buy.class && nat_lt (orders_of journal buy.account) 4096)
+-- a purchase may be made: by the operator, in a class that is open, as one of at most 4,096 of its account
+abbrev pub is_built_purchase : Journal → Bool → Buy → Bool
+is_built_purchase journal is_operator buy =
+    is_operator && (is_open_class (opened journal) buy.class && nat_lt (purchases_of journal buy.account) 4096)
 
-abbrev pub new_order_answer : Journal → ℕ → Bool → Buy → Option ℕ → Bool → Answer
-new_order_answer journal now is_operator buy None is_known = refused journal refusal.Unbuilt
-new_order_answer journal now is_operator buy (Some due) is_known =
-    if not (is_built_order journal is_operator buy) then refused journal refusal.Unbuilt
-    else if is_known then refused journal refusal.RefUsed
-    else appended journal now (kind.Order (placed_now (order.Buy buy) now due)) (order_reply (placed_now (order.Buy buy) now due))
-
--- a moment of the price table as it is told; all of them lie in the range of moments
-abbrev pub told : ℤ → ℕ
-told moment = if nat_le (nat_abs moment) 7258118399 then nat_abs moment else 0
+abbrev pub new_purchase_answer : Journal → ℕ → Bool → Buy → Option ℕ → Bool → Answer
+new_purchase_answer journal now is_operator buy None is_known = refused journal Refusal.Unbuilt
+new_purchase_answer journal now is_operator buy (Some due) is_known =
+    if not (is_built_purchase journal is_operator buy) then refused journal Refusal.Unbuilt
+    else if is_known then refused journal Refusal.RefUsed
+    else appended journal now (EventKind.Order (placed_now (order_of buy) now due))
+    (purchase_reply (record { buy = buy; receipt = now; due = due }))
 
 abbrev pub due_now : Journal → ℕ → Buy → Option ℕ
-due_now journal now buy = option_map told (due_of (table_of journal) (buy.class ∷ []) (pos now))
+due_now journal now buy = option_map nat_abs (due_of (table_of journal) (buy.class ∷ []) (pos now))
 
-abbrev pub buy_after : Journal → ℕ → Bool → Buy → Option OrderEvent → Answer
-buy_after journal now is_operator buy None = new_order_answer journal now is_operator buy (due_now journal now buy) false
+abbrev pub buy_after : Journal → ℕ → Bool → Buy → Option Purchase → Answer
+buy_after journal now is_operator buy None = new_purchase_answer journal now is_operator buy (due_now journal now buy) false
 buy_after journal now is_operator buy (Some first) =
-    if same_order first.order (order.Buy buy) then kept journal (order_reply first)
-    else new_order_answer journal now is_operator buy (due_now journal now buy) true
+    if same_buy first.buy buy then kept journal (purchase_reply first)
+    else new_purchase_answer journal now is_operator buy (due_now journal now buy) true
 
 abbrev pub buy_answer : Journal → ℕ → Bool → Buy → Answer
-buy_answer journal now is_operator buy = buy_after journal now is_operator buy (first_order journal (order.Buy buy))
+buy_answer journal now is_operator buy = buy_after journal now is_operator buy (first_purchase journal buy)
+
+-- an order; all but purchases aren't built yet
+abbrev pub order_answer : Journal → ℕ → Bool → Order → Body → Answer
+order_answer journal now is_operator order (Body.Buy class gross) =
+    buy_answer journal now is_operator
+    (record { account = order.account; ref_no = order.ref_no; class = class; gross = gross })
+order_answer journal now is_operator order _ = refused journal Refusal.Unbuilt
 
 -- ---- sheets
 
@@ -155,16 +151,16 @@ fault_now journal now form = publish_fault (table_of journal) form.calendar (pos
 
 -- the sheet is out of turn unless it is the expected one; its list and its moment were tried before
 abbrev pub turn_answer : Journal → ℕ → SheetForm → Option PublishFault → Answer
-turn_answer journal now form None = appended journal now (kind.Sheet form) (reply.Sheet (length (sheets journal) + 1))
-turn_answer journal now form (Some (fault.SheetOutOfTurn moment calendar)) = refused journal (refusal.SheetOutOfTurn (told moment) calendar)
-turn_answer journal now form (Some (fault.SheetIncomplete class)) = refused journal refusal.Unbuilt
-turn_answer journal now form (Some (fault.TooSoon moment)) = refused journal refusal.Unbuilt
+turn_answer journal now form None = appended journal now (EventKind.Sheet form) (Reply.Sheet (length (sheets journal) + 1))
+turn_answer journal now form (Some (fault.SheetOutOfTurn moment calendar)) = refused journal (Refusal.SheetOutOfTurn (nat_abs moment) calendar)
+turn_answer journal now form (Some (fault.SheetIncomplete class)) = refused journal Refusal.Unbuilt
+turn_answer journal now form (Some (fault.TooSoon moment)) = refused journal Refusal.Unbuilt
 
 abbrev pub sheet_after : Journal → ℕ → Bool → SheetForm → Option Sheet → Answer
-sheet_after journal now is_operator form (Some sheet) = kept journal (reply.Sheet sheet.number)
+sheet_after journal now is_operator form (Some sheet) = kept journal (Reply.Sheet sheet.number)
 sheet_after journal now is_operator form None =
     if is_built_sheet journal now is_operator form then turn_answer journal now form (fault_now journal now form)
-    else refused journal refusal.Unbuilt
+    else refused journal Refusal.Unbuilt
 
 abbrev pub sheet_answer : Journal → ℕ → Bool → SheetForm → Answer
 sheet_answer journal now is_operator form =
@@ -174,25 +170,14 @@ sheet_answer journal now is_operator form =
 
 abbrev pub show_answer : Journal → Bool → ℕ → Answer
 show_answer journal is_operator account =
-    if is_operator then kept journal (reply.Show (record { account = account; positions = positions_of journal account }))
-    else refused journal refusal.Unbuilt
+    if is_operator then kept journal (Reply.Show account (positions_of journal account))
+    else refused journal Refusal.Unbuilt
 
--- ---- all requests
+-- ---- all requests; those of the other verbs aren't built yet
 
 abbrev pub answer : Journal → ℕ → Bool → Request → Answer
-answer journal now is_operator (request.Class form) = class_answer journal now is_operator form
-answer journal now is_operator (request.Sheet form) = sheet_answer journal now is_operator form
-answer journal now is_operator (request.Order (order.Buy buy)) = buy_answer journal now is_operator buy
-answer journal now is_operator (request.Show account) = show_answer journal is_operator account
-
-abbrev pub ask_answer : Journal → ℕ → Bool → Ask → Answer
-ask_answer journal now is_operator (ask.Request asked) = answer journal now is_operator asked
-ask_answer journal now is_operator (ask.BadForm place) = refused journal (refusal.BadForm place)
-ask_answer journal now is_operator ask.Unbuilt = refused journal refusal.Unbuilt
-
--- an item of a script; its moment may not be smaller than the journal's last
-abbrev pub item_answer : List ℕ → Journal → Item → Answer
-item_answer operator journal item.Bad = refused journal (refusal.BadForm 0)
-item_answer operator journal (item.Good now key asked) =
-    if nat_lt now (last_moment journal) then refused journal (refusal.StampBack (last_moment journal))
-    else ask_answer journal now (bytes_eq key operator) asked
+answer journal now is_operator (Request.Class form) = class_answer journal now is_operator form
+answer journal now is_operator (Request.Sheet form) = sheet_answer journal now is_operator form
+answer journal now is_operator (Request.Order order) = order_answer journal now is_operator order order.body
+answer journal now is_operator (Request.Show account) = show_answer journal is_operator account
+answer journal now is_operator _ = refused journal Refusal.Unbuilt

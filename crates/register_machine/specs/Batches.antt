@@ -1,10 +1,10 @@
 -- A batch of a dealer's lines is one request: its lines are answered in order, each behind those before it, and all that
 -- they bring is appended together.
 use Rattle.std.specs.Prelude.{ℕ, Bool, true, false, List, [], ◌∷◌, ◌++◌, if◌then◌else◌, Ok, Err, fold, Result}
-use Rattle.agent_events.specs.AnswerTexts.{said}
-use Rattle.agent_events.specs.Answers.{Refusal, Reply}
+use Rattle.agent_events.specs.declared.reply.Refusal.{Refusal}
+use Rattle.agent_events.specs.declared.reply.Reply.{Reply}
+use Rattle.agent_events.specs.declared.request.Request.{Request}
 use Rattle.agent_events.specs.Events.{Event}
-use Rattle.agent_events.specs.Requests.{Request}
 use Rattle.agent_events.specs.VerbForms.{Asked}
 use Rattle.register_machine.specs.Callers.{Caller, Situation, situation_at}
 use Rattle.register_machine.specs.Machine.{answer_asked}

@@ -4,8 +4,9 @@ use Rattle.std.specs.Prelude.{ℕ, Bool, true, false, not, ◌&&◌, List, if◌
 use Rattle.std.specs.List.{list_any}
 use Rattle.std.specs.Option.{option_or}
 use Rattle.forward_price.specs.PriceTables.{Table}
-use Rattle.agent_events.specs.Answers.{Refusal}
-use Rattle.agent_events.specs.Requests.{AccountForm, Request}
+use Rattle.agent_events.specs.declared.request.AccountForm.{AccountForm}
+use Rattle.agent_events.specs.declared.reply.Refusal.{Refusal}
+use Rattle.agent_events.specs.declared.request.Request.{Request}
 use Rattle.register_machine.specs.CorrectedBook.{Book, book_of}
 use Rattle.register_machine.specs.Journals.{Journal, dealers_of, households_of, when}
 
@@ -15,18 +16,23 @@ pub data Caller : Type 0 where
   Dealer : (dealer : ℕ) → Caller
   Stranger : Caller
 
-abbrev pub household_by_key : Journal → List ℕ → Option Caller
-household_by_key journal key =
-    option_map (λ form. Caller.Household form.household) (find (λ form. bytes_eq form.key key) (households_of journal))
+-- the household and the dealer with this key
+abbrev pub household_with_key : Journal → List ℕ → Option ℕ
+household_with_key journal key =
+    option_map (λ form. form.household) (find (λ form. bytes_eq form.key key) (households_of journal))
 
-abbrev pub dealer_by_key : Journal → List ℕ → Option Caller
-dealer_by_key journal key =
-    option_map (λ form. Caller.Dealer form.dealer) (find (λ form. bytes_eq form.key key) (dealers_of journal))
+abbrev pub dealer_with_key : Journal → List ℕ → Option ℕ
+dealer_with_key journal key =
+    option_map (λ form. form.dealer) (find (λ form. bytes_eq form.key key) (dealers_of journal))
+
+abbrev pub known_caller : Journal → List ℕ → Option Caller
+known_caller journal key =
+    option_or (option_map Caller.Household (household_with_key journal key))
+    (option_map Caller.Dealer (dealer_with_key journal key))
 
 abbrev pub caller_of : Journal → List ℕ → List ℕ → Caller
 caller_of journal operator key =
-    if bytes_eq key operator then Caller.Operator
-    else unwrap_or (option_or (household_by_key journal key) (dealer_by_key journal key)) Caller.Stranger
+    if bytes_eq key operator then Caller.Operator else unwrap_or (known_caller journal key) Caller.Stranger
 
 -- an account of this household, and one that names this dealer
 abbrev pub owns : List AccountForm → ℕ → ℕ → Bool

@@ -1,6 +1,6 @@
 -- The movements of cash that trades bring, the cash of each party, and the outstanding shares of a class.
 use Rattle.std.specs.Prelude.{ℕ, ◌-◌, Bool, true, false, List, [], ◌∷◌, ℤ, pos, ◌-ℤ◌, if◌then◌else◌, ◌==◌, sum_by, flat_map}
-use Rattle.agent_events.specs.Requests.{Party}
+use Rattle.agent_events.specs.declared.order.Party.{Party}
 use Rattle.register_machine.specs.Positions.{Position, Register, mils_of}
 use Rattle.register_machine.specs.Trades.{Outcome, Trade, TradeKind}
 
@@ -53,14 +53,14 @@ same_party _ _ = false
 abbrev pub received_in : Party → Movement → ℕ
 received_in party movement = if same_party movement.taker party then movement.cents else 0
 
-abbrev pub paid_in : Party → Movement → ℕ
-paid_in party movement = if same_party movement.giver party then movement.cents else 0
+abbrev pub paid_out_in : Party → Movement → ℕ
+paid_out_in party movement = if same_party movement.giver party then movement.cents else 0
 
 abbrev pub received : List Movement → Party → ℕ
 received movements party = sum_by (received_in party) movements
 
 abbrev pub paid_out : List Movement → Party → ℕ
-paid_out movements party = sum_by (paid_in party) movements
+paid_out movements party = sum_by (paid_out_in party) movements
 
 abbrev pub balance : List Movement → Party → ℤ
 balance movements party = pos (received movements party) -ℤ pos (paid_out movements party)

@@ -1,5 +1,5 @@
--- The corrected book: the orders with their receipts and contents as corrected, the price table, the dividend rates and
--- the terms. It is all that a replay reads.
+-- The corrected book: the orders with their receipts and contents as corrected, the price table as corrected, the dividend
+-- rates, the terms of the classes, and the accounts with their households. It is all that a replay reads.
 use Rattle.std.specs.Prelude.{ℕ, ◌+◌, Bool, false, not, ◌&&◌, List, [], ◌∷◌, ◌++◌, map, pos, nat_abs, ◌==◌, Some, None, find, Option, option_map, option_to_list}
 use Rattle.std.specs.List.{list_any}
 use Rattle.std.specs.Option.{option_map_or}
@@ -7,26 +7,24 @@ use Rattle.class_terms.specs.declared.lists.Bracket.{Bracket}
 use Rattle.forward_price.specs.PriceTables.{Table, next_sheet}
 use Rattle.forward_price.specs.Turns.{due_of}
 use Rattle.forward_price.specs.declared.price_sheet.Sheet.{Sheet}
-use Rattle.agent_events.specs.Events.{Kind}
-use Rattle.agent_events.specs.Requests.{AccountForm, Body, EntryForm, OrderForm}
+use Rattle.agent_events.specs.declared.request.AccountForm.{AccountForm}
+use Rattle.agent_events.specs.declared.order.Body.{Body}
 use Rattle.agent_events.specs.declared.request.ClassForm.{ClassForm}
+use Rattle.agent_events.specs.declared.request.EntryForm.{EntryForm}
+use Rattle.agent_events.specs.declared.event.EventKind.{EventKind}
+use Rattle.agent_events.specs.declared.order.Order.{Order}
+use Rattle.agent_events.specs.declared.order.OrderRow.{OrderRow}
 use Rattle.register_machine.specs.Journals.{Journal, accounts_of, class_numbered, classes_of, each_in, last_of, replacement_in}
 use Rattle.register_machine.specs.Pricing.{Rates, rates_of, table_as_corrected}
 
--- an order as corrected: its place in the journal, its receipt, whether it is struck, and what it does
-pub record OrderRow : Type 0 where
-  pub place : ℕ
-  pub receipt : ℕ
-  pub struck : Bool
-  pub order : OrderForm
-
-abbrev pub row_as_sent : ℕ → ℕ → OrderForm → OrderRow
+-- an order as it was sent
+abbrev pub row_as_sent : ℕ → ℕ → Order → OrderRow
 row_as_sent place receipt order = record { place = place; receipt = receipt; struck = false; order = order }
 
 -- an order event and an entered order begin an order
-abbrev pub order_begun : ℕ → Kind → Option OrderRow
-order_begun place (Kind.Order placed) = Some (row_as_sent place placed.receipt placed.order)
-order_begun place (Kind.Enter form) = Some (row_as_sent place form.receipt form.order)
+abbrev pub order_begun : ℕ → EventKind → Option OrderRow
+order_begun place (EventKind.Order placed) = Some (row_as_sent place placed.receipt placed.order)
+order_begun place (EventKind.Enter form) = Some (row_as_sent place form.receipt form.order)
 order_begun place _ = None
 
 abbrev pub orders_begun : ℕ → Journal → List OrderRow
@@ -34,19 +32,19 @@ orders_begun place [] = []
 orders_begun place (event ∷ later) = option_to_list (order_begun place event.kind) ++ orders_begun (place + 1) later
 
 -- an order is named by its account and what the account calls it
-abbrev pub is_named : ℕ → ℕ → OrderForm → Bool
+abbrev pub is_named : ℕ → ℕ → Order → Bool
 is_named account ref_no order = order.account == account && order.ref_no == ref_no
 
 -- what strikes an order: a cancel that has it as its target, and a void
-abbrev pub struck_in : Kind → Option (ℕ × ℕ)
-struck_in (Kind.Cancel form) = Some (form.account, form.target)
-struck_in (Kind.Void form) = Some (form.account, form.ref_no)
+abbrev pub struck_in : EventKind → Option (ℕ × ℕ)
+struck_in (EventKind.Cancel form) = Some (form.account, form.target)
+struck_in (EventKind.Void form) = Some (form.account, form.ref_no)
 struck_in _ = None
 
-abbrev pub is_struck : List (ℕ × ℕ) → OrderForm → Bool
+abbrev pub is_struck : List (ℕ × ℕ) → Order → Bool
 is_struck strikes order = list_any (λ named. is_named named.0 named.1 order) strikes
 
-abbrev pub replaces : OrderForm → EntryForm → Bool
+abbrev pub replaces : Order → EntryForm → Bool
 replaces order form = is_named order.account order.ref_no form.order
 
 -- receipt and content are those of the last replacement, else its own
@@ -131,6 +129,6 @@ due_at book body receipt = option_map nat_abs (due_of book.table (classes_in bod
 abbrev pub due_moment : Book → OrderRow → Option ℕ
 due_moment book row = due_at book row.order.body row.receipt
 
--- the order is one of its account in this class, and stands
+-- the order stands: it isn't struck
 abbrev pub stands : OrderRow → Bool
 stands row = not row.struck

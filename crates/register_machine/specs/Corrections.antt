@@ -3,13 +3,14 @@ use Rattle.std.specs.Prelude.{ℕ, suc, Bool, ◌&&◌, List, [], ◌∷◌, ◌
 use Rattle.std.specs.Option.{option_map_or}
 use Rattle.std.specs.Ordering.{int_eq}
 use Rattle.money_units.specs.Rounding.{signed_half}
-use Rattle.letter_of_intent.specs.Purchases.{after}
 use Rattle.forward_price.specs.PriceTables.{Table}
 use Rattle.forward_price.specs.Sheets.{lists_class}
 use Rattle.forward_price.specs.declared.price_sheet.Sheet.{Sheet}
-use Rattle.agent_events.specs.Answers.{Gain}
-use Rattle.agent_events.specs.Events.{Event, Kind}
-use Rattle.agent_events.specs.Requests.{Bearer, Party}
+use Rattle.agent_events.specs.declared.order.Bearer.{Bearer}
+use Rattle.agent_events.specs.declared.reply_lists.ClassGain.{ClassGain}
+use Rattle.agent_events.specs.declared.event.EventKind.{EventKind}
+use Rattle.agent_events.specs.declared.order.Party.{Party}
+use Rattle.agent_events.specs.Events.{Event}
 use Rattle.register_machine.specs.Cash.{Movement, balance, moved, movements_of, outstanding}
 use Rattle.register_machine.specs.CorrectedBook.{book_of}
 use Rattle.register_machine.specs.Journals.{Journal, classes_of, dealers_of, last_of}
@@ -42,20 +43,20 @@ gain_by cash mils nav = cash -ℤ signed_half (mils *ℤ pos nav) 1000
 abbrev pub is_nothing : ℤ → Bool
 is_nothing change = int_eq change (pos 0)
 
-abbrev pub gain_unless_same : ℕ → ℤ → ℤ → ℕ → Option Gain
+abbrev pub gain_unless_same : ℕ → ℤ → ℤ → ℕ → Option ClassGain
 gain_unless_same class cash mils nav =
     if is_nothing cash && is_nothing mils then None
     else Some (record { class = class; cents = gain_by cash mils nav })
 
 -- a class whose cash or outstanding mils differ between two replays
-abbrev pub gain_of : Day → Day → List Movement → List Movement → List Sheet → ℕ → Option Gain
+abbrev pub gain_of : Day → Day → List Movement → List Movement → List Sheet → ℕ → Option ClassGain
 gain_of before after moved_before moved_after sheets class =
     gain_unless_same class
     (balance moved_after (Party.Class class) -ℤ balance moved_before (Party.Class class))
     (pos (outstanding after.register class) -ℤ pos (outstanding before.register class))
     (latest_nav sheets class)
 
-abbrev pub gains_between : List ℕ → Day → Day → List Sheet → List Gain
+abbrev pub gains_between : List ℕ → Day → Day → List Sheet → List ClassGain
 gains_between classes before after sheets =
     let moved_before = movements_of before.trades in
     let moved_after = movements_of after.trades in
@@ -66,19 +67,19 @@ abbrev pub with_event : Journal → Event → Journal
 with_event journal event = journal ++ event ∷ []
 
 -- the gains of a correction behind a journal
-abbrev pub gains_at : Table → Journal → Event → List Gain
+abbrev pub gains_at : Table → Journal → Event → List ClassGain
 gains_at table journal event =
     let corrected_book = book_of table (with_event journal event) in
     gains_between (class_numbers_of journal) (replay (book_of table journal)) (replay corrected_book)
     corrected_book.table.sheets
 
 -- who bears the loss of a correction
-abbrev pub bearer_in : Kind → Option Bearer
-bearer_in (Kind.FixPrice form) = Some form.bearer
-bearer_in (Kind.FixRate form) = Some form.bearer
-bearer_in (Kind.Enter form) = Some form.bearer
-bearer_in (Kind.Replace form) = Some form.bearer
-bearer_in (Kind.Void form) = Some form.bearer
+abbrev pub bearer_in : EventKind → Option Bearer
+bearer_in (EventKind.FixPrice form) = Some form.bearer
+bearer_in (EventKind.FixRate form) = Some form.bearer
+bearer_in (EventKind.Enter form) = Some form.bearer
+bearer_in (EventKind.Replace form) = Some form.bearer
+bearer_in (EventKind.Void form) = Some form.bearer
 bearer_in _ = None
 
 -- the party that pays a loss, where it isn't the fund's own
@@ -92,7 +93,7 @@ abbrev pub loss_paid_by : Party → ℕ → ℤ → List Movement
 loss_paid_by party class (pos cents) = []
 loss_paid_by party class (negsuc n) = moved party (Party.Class class) (suc n) ∷ []
 
-abbrev pub losses_paid : Option Party → List Gain → List Movement
+abbrev pub losses_paid : Option Party → List ClassGain → List Movement
 losses_paid None gains = []
 losses_paid (Some party) gains = flat_map (λ gain. loss_paid_by party gain.class gain.cents) gains
 

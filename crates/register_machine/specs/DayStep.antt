@@ -1,5 +1,5 @@
 -- One sheet over the whole register, in its three phases: dividends by class and then account, letters that end by date by
--- account and then class, and the standing orders of the sheet by receipt and then place in the journal.
+-- account and then class, and orders in the order in which they are handed in.
 use Rattle.std.specs.Prelude.{ℕ, ◌-◌, Bool, true, false, ◌&&◌, List, [], ◌∷◌, is_some, if◌then◌else◌, ◌==◌, Some, None, fold, filter, Option}
 use Rattle.share_lots.specs.Lots.{added, cost_total, held_total, most_cost, most_mils, release_all}
 use Rattle.share_lots.specs.Taking.{after_paying}
@@ -10,8 +10,10 @@ use Rattle.dividend_reinvest.specs.Dividend.{payment}
 use Rattle.dividend_reinvest.specs.declared.payment.Payment.{Payment}
 use Rattle.forward_price.specs.Sheets.{lists_class}
 use Rattle.forward_price.specs.declared.price_sheet.Sheet.{Sheet}
-use Rattle.agent_events.specs.Requests.{Body, OrderForm}
-use Rattle.register_machine.specs.CorrectedBook.{Book, OrderRow, class_of, front_of}
+use Rattle.agent_events.specs.declared.order.Body.{Body}
+use Rattle.agent_events.specs.declared.order.Order.{Order}
+use Rattle.agent_events.specs.declared.order.OrderRow.{OrderRow}
+use Rattle.register_machine.specs.CorrectedBook.{Book, class_of, front_of}
 use Rattle.register_machine.specs.Journals.{when}
 use Rattle.register_machine.specs.Positions.{Position, mils_of, position_of, with_holding}
 use Rattle.register_machine.specs.Pricing.{Rates, moment_of, rate_at}
@@ -42,7 +44,7 @@ dividend_paid sheet day position (pays.Shares cash mils) =
     traded day (with_holding position (added position.holding sheet.day mils cash true).holding)
     (dividend_trade sheet position cash mils)
 
--- all mils of a position are paid on, loose and held, and the position keeps its greatest size
+-- all mils of a position are paid on, loose and held, and reinvested only where the position stays within its ceiling
 abbrev pub payment_on : ℕ → ℕ → Position → Payment
 payment_on rate nav position =
     payment (mils_of position.holding) rate nav position.in_cash (most_mils - mils_of position.holding)
@@ -69,13 +71,13 @@ dividends_paid book sheet day = fold (class_paid book.rates sheet) day sheet.pri
 
 -- ---- letters that end by date
 
-abbrev pub letter_has_ended : Sheet → Option Letter → Bool
-letter_has_ended sheet None = false
-letter_has_ended sheet (Some letter) = has_expired letter sheet.day
+abbrev pub letter_is_over : Sheet → Option Letter → Bool
+letter_is_over sheet None = false
+letter_is_over sheet (Some letter) = has_expired letter sheet.day
 
--- the sheet is dated after the letter's 13 months, and its class is of the sheet's calendar
-abbrev pub ends_on : Sheet → Position → Bool
-ends_on sheet position = lists_class sheet.prices position.class && letter_has_ended sheet position.letter
+-- the position has an open letter, the sheet is dated after its 13 months, and the class is of the sheet's calendar
+abbrev pub has_letter_over : Sheet → Position → Bool
+has_letter_over sheet position = lists_class sheet.prices position.class && letter_is_over sheet position.letter
 
 abbrev pub letter_end_trade : Sheet → Position → Settlement → Trade
 letter_end_trade sheet position settled =
@@ -102,12 +104,12 @@ abbrev pub letter_ended : Book → Sheet → Day → Position → Day
 letter_ended book sheet day position = letter_ended_in book sheet day position position.letter
 
 abbrev pub letters_ended : Book → Sheet → Day → Day
-letters_ended book sheet day = fold (letter_ended book sheet) day (filter (ends_on sheet) day.register)
+letters_ended book sheet day = fold (letter_ended book sheet) day (filter (has_letter_over sheet) day.register)
 
 -- ---- orders
 
 -- a letter begins with its household's credit, unless one is open
-abbrev pub letter_begun : Book → Sheet → Day → OrderForm → ℕ → Day
+abbrev pub letter_begun : Book → Sheet → Day → Order → ℕ → Day
 letter_begun book sheet day order amount =
     let position = position_of day.register order.account (class_of order.body) in
     let trade = order_trade sheet order TradeKind.Letter in
@@ -116,13 +118,13 @@ letter_begun book sheet day order amount =
     (traded day (record position { letter = Some (begun amount sheet.day start (front_of book position.class)) })
     (record trade { cash = amount }))
 
-abbrev pub elected : Sheet → Day → OrderForm → Bool → Day
+abbrev pub elected : Sheet → Day → Order → Bool → Day
 elected sheet day order in_cash =
     let position = position_of day.register order.account (class_of order.body) in
     traded day (record position { in_cash = in_cash })
     (order_trade sheet order (if in_cash then TradeKind.ElectCash else TradeKind.ElectShares))
 
-abbrev pub executed_body : Book → Sheet → Day → OrderForm → Body → Day
+abbrev pub executed_body : Book → Sheet → Day → Order → Body → Day
 executed_body book sheet day order (Body.Buy class gross) = bought book sheet day order gross
 executed_body book sheet day order (Body.Sell class mils) = sold book sheet day order mils
 executed_body book sheet day order (Body.SellCash class amount) = sold_for book sheet day order amount
@@ -138,7 +140,7 @@ executed book sheet day row = executed_body book sheet day row.order row.order.b
 abbrev pub orders_executed : Book → Sheet → List OrderRow → Day → Day
 orders_executed book sheet rows day = fold (executed book sheet) day rows
 
--- ---- the step: the orders are those of the sheet, in their order
+-- ---- the step over any rows; the replay hands in the standing orders of the sheet, in their turn
 
 unfoldable pub day_step : Book → Sheet → List OrderRow → Day → Day
 day_step book sheet rows day =

@@ -1,10 +1,17 @@
 -- The journal of the whole register: what happened, in order, and what its events say one by one.
 use Rattle.std.specs.Prelude.{ℕ, ◌≤◌, Bool, List, [], ◌∷◌, if◌then◌else◌, ◌==◌, Some, None, fold, AllPairs, find, filter_map, Option, option_map}
 use Rattle.std.specs.Option.{option_or}
-use Rattle.agent_events.specs.Events.{Event, Kind}
-use Rattle.agent_events.specs.Requests.{AccountForm, DealerForm, DividendForm, EntryForm, FixPriceForm, FixRateForm, HouseholdForm}
+use Rattle.agent_events.specs.declared.request.AccountForm.{AccountForm}
 use Rattle.agent_events.specs.declared.request.ClassForm.{ClassForm}
+use Rattle.agent_events.specs.declared.request.DealerForm.{DealerForm}
+use Rattle.agent_events.specs.declared.request.DividendForm.{DividendForm}
+use Rattle.agent_events.specs.declared.request.EntryForm.{EntryForm}
+use Rattle.agent_events.specs.declared.event.EventKind.{EventKind}
+use Rattle.agent_events.specs.declared.request.FixPriceForm.{FixPriceForm}
+use Rattle.agent_events.specs.declared.request.FixRateForm.{FixRateForm}
+use Rattle.agent_events.specs.declared.request.HouseholdForm.{HouseholdForm}
 use Rattle.agent_events.specs.declared.request.SheetForm.{SheetForm}
+use Rattle.agent_events.specs.Events.{Event}
 
 abbrev pub Journal : Type 0
 Journal = List Event
@@ -30,45 +37,45 @@ abbrev pub first_some : {X : Type 0} → List (Option X) → Option X
 first_some [] = None
 first_some (x ∷ xs) = option_or x (first_some xs)
 
--- the events of each kind, with their fields
-abbrev pub class_in : Kind → Option ClassForm
-class_in (Kind.Class form) = Some form
+-- the fields of an event, where it is of the kind; these nine kinds are gathered from a journal by themselves
+abbrev pub class_in : EventKind → Option ClassForm
+class_in (EventKind.Class form) = Some form
 class_in _ = None
 
-abbrev pub dealer_in : Kind → Option DealerForm
-dealer_in (Kind.Dealer form) = Some form
+abbrev pub dealer_in : EventKind → Option DealerForm
+dealer_in (EventKind.Dealer form) = Some form
 dealer_in _ = None
 
-abbrev pub household_in : Kind → Option HouseholdForm
-household_in (Kind.Household form) = Some form
+abbrev pub household_in : EventKind → Option HouseholdForm
+household_in (EventKind.Household form) = Some form
 household_in _ = None
 
-abbrev pub account_in : Kind → Option AccountForm
-account_in (Kind.Account form) = Some form
+abbrev pub account_in : EventKind → Option AccountForm
+account_in (EventKind.Account form) = Some form
 account_in _ = None
 
-abbrev pub sheet_in : Kind → Option SheetForm
-sheet_in (Kind.Sheet form) = Some form
+abbrev pub sheet_in : EventKind → Option SheetForm
+sheet_in (EventKind.Sheet form) = Some form
 sheet_in _ = None
 
-abbrev pub dividend_in : Kind → Option DividendForm
-dividend_in (Kind.Dividend form) = Some form
+abbrev pub dividend_in : EventKind → Option DividendForm
+dividend_in (EventKind.Dividend form) = Some form
 dividend_in _ = None
 
-abbrev pub price_fix_in : Kind → Option FixPriceForm
-price_fix_in (Kind.FixPrice form) = Some form
+abbrev pub price_fix_in : EventKind → Option FixPriceForm
+price_fix_in (EventKind.FixPrice form) = Some form
 price_fix_in _ = None
 
-abbrev pub rate_fix_in : Kind → Option FixRateForm
-rate_fix_in (Kind.FixRate form) = Some form
+abbrev pub rate_fix_in : EventKind → Option FixRateForm
+rate_fix_in (EventKind.FixRate form) = Some form
 rate_fix_in _ = None
 
-abbrev pub replacement_in : Kind → Option EntryForm
-replacement_in (Kind.Replace form) = Some form
+abbrev pub replacement_in : EventKind → Option EntryForm
+replacement_in (EventKind.Replace form) = Some form
 replacement_in _ = None
 
--- all events of one kind
-abbrev pub each_in : {X : Type 0} → (Kind → Option X) → Journal → List X
+-- what is chosen from the events of a journal, in their order: the fields of one kind, or what several kinds say
+abbrev pub each_in : {X : Type 0} → (EventKind → Option X) → Journal → List X
 each_in chosen journal = filter_map (λ event. chosen event.kind) journal
 
 abbrev pub accounts_of : Journal → List AccountForm

@@ -1,26 +1,32 @@
 -- Lawful journals: each event is what the machine appends to the events before it, at its moment, for the request that it
--- answers, asked by the dealer that the account names for a dealer's line and by the operator for all else.
-use Rattle.std.specs.Prelude.{◌≡◌, ℕ, ◌≤◌, List, [], ◌∷◌}
+-- answers, asked by the dealer that the account names for a dealer's line and by the operator for all else. A line on an
+-- account that names no dealer of the journal was asked by a stranger, so it doesn't follow.
+use Rattle.std.specs.Prelude.{◌≡◌, ℕ, ◌≤◌, List, [], ◌∷◌, Option, option_and_then}
 use Rattle.std.specs.Option.{option_map_or}
-use Rattle.agent_events.specs.Events.{Event, Kind, Placed, request_of}
-use Rattle.agent_events.specs.Requests.{AccountForm}
+use Rattle.agent_events.specs.declared.request.DealerForm.{DealerForm}
+use Rattle.agent_events.specs.declared.event.EventKind.{EventKind}
+use Rattle.agent_events.specs.declared.event.Placed.{Placed}
 use Rattle.agent_events.specs.declared.event.Source.{Source}
+use Rattle.agent_events.specs.Events.{Event, request_of}
 use Rattle.register_machine.specs.Callers.{Caller, situation_at}
 use Rattle.register_machine.specs.Corrections.{with_event}
-use Rattle.register_machine.specs.Journals.{Journal, account_numbered, accounts_of, last_moment}
+use Rattle.register_machine.specs.Journals.{Journal, account_numbered, accounts_of, dealer_numbered, dealers_of, last_moment}
 use Rattle.register_machine.specs.Machine.{Answer, answer}
 use Rattle.register_machine.specs.Pricing.{table_of}
-use Rattle.agent_events.specs.declared.event.Source.TheVariants as source
 
-abbrev pub dealer_of : List AccountForm → ℕ → ℕ
-dealer_of accounts number = option_map_or (λ account. account.dealer) (account_numbered accounts number) 0
+-- the dealer that an account names, where the journal has that dealer
+abbrev pub dealer_of : Journal → ℕ → Option DealerForm
+dealer_of journal number =
+    option_and_then (λ account. dealer_numbered (dealers_of journal) account.dealer)
+    (account_numbered (accounts_of journal) number)
 
 abbrev pub asker_by : Journal → Placed → Source → Caller
-asker_by journal placed source.Direct = Caller.Operator
-asker_by journal placed source.Dealer = Caller.Dealer (dealer_of (accounts_of journal) placed.order.account)
+asker_by journal placed Source.Direct = Caller.Operator
+asker_by journal placed Source.Dealer =
+    option_map_or (λ form. Caller.Dealer form.dealer) (dealer_of journal placed.order.account) Caller.Stranger
 
-abbrev pub asker_of : Journal → Kind → Caller
-asker_of journal (Kind.Order placed) = asker_by journal placed placed.source
+abbrev pub asker_of : Journal → EventKind → Caller
+asker_of journal (EventKind.Order placed) = asker_by journal placed placed.source
 asker_of journal _ = Caller.Operator
 
 abbrev pub answer_again : Journal → Event → Answer

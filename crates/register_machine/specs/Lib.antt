@@ -28,3 +28,6 @@ pub mod Batches
 pub mod Script
 pub mod WorkedRuns
 pub mod MachineLaws
+pub mod IdentityLaws
+pub mod CashLaws
+pub mod TradeLaws

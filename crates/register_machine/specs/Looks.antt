@@ -2,12 +2,22 @@
 use Rattle.std.specs.Prelude.{ℕ, Bool, true, false, not, ◌&&◌, List, map, length, ℤ, pos, ◌+ℤ◌, if◌then◌else◌, ◌==◌, Some, None, fold, filter, find, Option, unwrap_or}
 use Rattle.std.specs.Option.{option_map_or}
 use Rattle.share_lots.specs.Lots.{cost_total, held_total, loose_total}
-use Rattle.agent_events.specs.Answers.{BooksReply, ClassBooks, DealerBooks, OrderState, Refusal, Reply, TraceReply}
-use Rattle.agent_events.specs.Requests.{AccountForm, Body, Party, TraceForm}
-use Rattle.agent_events.specs.declared.lists.PositionText.{PositionText}
+use Rattle.agent_events.specs.declared.request.AccountForm.{AccountForm}
+use Rattle.agent_events.specs.declared.order.Body.{Body}
+use Rattle.agent_events.specs.declared.reply.BooksReply.{BooksReply}
+use Rattle.agent_events.specs.declared.reply_lists.ClassBooks.{ClassBooks}
+use Rattle.agent_events.specs.declared.reply_lists.DealerBooks.{DealerBooks}
+use Rattle.agent_events.specs.declared.reply.OrderState.{OrderState}
+use Rattle.agent_events.specs.declared.order.Party.{Party}
+use Rattle.agent_events.specs.declared.reply_lists.PositionText.{PositionText}
+use Rattle.agent_events.specs.declared.reply.Refusal.{Refusal}
+use Rattle.agent_events.specs.declared.reply.Reply.{Reply}
+use Rattle.agent_events.specs.declared.request.TraceForm.{TraceForm}
+use Rattle.agent_events.specs.declared.reply.TraceReply.{TraceReply}
 use Rattle.register_machine.specs.Callers.{Situation}
 use Rattle.register_machine.specs.Cash.{Movement, balance, outstanding}
-use Rattle.register_machine.specs.CorrectedBook.{Book, OrderRow, due_moment, order_named}
+use Rattle.agent_events.specs.declared.order.OrderRow.{OrderRow}
+use Rattle.register_machine.specs.CorrectedBook.{Book, due_moment, order_named}
 use Rattle.register_machine.specs.Corrections.{booked_movements, class_numbers_of, dealer_numbers_of}
 use Rattle.register_machine.specs.Positions.{Position, Register}
 use Rattle.register_machine.specs.RegisterRules.{is_trade_of}

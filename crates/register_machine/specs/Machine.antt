@@ -4,10 +4,13 @@ use Rattle.std.specs.Prelude.{ℕ, ◌+◌, Bool, List, [], ◌∷◌, length, t
 use Rattle.std.specs.Option.{option_map_or}
 use Rattle.forward_price.specs.PriceTables.{Table}
 use Rattle.forward_price.specs.declared.price_sheet.PublishFault.{PublishFault}
-use Rattle.agent_events.specs.Answers.{Refusal, Reply}
+use Rattle.agent_events.specs.declared.event.EventKind.{EventKind}
+use Rattle.agent_events.specs.declared.event.Placed.{Placed}
+use Rattle.agent_events.specs.declared.reply.Refusal.{Refusal}
+use Rattle.agent_events.specs.declared.reply.Reply.{Reply}
+use Rattle.agent_events.specs.declared.request.Request.{Request}
 use Rattle.agent_events.specs.Contents.{same_request}
-use Rattle.agent_events.specs.Events.{Event, Kind, Placed, event_of, request_of}
-use Rattle.agent_events.specs.Requests.{Request}
+use Rattle.agent_events.specs.Events.{Event, event_of, request_of}
 use Rattle.agent_events.specs.VerbForms.{Asked}
 use Rattle.register_machine.specs.Callers.{Situation, caller_of, no_right, situation_at}
 use Rattle.register_machine.specs.CorrectedBook.{due_moment}
@@ -45,8 +48,8 @@ later_rules situation request sheet_is =
     ∷ breaks situation request
     ∷ []
 
-abbrev pub first_broken_rule : Situation → Request → Option Refusal
-first_broken_rule situation request =
+abbrev pub later_broken_rule : Situation → Request → Option Refusal
+later_broken_rule situation request =
     let sheet_is = sheet_fault situation request in first_some (later_rules situation request sheet_is)
 
 -- the reply to what an event says, behind the journal before it
@@ -61,22 +64,22 @@ order_reply placed = Reply.Order (record {
 abbrev pub fix_reply : Table → Journal → Event → ℕ → Reply
 fix_reply table before event fix = Reply.Fix fix (gains_at table before event)
 
-abbrev pub reply_by : Table → Journal → Event → Kind → Reply
-reply_by table before event (Kind.Calendar form) = Reply.Calendar form.calendar
-reply_by table before event (Kind.Close form) = Reply.Close form
-reply_by table before event (Kind.Class form) = Reply.Class form.class
-reply_by table before event (Kind.Dealer form) = Reply.Dealer form.dealer
-reply_by table before event (Kind.Household form) = Reply.Household form.household
-reply_by table before event (Kind.Account form) = Reply.Account form.account
-reply_by table before event (Kind.Order placed) = order_reply placed
-reply_by table before event (Kind.Cancel form) = Reply.Cancel form
-reply_by table before event (Kind.Sheet form) = Reply.Sheet (length (each_in sheet_in before) + 1)
-reply_by table before event (Kind.Dividend form) = Reply.Dividend form.class form.moment
-reply_by table before event (Kind.FixPrice form) = fix_reply table before event form.fix
-reply_by table before event (Kind.FixRate form) = fix_reply table before event form.fix
-reply_by table before event (Kind.Enter form) = fix_reply table before event form.fix
-reply_by table before event (Kind.Replace form) = fix_reply table before event form.fix
-reply_by table before event (Kind.Void form) = fix_reply table before event form.fix
+abbrev pub reply_by : Table → Journal → Event → EventKind → Reply
+reply_by table before event (EventKind.Calendar form) = Reply.Calendar form.calendar
+reply_by table before event (EventKind.Close form) = Reply.Close form
+reply_by table before event (EventKind.Class form) = Reply.Class form.class
+reply_by table before event (EventKind.Dealer form) = Reply.Dealer form.dealer
+reply_by table before event (EventKind.Household form) = Reply.Household form.household
+reply_by table before event (EventKind.Account form) = Reply.Account form.account
+reply_by table before event (EventKind.Order placed) = order_reply placed
+reply_by table before event (EventKind.Cancel form) = Reply.Cancel form
+reply_by table before event (EventKind.Sheet form) = Reply.Sheet (length (each_in sheet_in before) + 1)
+reply_by table before event (EventKind.Dividend form) = Reply.Dividend form.class form.moment
+reply_by table before event (EventKind.FixPrice form) = fix_reply table before event form.fix
+reply_by table before event (EventKind.FixRate form) = fix_reply table before event form.fix
+reply_by table before event (EventKind.Enter form) = fix_reply table before event form.fix
+reply_by table before event (EventKind.Replace form) = fix_reply table before event form.fix
+reply_by table before event (EventKind.Void form) = fix_reply table before event form.fix
 
 abbrev pub reply_of : Table → Journal → Event → Reply
 reply_of table before event = reply_by table before event event.kind
@@ -108,7 +111,7 @@ abbrev pub due_now : Situation → Request → ℕ
 due_now situation request =
     unwrap_or (option_and_then (due_moment situation.book) (row_asked situation request)) 0
 
-abbrev pub done_by : Situation → Request → Option Kind → Answer
+abbrev pub done_by : Situation → Request → Option EventKind → Answer
 done_by situation request None = says (looked_up situation request)
 done_by situation request (Some kind) = appends situation (event_at situation kind)
 
@@ -120,7 +123,7 @@ abbrev pub unless_refused : Option Refusal → Answer → Answer
 unless_refused None answer = answer
 unless_refused (Some refusal) answer = refuses refusal
 
--- the first event of the same content, by its place
+-- the event was brought by a request of this content
 abbrev pub repeats : Request → Event → Bool
 repeats request event = same_request (request_of event.kind) request
 
@@ -135,9 +138,10 @@ repeated situation place =
 
 abbrev pub unless_repeated : Option ℕ → Situation → Request → Answer
 unless_repeated None situation request =
-    unless_refused (first_broken_rule situation request) (done situation request)
+    unless_refused (later_broken_rule situation request) (done situation request)
 unless_repeated (Some place) situation request = repeated situation place
 
+-- the rules before the repeat; then the first event of this content, by its place; and without one the other rules
 abbrev pub answer : Situation → Request → Answer
 answer situation request =
     unless_refused (first_some (first_rules situation request))

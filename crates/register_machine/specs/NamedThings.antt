@@ -11,11 +11,14 @@ use Rattle.forward_price.specs.PriceTables.{calendar_numbered, is_priced_day}
 use Rattle.forward_price.specs.Sheets.{lists_class}
 use Rattle.forward_price.specs.declared.price_sheet.Opening.{Opening}
 use Rattle.forward_price.specs.declared.price_sheet.Sheet.{Sheet}
-use Rattle.agent_events.specs.Answers.{Refusal}
-use Rattle.agent_events.specs.Requests.{Bearer, EntryForm, OrderForm, Request}
+use Rattle.agent_events.specs.declared.order.Bearer.{Bearer}
 use Rattle.agent_events.specs.declared.request.ClassForm.{ClassForm}
+use Rattle.agent_events.specs.declared.request.EntryForm.{EntryForm}
+use Rattle.agent_events.specs.declared.order.Order.{Order}
+use Rattle.agent_events.specs.declared.reply.Refusal.{Refusal}
+use Rattle.agent_events.specs.declared.request.Request.{Request}
 use Rattle.register_machine.specs.Callers.{Situation}
-use Rattle.register_machine.specs.CorrectedBook.{class_of, counts, order_named, target_of}
+use Rattle.register_machine.specs.CorrectedBook.{class_of, order_named, target_of}
 use Rattle.register_machine.specs.Journals.{account_numbered, class_numbered, dealer_numbered, dealers_of, households_of}
 use Rattle.register_machine.specs.Pricing.{calendar_checked, moment_of}
 use Rattle.class_terms.specs.declared.faults.TermFault.TheVariants as fault
@@ -45,6 +48,8 @@ terms_of form = record {
   deferred = form.deferred;
 }
 
+-- The check of the terms reads the other classes too, for the family. A family that differs comes last there, behind the
+-- loads, and is passed over here: it is refused with what stands already.
 abbrev pub terms_fault : Situation → ClassForm → Option TermFault
 terms_fault situation form = term_fault (terms_of form) (map terms_of situation.book.classes)
 
@@ -100,18 +105,18 @@ has_price situation class moment = list_any (lists_at class moment) situation.bo
 abbrev pub prices_at : ℕ → Listing → Bool
 prices_at moment listing = list_any (λ day. day.moment == moment) listing.days
 
-abbrev pub is_opened_before : List Listing → ℕ → ℕ → Opening → Bool
-is_opened_before calendars class moment opening =
+abbrev pub opening_has_moment : List Listing → ℕ → ℕ → Opening → Bool
+opening_has_moment calendars class moment opening =
     opening.class == class
     && (int_lt opening.opened (pos moment)
     && option_map_or (prices_at moment) (calendar_numbered calendars opening.calendar) false)
 
 abbrev pub has_moment : Situation → ℕ → ℕ → Bool
 has_moment situation class moment =
-    list_any (is_opened_before situation.table.calendars class moment) situation.book.table.classes
+    list_any (opening_has_moment situation.table.calendars class moment) situation.book.table.classes
 
 -- what an order names, its first field at a place: the account, the class, and the class that an exchange goes to
-abbrev pub named_in_order : Situation → ℕ → OrderForm → List (ℕ × Bool)
+abbrev pub named_in_order : Situation → ℕ → Order → List (ℕ × Bool)
 named_in_order situation first order =
     (first, has_account situation order.account) ∷ (first + 2, has_class situation (class_of order.body))
     ∷ map (λ to. (first + 3, has_class situation to)) (option_to_list (target_of order.body))

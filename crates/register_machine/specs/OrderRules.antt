@@ -4,14 +4,15 @@ use Rattle.std.specs.Prelude.{ℕ, ◌+◌, Bool, true, false, not, ◌&&◌, �
 use Rattle.std.specs.List.{list_all, list_any}
 use Rattle.std.specs.Option.{option_map_or}
 use Rattle.forward_price.specs.PriceTables.{number_at}
-use Rattle.agent_events.specs.Answers.{Refusal}
+use Rattle.agent_events.specs.declared.order.Body.{Body}
+use Rattle.agent_events.specs.declared.request.LineForm.{LineForm}
+use Rattle.agent_events.specs.declared.reply.Refusal.{Refusal}
+use Rattle.agent_events.specs.declared.request.Request.{Request}
 use Rattle.agent_events.specs.Events.{Event, request_of}
-use Rattle.agent_events.specs.Requests.{Body, LineForm, Request}
 use Rattle.register_machine.specs.Callers.{Caller, Situation}
-use Rattle.register_machine.specs.CorrectedBook.{Book, OrderRow, calendar_of, class_of, classes_in, due_at, due_moment, front_of, order_named, row_as_sent, stands}
+use Rattle.agent_events.specs.declared.order.OrderRow.{OrderRow}
+use Rattle.register_machine.specs.CorrectedBook.{Book, calendar_of, class_of, classes_in, due_at, due_moment, front_of, order_named, row_as_sent, stands}
 use Rattle.register_machine.specs.Journals.{class_numbered, dealer_numbered, dealers_of, when}
-use Rattle.register_machine.specs.NamedThings.{named}
-use Rattle.register_machine.specs.Purchases.{bought}
 
 -- the reference that a request brings to an account, and the number of a correction
 abbrev pub reference_of : Request → Option (ℕ × ℕ)
@@ -77,20 +78,20 @@ abbrev pub calendar_ended : Book → OrderRow → Option Refusal
 calendar_ended book row =
     when (has_one_calendar book row.order.body && is_none (due_moment book row)) Refusal.CalendarEnded
 
--- an order to buy this class for this account that stands and was placed before
+-- an order to buy this class for this account that stands and was placed before, filled or not
 abbrev pub buys_class : ℕ → Body → Bool
-buys_class class (Body.Buy bought gross) = bought == class
+buys_class class (Body.Buy other gross) = other == class
 buys_class class _ = false
 
-abbrev pub bought_before : OrderRow → ℕ → OrderRow → Bool
-bought_before row class other =
+abbrev pub ordered_before : OrderRow → ℕ → OrderRow → Bool
+ordered_before row class other =
     other.order.account == row.order.account && (nat_lt other.place row.place
     && (stands other && buys_class class other.order.body))
 
 -- the later minimum behind such an order, else the first one
 abbrev pub minimum_of : Book → OrderRow → ℕ → ℕ
 minimum_of book row class =
-    option_map_or (λ terms. if list_any (bought_before row class) book.orders then terms.later_min else terms.first_min)
+    option_map_or (λ terms. if list_any (ordered_before row class) book.orders then terms.later_min else terms.first_min)
     (class_numbered book.classes class) 0
 
 -- Refusal 6. The gross of a purchase is below its minimum.

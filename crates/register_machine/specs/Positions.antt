@@ -58,7 +58,7 @@ with_holding position holding = record position { holding = holding }
 abbrev pub mils_of : Holding → ℕ
 mils_of holding = loose_total holding + held_total holding
 
--- so many mils and so much cost more keep the greatest position
+-- with so many mils and so much cost more the position stays within its ceiling
 abbrev pub has_room : Holding → ℕ → ℕ → Bool
 has_room holding mils cost =
     nat_le (mils_of holding + mils) most_mils && nat_le (cost_total holding + cost) most_cost

@@ -6,8 +6,12 @@ use Rattle.fund_calendar.specs.PricingDays.{Listing, new_calendar}
 use Rattle.fund_calendar.specs.declared.calendar.CalendarFault.{CalendarFault}
 use Rattle.forward_price.specs.PriceTables.{Table, with_calendar, with_class, with_prices, with_published, with_sheets, without_day_of}
 use Rattle.forward_price.specs.declared.price_sheet.Sheet.{Sheet}
-use Rattle.agent_events.specs.Events.{Event, Kind}
-use Rattle.agent_events.specs.Requests.{CalendarForm, DividendForm, FixPriceForm, FixRateForm}
+use Rattle.agent_events.specs.declared.request.CalendarForm.{CalendarForm}
+use Rattle.agent_events.specs.declared.request.DividendForm.{DividendForm}
+use Rattle.agent_events.specs.declared.event.EventKind.{EventKind}
+use Rattle.agent_events.specs.declared.request.FixPriceForm.{FixPriceForm}
+use Rattle.agent_events.specs.declared.request.FixRateForm.{FixRateForm}
+use Rattle.agent_events.specs.Events.{Event}
 use Rattle.register_machine.specs.Journals.{Journal, dividend_in, each_in, last_of, price_fix_in, rate_fix_in}
 
 -- the pricing days of a calendar as it was sent
@@ -23,11 +27,11 @@ listing_of form = listing_by form.calendar (calendar_checked form)
 
 -- The price table as the events make it: a calendar brings its pricing days, a closure takes one away, a class is opened at
 -- the moment of its event, and a sheet is published behind the others, with the next number and the day priced then.
-abbrev pub table_by : Table → ℕ → Kind → Table
-table_by table moment (Kind.Calendar form) = with_calendar table (listing_of form)
-table_by table moment (Kind.Close form) = without_day_of table form.calendar form.day
-table_by table moment (Kind.Class form) = with_class table form.class form.calendar (pos moment)
-table_by table moment (Kind.Sheet form) = with_published table form.calendar (pos form.moment) form.prices
+abbrev pub table_by : Table → ℕ → EventKind → Table
+table_by table moment (EventKind.Calendar form) = with_calendar table (listing_of form)
+table_by table moment (EventKind.Close form) = without_day_of table form.calendar form.day
+table_by table moment (EventKind.Class form) = with_class table form.class form.calendar (pos moment)
+table_by table moment (EventKind.Sheet form) = with_published table form.calendar (pos form.moment) form.prices
 table_by table moment _ = table
 
 abbrev pub table_after : Table → Event → Table

@@ -2,7 +2,7 @@
 -- into shares, proceeds and charge, its lot, and what an open letter holds of it.
 use Rattle.std.specs.Prelude.{ℕ, ◌+◌, max, Bool, false, not, ◌&&◌, [], ◌∷◌, map, if◌then◌else◌, ◌==◌, Some, None, filter, Option}
 use Rattle.std.specs.Option.{option_map_or}
-use Rattle.offering_price.specs.Accumulation.{bracket, credit, reached}
+use Rattle.offering_price.specs.Accumulation.{bracket, credit}
 use Rattle.offering_price.specs.Purchase.{split_of}
 use Rattle.offering_price.specs.declared.accumulation.Holding.{Holding as Worth}
 use Rattle.offering_price.specs.declared.purchase.Split.{Split}
@@ -11,7 +11,7 @@ use Rattle.letter_of_intent.specs.Letters.{after_purchase, noted}
 use Rattle.letter_of_intent.specs.declared.letter.Letter.{Letter}
 use Rattle.forward_price.specs.PriceTables.{price_before}
 use Rattle.forward_price.specs.declared.price_sheet.Sheet.{Sheet}
-use Rattle.agent_events.specs.Requests.{OrderForm}
+use Rattle.agent_events.specs.declared.order.Order.{Order}
 use Rattle.register_machine.specs.CorrectedBook.{Book, class_of, counts, front_of}
 use Rattle.register_machine.specs.Journals.{household_of, when}
 use Rattle.register_machine.specs.Positions.{Position, Register, has_room, mils_of, position_of, with_holding}
@@ -57,7 +57,7 @@ letter_reached sheet position day =
     traded day (record position { holding = release_all position.holding; letter = None })
     (plain_trade sheet position.account position.class TradeKind.LetterReached)
 
--- what an open letter does with the new lot: it holds a part of it, notes the purchase, and may be reached
+-- what an open letter does with the new lot: it holds a part of it, and notes the purchase
 abbrev pub position_noted : Position → Added → Letter → ℕ → Split → Position
 position_noted position added letter gross split = record position {
   holding = hold_mils added.holding added.number (noted letter gross split.price split.mils).hold;
@@ -67,6 +67,7 @@ position_noted position added letter gross split = record position {
 abbrev pub reached_or_kept : Bool → Sheet → Position → Day → Day
 reached_or_kept reached sheet position day = if reached then letter_reached sheet position day else day
 
+-- and where the purchase brings it to its amount, it ends behind that purchase
 abbrev pub noted_in : Sheet → Day → Position → Added → Letter → ℕ → Split → Trade → Day
 noted_in sheet day position added letter gross split trade =
     let kept = position_noted position added letter gross split in
@@ -77,7 +78,7 @@ lot_added sheet day position added None gross split trade = traded day (with_hol
 lot_added sheet day position added (Some letter) gross split trade =
     noted_in sheet day position added letter gross split trade
 
--- the purchase at its split: too small without a mil, and unfilled past the greatest position
+-- the purchase at its split: too small without a mil, and unfilled where the position would pass its ceiling
 abbrev pub bought_at : Sheet → Day → Position → ℕ → Option Split → Trade → Day
 bought_at sheet day position gross None trade = filled_unless (Some Why.TooSmall ∷ []) day trade day
 bought_at sheet day position gross (Some split) trade =
@@ -85,7 +86,7 @@ bought_at sheet day position gross (Some split) trade =
     (lot_added sheet day position (added position.holding sheet.day split.mils gross false) position.letter gross split
     (purchase_trade trade gross split))
 
-abbrev pub bought : Book → Sheet → Day → OrderForm → ℕ → Day
+abbrev pub bought : Book → Sheet → Day → Order → ℕ → Day
 bought book sheet day order gross =
     let position = position_of day.register order.account (class_of order.body) in
     bought_at sheet day position gross

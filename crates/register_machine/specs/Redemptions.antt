@@ -10,7 +10,7 @@ use Rattle.contingent_charge.specs.declared.charging.Charged.{Charged}
 use Rattle.fund_exchange.specs.Exchange.{carried}
 use Rattle.fund_exchange.specs.declared.carrying.Carried.{Carried}
 use Rattle.forward_price.specs.declared.price_sheet.Sheet.{Sheet}
-use Rattle.agent_events.specs.Requests.{OrderForm}
+use Rattle.agent_events.specs.declared.order.Order.{Order}
 use Rattle.register_machine.specs.CorrectedBook.{Book, class_of, schedule_of}
 use Rattle.register_machine.specs.Journals.{when}
 use Rattle.register_machine.specs.Positions.{Position, has_room, position_of, with_holding}
@@ -37,13 +37,13 @@ sold_mils book sheet day position asked trade =
     (charged (pieces asked position.holding.lots) nav sheet.day (schedule_of book position.class)))
 
 -- a redemption of so many mils, or of those that an amount asks for
-abbrev pub sold : Book → Sheet → Day → OrderForm → ℕ → Day
+abbrev pub sold : Book → Sheet → Day → Order → ℕ → Day
 sold book sheet day order asked =
     let position = position_of day.register order.account (class_of order.body) in
     let trade = order_trade sheet order TradeKind.Sell in
     filled_unless (short_of position.holding asked ∷ []) day trade (sold_mils book sheet day position asked trade)
 
-abbrev pub sold_for : Book → Sheet → Day → OrderForm → ℕ → Day
+abbrev pub sold_for : Book → Sheet → Day → Order → ℕ → Day
 sold_for book sheet day order amount =
     let position = position_of day.register order.account (class_of order.body) in
     let asked = half (1000 * amount) (nav_of sheet position.class) in
@@ -51,7 +51,7 @@ sold_for book sheet day order amount =
     filled_unless (when (asked == 0) Why.TooSmall ∷ short_of position.holding asked ∷ []) day trade
     (sold_mils book sheet day position asked trade)
 
-abbrev pub loose_of : Day → OrderForm → ℕ
+abbrev pub loose_of : Day → Order → ℕ
 loose_of day order = loose_total (position_of day.register order.account (class_of order.body)).holding
 
 -- a piece comes into the target: as a lot with its own date and cost, or into the free lot
@@ -72,7 +72,7 @@ exchange_reasons position target asked moved =
     ∷ when (not (has_room target.holding moved.mils moved.cost)) Why.Ceiling ∷ []
 
 -- an exchange of so many mils into another class
-abbrev pub exchanged : Sheet → Day → OrderForm → ℕ → ℕ → Day
+abbrev pub exchanged : Sheet → Day → Order → ℕ → ℕ → Day
 exchanged sheet day order to asked =
     let position = position_of day.register order.account (class_of order.body) in
     let target = position_of day.register order.account to in

@@ -1,17 +1,20 @@
 -- The rules on sheets, on what stands already, on limits, and on what a correction may not break.
-use Rattle.std.specs.Prelude.{ℕ, Bool, true, false, not, ◌&&◌, ◌||◌, List, [], ◌∷◌, map, length, ℤ, pos, nat_abs, is_some, nat_le, ◌==◌, Some, None, bytes_eq, count_by, find, Option, option_map, option_and_then}
+use Rattle.std.specs.Prelude.{ℕ, Bool, true, false, not, ◌&&◌, ◌||◌, List, [], ◌∷◌, map, length, ℤ, pos, nat_abs, is_some, nat_le, ◌==◌, Some, None, count_by, find, Option, option_map, option_and_then}
 use Rattle.std.specs.List.{list_any}
 use Rattle.std.specs.Option.{option_map_or}
 use Rattle.fund_calendar.specs.PricingDays.{moment_on}
 use Rattle.class_terms.specs.Checking.{family_fault}
-use Rattle.letter_of_intent.specs.Purchases.{after}
 use Rattle.forward_price.specs.PriceTables.{calendar_numbered, number_at}
 use Rattle.forward_price.specs.Turns.{publish_fault}
 use Rattle.forward_price.specs.declared.price_sheet.PublishFault.{PublishFault}
-use Rattle.agent_events.specs.Answers.{Refusal}
-use Rattle.agent_events.specs.Events.{Event, Kind, event_of}
-use Rattle.agent_events.specs.Requests.{Bearer, DividendForm, OrderForm, Request}
-use Rattle.register_machine.specs.Callers.{Situation}
+use Rattle.agent_events.specs.declared.order.Bearer.{Bearer}
+use Rattle.agent_events.specs.declared.request.DividendForm.{DividendForm}
+use Rattle.agent_events.specs.declared.event.EventKind.{EventKind}
+use Rattle.agent_events.specs.declared.order.Order.{Order}
+use Rattle.agent_events.specs.declared.reply.Refusal.{Refusal}
+use Rattle.agent_events.specs.declared.request.Request.{Request}
+use Rattle.agent_events.specs.Events.{Event, event_of}
+use Rattle.register_machine.specs.Callers.{Situation, dealer_with_key, household_with_key}
 use Rattle.register_machine.specs.CorrectedBook.{Book, book_of, calendar_of}
 use Rattle.register_machine.specs.Corrections.{bearer_in, with_event}
 use Rattle.register_machine.specs.Journals.{dealers_of, first_some, households_of, when}
@@ -53,17 +56,9 @@ number_taken situation (Request.Account form) = when (has_account situation form
 number_taken situation _ = None
 
 -- the key belongs to a household or a dealer
-abbrev pub household_with_key : Situation → List ℕ → Option ℕ
-household_with_key situation key =
-    option_map (λ form. form.household) (find (λ form. bytes_eq form.key key) (households_of situation.journal))
-
-abbrev pub dealer_with_key : Situation → List ℕ → Option ℕ
-dealer_with_key situation key =
-    option_map (λ form. form.dealer) (find (λ form. bytes_eq form.key key) (dealers_of situation.journal))
-
 abbrev pub key_taken : Situation → Request → Option ℕ
-key_taken situation (Request.Dealer form) = dealer_with_key situation form.key
-key_taken situation (Request.Household form) = household_with_key situation form.key
+key_taken situation (Request.Dealer form) = dealer_with_key situation.journal form.key
+key_taken situation (Request.Household form) = household_with_key situation.journal form.key
 key_taken situation _ = None
 
 -- the family holds a class with another calendar or schedule
@@ -146,17 +141,17 @@ was_filled before trade =
     list_any (λ other. is_trade_of trade.account trade.ref_no other && is_filled other.outcome) before
 
 -- the order that a correction enters or replaces
-abbrev pub order_corrected : Kind → Option OrderForm
-order_corrected (Kind.Enter form) = Some form.order
-order_corrected (Kind.Replace form) = Some form.order
+abbrev pub order_corrected : EventKind → Option Order
+order_corrected (EventKind.Enter form) = Some form.order
+order_corrected (EventKind.Replace form) = Some form.order
 order_corrected _ = None
 
-abbrev pub is_broken : Option OrderForm → List Trade → Trade → Bool
+abbrev pub is_broken : Option Order → List Trade → Trade → Bool
 is_broken order before trade =
     not (is_filled trade.outcome)
     && (was_filled before trade || option_map_or (λ own. is_trade_of own.account own.ref_no trade) order false)
 
-abbrev pub breaks_between : Option OrderForm → List Trade → List Trade → Option Refusal
+abbrev pub breaks_between : Option Order → List Trade → List Trade → Option Refusal
 breaks_between order before after =
     option_map (λ trade. Refusal.Breaks trade.account trade.ref_no) (find (is_broken order before) after)
 
@@ -166,7 +161,7 @@ breaks_by (Some bearer) situation event =
     breaks_between (order_corrected event.kind) (replay situation.book).trades
     (replay (book_of situation.table (with_event situation.journal event))).trades
 
-abbrev pub event_at : Situation → Kind → Event
+abbrev pub event_at : Situation → EventKind → Event
 event_at situation kind = record { moment = situation.now; kind = kind }
 
 abbrev pub breaks : Situation → Request → Option Refusal

@@ -1,20 +1,16 @@
--- The register is the replay of the orders over all sheets, from the first on. Each order stands on the sheet of its next
--- price (17 CFR 270.22c-1(a)); the orders of a sheet are executed as they were received.
+-- The path's register is the replay of the purchases over all sheets, from the first on. Each purchase stands on the sheet of
+-- its next price (17 CFR 270.22c-1(a)); the purchases of a sheet are executed as they were received.
 use Rattle.std.specs.Prelude.{ℕ, ◌+◌, Bool, false, ◌&&◌, nat_le, ◌==◌, pos, if◌then◌else◌, List, [], ◌∷◌, ◌++◌, map, filter, fold, sum_by, Option, Some, None, option_map}
 use Rattle.std.specs.List.{list_any, filter_map}
-use Rattle.agent_events.specs.declared.event.OrderEvent.{OrderEvent}
-use Rattle.agent_events.specs.declared.lists.PositionText.{PositionText}
-use Rattle.agent_events.specs.declared.request.Buy.{Buy}
-use Rattle.agent_events.specs.declared.request.Order.{Order}
-use Rattle.agent_events.specs.declared.request.Order.TheVariants as order
-use Rattle.agent_events.specs.Content.{order_classes}
+use Rattle.agent_events.specs.declared.reply_lists.PositionText.{PositionText}
 use Rattle.forward_price.specs.declared.price_sheet.Opening.{Opening}
 use Rattle.forward_price.specs.declared.price_sheet.Sheet.{Sheet}
 use Rattle.forward_price.specs.PriceTables.{next_sheet}
 use Rattle.forward_price.specs.Sheets.{nav_on}
 use Rattle.offering_price.specs.declared.purchase.Split.{Split}
 use Rattle.offering_price.specs.Purchase.{split_of}
-use Rattle.register_machine.specs.Journal.{Journal, opened, orders, sheets}
+use Rattle.register_machine.specs.Journal.{Buy, Purchase, opened, purchases, sheets}
+use Rattle.register_machine.specs.Journals.{Journal}
 
 -- shares bought on one sheet, and what they cost
 pub record Lot : Type 0 where
@@ -27,19 +23,19 @@ pub record Lot : Type 0 where
 abbrev pub Register : Type 0
 Register = List Lot
 
--- an order, and the number of the sheet that prices it, once there is one
+-- a purchase, and the number of the sheet that prices it, once there is one
 pub record Priced : Type 0 where
-  pub order : OrderEvent
+  pub purchase : Purchase
   pub sheet : Option ℕ
 
-abbrev pub priced_by : List Sheet → OrderEvent → Priced
-priced_by published order = record {
-  order = order;
-  sheet = option_map (λ sheet. sheet.number) (next_sheet published (order_classes order.order) (pos order.receipt));
+abbrev pub priced_by : List Sheet → Purchase → Priced
+priced_by published purchase = record {
+  purchase = purchase;
+  sheet = option_map (λ sheet. sheet.number) (next_sheet published (purchase.buy.class ∷ []) (pos purchase.receipt));
 }
 
-abbrev pub priced_orders : Journal → List Priced
-priced_orders journal = map (priced_by (sheets journal)) (orders journal)
+abbrev pub priced_purchases : Journal → List Priced
+priced_purchases journal = map (priced_by (sheets journal)) (purchases journal)
 
 abbrev pub is_number : ℕ → Option ℕ → Bool
 is_number number None = false
@@ -83,18 +79,16 @@ abbrev pub bought_at : Register → Buy → Option ℕ → Register
 bought_at register buy None = register
 bought_at register buy (Some nav) = bought register buy (split_of buy.gross nav 0)
 
-abbrev pub executed : Sheet → Register → Order → Register
-executed sheet register (order.Buy buy) = bought_at register buy (nav_on sheet.prices buy.class)
-
 abbrev pub execute : Sheet → Register → Priced → Register
-execute sheet register priced = executed sheet register priced.order.order
+execute sheet register priced =
+    bought_at register priced.purchase.buy (nav_on sheet.prices priced.purchase.buy.class)
 
--- one sheet: its orders in turn
+-- one sheet: its purchases in turn
 abbrev pub day : List Priced → Register → Sheet → Register
 day priced register sheet = fold (execute sheet) register (filter (is_on sheet.number) priced)
 
 abbrev pub replay : Journal → Register
-replay journal = fold (day (priced_orders journal)) [] (sheets journal)
+replay journal = fold (day (priced_purchases journal)) [] (sheets journal)
 
 -- an account's position in a class, where it has lots
 abbrev pub position_of : Register → ℕ → Opening → Option PositionText

@@ -2,7 +2,8 @@
 use Rattle.std.specs.Prelude.{ℕ, ◌+◌, ◌*◌, ◌^◌, Bool, false, List, [], ◌∷◌, ◌++◌, map, take, nat_lt, ◌==◌, fold, filter, Option, option_map}
 use Rattle.std.specs.Option.{option_map_or}
 use Rattle.forward_price.specs.declared.price_sheet.Sheet.{Sheet}
-use Rattle.register_machine.specs.CorrectedBook.{Book, OrderRow, sheet_of, stands}
+use Rattle.agent_events.specs.declared.order.OrderRow.{OrderRow}
+use Rattle.register_machine.specs.CorrectedBook.{Book, sheet_of, stands}
 use Rattle.register_machine.specs.DayStep.{day_step}
 use Rattle.register_machine.specs.Trades.{Day}
 
@@ -21,10 +22,12 @@ priced_orders book = map (priced_in book.table.sheets) (filter stands book.order
 abbrev pub is_priced_on : ℕ → Priced → Bool
 is_priced_on number priced = option_map_or (λ sheet. sheet == number) priced.sheet false
 
--- the order of execution: by receipt, and at equal receipts by place in the journal
+-- The order of execution: by receipt, and at equal receipts by place in the journal. The number keeps this order, since a
+-- place is below 2^64: a journal has at most 10^8 events. No two orders have the same number, since their places differ.
 abbrev pub turn_of : OrderRow → ℕ
 turn_of row = row.receipt * 2 ^ 64 + row.place
 
+-- a row among others in its turn; one of the same number would give way to it, and there is none
 abbrev pub in_turn : OrderRow → List OrderRow → List OrderRow
 in_turn row rows =
     filter (λ other. nat_lt (turn_of other) (turn_of row)) rows ++ row ∷ filter (λ other. nat_lt (turn_of row) (turn_of other)) rows

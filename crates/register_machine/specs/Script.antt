@@ -5,9 +5,10 @@ use Rattle.csv.specs.Reading.{default_config, records, strip_bom}
 use Rattle.csv.specs.Writing.{default_writer, row_text}
 use Rattle.forward_price.specs.PriceTables.{Table}
 use Rattle.agent_events.specs.AnswerTexts.{answer_texts}
-use Rattle.agent_events.specs.Answers.{Refusal, Reply}
+use Rattle.agent_events.specs.declared.reply.Refusal.{Refusal}
+use Rattle.agent_events.specs.declared.reply.Reply.{Reply}
+use Rattle.agent_events.specs.declared.request.Request.{Request}
 use Rattle.agent_events.specs.Items.{ScriptItem, batch_lines, script_item}
-use Rattle.agent_events.specs.Requests.{Request}
 use Rattle.register_machine.specs.Batches.{BatchAnswer, batch_answer}
 use Rattle.register_machine.specs.Callers.{Situation, caller_of, situation_at}
 use Rattle.register_machine.specs.Journals.{Journal, last_moment}
@@ -55,13 +56,13 @@ empty_run = record { journal = []; table = empty_table; lines = [] }
 unfoldable pub run_from : (Request → Bool) → List ℕ → Run → List ScriptItem → Run
 run_from built operator run items = fold (item_step built operator) run items
 
--- all verbs are built
-abbrev pub is_whole_machine : Request → Bool
-is_whole_machine request = true
+-- every verb is built
+abbrev pub all_verbs_built : Request → Bool
+all_verbs_built request = true
 
 -- the lines of a script, from the operator's key and the script's bytes, behind the empty journal
 abbrev pub script_text : List ℕ → List ℕ → List ℕ
-script_text operator script = (run_from is_whole_machine operator empty_run (script_items script)).lines
+script_text operator script = (run_from all_verbs_built operator empty_run (script_items script)).lines
 
 -- the lines that a batch gets behind a run: those of its replies, or that of the refusal of the whole batch
 abbrev pub batch_reply : Result BatchAnswer Refusal → List ℕ
@@ -71,5 +72,5 @@ batch_reply (Err refusal) = reply_line (Reply.Refused refusal)
 abbrev pub batch_text : List ℕ → Run → ℕ → List ℕ → List ℕ → List ℕ
 batch_text operator run now key bytes =
     batch_reply
-    (batch_answer is_whole_machine (situation_in operator run now key)
+    (batch_answer all_verbs_built (situation_in operator run now key)
     (batch_lines (records default_config (strip_bom bytes))))

@@ -1,14 +1,13 @@
 -- The statement of an account: its trades on sheets dated within the period, in the order of execution, and its holdings
 -- after the last sheet. Each line ends with a line feed.
 use Rattle.std.specs.Prelude.{ℕ, ◌+◌, ◌-◌, Bool, ◌&&◌, List, [], ◌∷◌, ◌++◌, nat_le, ◌==◌, codes, filter, flat_map}
-use Rattle.std.specs.List.{join_with_byte}
 use Rattle.std.specs.Option.{option_map_or}
 use Rattle.money_units.specs.Texts.{money_text, number_text, shares_text}
 use Rattle.share_lots.specs.Lots.{cost_total, held_total}
 use Rattle.share_lots.specs.Values.{value_at}
-use Rattle.agent_events.specs.AnswerTexts.{day_text, state_text}
-use Rattle.agent_events.specs.Answers.{Reply}
-use Rattle.agent_events.specs.Requests.{StatementForm}
+use Rattle.agent_events.specs.AnswerTexts.{day_text, list_text, state_text}
+use Rattle.agent_events.specs.declared.reply.Reply.{Reply}
+use Rattle.agent_events.specs.declared.request.StatementForm.{StatementForm}
 use Rattle.register_machine.specs.Callers.{Situation}
 use Rattle.register_machine.specs.CorrectedBook.{Book}
 use Rattle.register_machine.specs.Corrections.{latest_nav}
@@ -18,12 +17,9 @@ use Rattle.register_machine.specs.Positions.{Position, mils_of}
 use Rattle.register_machine.specs.Replays.{replay}
 use Rattle.register_machine.specs.Trades.{Day, Outcome, Trade, TradeKind}
 
--- words with one space between them, and a line of them
-abbrev pub words : List (List ℕ) → List ℕ
-words parts = join_with_byte 32 parts
-
+-- a line: its words with one space between them, and a line feed
 abbrev pub line : List (List ℕ) → List ℕ
-line parts = words parts ++ 10 ∷ []
+line words = list_text words ++ 10 ∷ []
 
 -- a name and its value
 abbrev pub reference_words : Trade → List (List ℕ)

@@ -3,7 +3,7 @@
 use Rattle.std.specs.Prelude.{ℕ, List, [], ◌∷◌, ◌++◌, Some, None, Option, unwrap_or}
 use Rattle.forward_price.specs.Sheets.{nav_on}
 use Rattle.forward_price.specs.declared.price_sheet.Sheet.{Sheet}
-use Rattle.agent_events.specs.Requests.{OrderForm}
+use Rattle.agent_events.specs.declared.order.Order.{Order}
 use Rattle.register_machine.specs.CorrectedBook.{class_of, target_of}
 use Rattle.register_machine.specs.Journals.{first_some}
 use Rattle.register_machine.specs.Positions.{Position, Register, put}
@@ -31,8 +31,15 @@ pub data TradeKind : Type 0 where
   DividendShares : TradeKind
   DividendCash : TradeKind
 
--- a trade on a sheet, with 0 where a field has no part: the reference of its order, the price in cents, the mils and the
--- new mils of an exchange, the cash and the charge in cents
+-- A trade on a sheet, with 0 where a field has no part: the reference of its order, the price in cents, the mils and the
+-- new mils of an exchange, the cash and the charge in cents.
+--   a purchase            its offering price, the shares bought, the gross, and the charge within it
+--   a redemption          the net asset value, the shares sold, their value, and the deferred charge within it
+--   an exchange           the net asset value of its class, the shares given and those got, and the value that goes over
+--   a letter that begins  its amount as `cash`, though no cash moves
+--   one ended by date     the net asset value, the shares paid, what they pay as `cash`, and the waived part as `charge`
+--   a dividend            its cash; where it is reinvested, the net asset value and the shares got too
+-- Elections, letters that are reached and unfilled orders have none of these numbers.
 pub record Trade : Type 0 where
   pub sheet : ℕ
   pub moment : ℕ
@@ -69,7 +76,7 @@ plain_trade sheet account class kind = record {
 }
 
 -- and with one
-abbrev pub order_trade : Sheet → OrderForm → TradeKind → Trade
+abbrev pub order_trade : Sheet → Order → TradeKind → Trade
 order_trade sheet order kind =
     record (plain_trade sheet order.account (class_of order.body) kind) {
       ref_no = order.ref_no;

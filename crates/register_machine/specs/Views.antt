@@ -1,50 +1,46 @@
 -- What everybody sees of a journal, what belongs to one household, and a household's view: both together, in order.
-use Rattle.std.specs.Prelude.{ℕ, Bool, true, false, ◌&&◌, ◌||◌, List, ◌==◌, filter}
-use Rattle.std.specs.List.{list_any}
-use Rattle.agent_events.specs.Events.{Event, Kind}
-use Rattle.agent_events.specs.Requests.{AccountForm}
+use Rattle.std.specs.Prelude.{ℕ, Bool, true, false, ◌||◌, List, ◌==◌, filter}
+use Rattle.agent_events.specs.declared.request.AccountForm.{AccountForm}
+use Rattle.agent_events.specs.declared.event.EventKind.{EventKind}
+use Rattle.agent_events.specs.Events.{Event}
+use Rattle.register_machine.specs.Callers.{owns}
 use Rattle.register_machine.specs.Journals.{Journal, accounts_of}
 
 -- what the funds do: calendars, closures, classes, dealers, sheets, dividends and corrections of prices and rates
-abbrev pub is_public : Kind → Bool
-is_public (Kind.Calendar form) = true
-is_public (Kind.Close form) = true
-is_public (Kind.Class form) = true
-is_public (Kind.Dealer form) = true
-is_public (Kind.Household form) = false
-is_public (Kind.Account form) = false
-is_public (Kind.Order placed) = false
-is_public (Kind.Cancel form) = false
-is_public (Kind.Sheet form) = true
-is_public (Kind.Dividend form) = true
-is_public (Kind.FixPrice form) = true
-is_public (Kind.FixRate form) = true
-is_public (Kind.Enter form) = false
-is_public (Kind.Replace form) = false
-is_public (Kind.Void form) = false
-
--- an account is one of a household's
-abbrev pub is_owned_by : List AccountForm → ℕ → ℕ → Bool
-is_owned_by accounts household number =
-    list_any (λ account. account.account == number && account.household == household) accounts
+abbrev pub is_public : EventKind → Bool
+is_public (EventKind.Calendar form) = true
+is_public (EventKind.Close form) = true
+is_public (EventKind.Class form) = true
+is_public (EventKind.Dealer form) = true
+is_public (EventKind.Household form) = false
+is_public (EventKind.Account form) = false
+is_public (EventKind.Order placed) = false
+is_public (EventKind.Cancel form) = false
+is_public (EventKind.Sheet form) = true
+is_public (EventKind.Dividend form) = true
+is_public (EventKind.FixPrice form) = true
+is_public (EventKind.FixRate form) = true
+is_public (EventKind.Enter form) = false
+is_public (EventKind.Replace form) = false
+is_public (EventKind.Void form) = false
 
 -- the household and its accounts, and all that is done on these accounts
-abbrev pub belongs_to : List AccountForm → ℕ → Kind → Bool
-belongs_to accounts household (Kind.Calendar form) = false
-belongs_to accounts household (Kind.Close form) = false
-belongs_to accounts household (Kind.Class form) = false
-belongs_to accounts household (Kind.Dealer form) = false
-belongs_to accounts household (Kind.Household form) = form.household == household
-belongs_to accounts household (Kind.Account form) = form.household == household
-belongs_to accounts household (Kind.Order placed) = is_owned_by accounts household placed.order.account
-belongs_to accounts household (Kind.Cancel form) = is_owned_by accounts household form.account
-belongs_to accounts household (Kind.Sheet form) = false
-belongs_to accounts household (Kind.Dividend form) = false
-belongs_to accounts household (Kind.FixPrice form) = false
-belongs_to accounts household (Kind.FixRate form) = false
-belongs_to accounts household (Kind.Enter form) = is_owned_by accounts household form.order.account
-belongs_to accounts household (Kind.Replace form) = is_owned_by accounts household form.order.account
-belongs_to accounts household (Kind.Void form) = is_owned_by accounts household form.account
+abbrev pub belongs_to : List AccountForm → ℕ → EventKind → Bool
+belongs_to accounts household (EventKind.Calendar form) = false
+belongs_to accounts household (EventKind.Close form) = false
+belongs_to accounts household (EventKind.Class form) = false
+belongs_to accounts household (EventKind.Dealer form) = false
+belongs_to accounts household (EventKind.Household form) = form.household == household
+belongs_to accounts household (EventKind.Account form) = form.household == household
+belongs_to accounts household (EventKind.Order placed) = owns accounts household placed.order.account
+belongs_to accounts household (EventKind.Cancel form) = owns accounts household form.account
+belongs_to accounts household (EventKind.Sheet form) = false
+belongs_to accounts household (EventKind.Dividend form) = false
+belongs_to accounts household (EventKind.FixPrice form) = false
+belongs_to accounts household (EventKind.FixRate form) = false
+belongs_to accounts household (EventKind.Enter form) = owns accounts household form.order.account
+belongs_to accounts household (EventKind.Replace form) = owns accounts household form.order.account
+belongs_to accounts household (EventKind.Void form) = owns accounts household form.account
 
 abbrev pub public_events : Journal → Journal
 public_events journal = filter (λ event. is_public event.kind) journal

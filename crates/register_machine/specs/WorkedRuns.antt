@@ -1,15 +1,19 @@
--- Whole scripts as examples: what is written in a row of a script, and the line that it gets. Each begins with the same
--- preamble: a calendar of New York, four classes, a dealer, two households and their accounts.
-use Rattle.std.specs.Prelude.{◌≡◌, ℕ, Bool, not, ◌&&◌, List, [], ◌∷◌, ◌++◌, map, replicate, Some, ◌==◌, codes, filter, flat_map}
+-- Whole scripts as examples: what is written in a row of a script, and the line that it gets. Most stand behind one
+-- preamble: a calendar of New York, four classes, a dealer, two households and their accounts. Some have a calendar with
+-- few pricing days in it, and some have lines of their own in its place.
+use Rattle.std.specs.Prelude.{◌≡◌, ℕ, zero, suc, Bool, not, ◌&&◌, List, [], ◌∷◌, ◌++◌, map, replicate, Some, ◌==◌, codes, filter, flat_map}
 use Rattle.std.specs.List.{join_with_byte, list_any}
 use Rattle.fund_calendar.specs.PricingDays.{days_from, is_priced}
 use Rattle.agent_events.specs.AnswerTexts.{day_text, list_text}
-use Rattle.agent_events.specs.Events.{Event, Kind}
+use Rattle.agent_events.specs.declared.order.Body.{Body}
+use Rattle.agent_events.specs.declared.event.EventKind.{EventKind}
+use Rattle.agent_events.specs.declared.order.Order.{Order}
+use Rattle.agent_events.specs.declared.request.Request.{Request}
+use Rattle.agent_events.specs.Events.{Event, placed_now}
 use Rattle.agent_events.specs.JsonForms.{Member}
-use Rattle.agent_events.specs.Requests.{Body, Request}
 use Rattle.register_machine.specs.Callers.{Caller, Situation, situation_at}
 use Rattle.register_machine.specs.Pricing.{empty_table}
-use Rattle.register_machine.specs.Script.{batch_text, empty_run, is_whole_machine, run_from, script_items, script_text}
+use Rattle.register_machine.specs.Script.{Run, all_verbs_built, batch_text, empty_run, run_from, script_items, script_text}
 
 abbrev pub operator_key : List ℕ
 operator_key = codes "op-desk000001"
@@ -94,22 +98,50 @@ quoted_record fields = join_with_byte 44 (map quoted fields) ++ 13 ∷ 10 ∷ []
 abbrev pub record_line : List ℕ → List ℕ
 record_line text = text ++ 13 ∷ 10 ∷ []
 
+-- the run over the preamble and these lines
+abbrev pub run_over : List (List ℕ) → Run
+run_over items =
+    run_from all_verbs_built operator_key empty_run (script_items (text_of (calendar_line ∷ openings ++ items)))
+
 -- a batch, sent with a key behind the preamble and these lines, gets these answers
 abbrev pub BatchAnswers : List (List ℕ) → ℕ → List ℕ → List ℕ → List (List ℕ) → Type 0
-BatchAnswers items now key batch lines =
-    batch_text operator_key
-    (run_from is_whole_machine operator_key empty_run (script_items (text_of (calendar_line ∷ openings ++ items)))) now key batch
-    ≡ text_of lines
+BatchAnswers items now key batch lines = batch_text operator_key (run_over items) now key batch ≡ text_of lines
 
 -- an account with so many cancels, and another order of an account
 abbrev pub cancelled : Event
-cancelled = record { moment = 0; kind = Kind.Cancel (record { account = 101; ref_no = 1; target = 1 }) }
+cancelled = record { moment = 0; kind = EventKind.Cancel (record { account = 101; ref_no = 1; target = 1 }) }
 
 abbrev pub with_cancels : ℕ → Situation
 with_cancels count = situation_at empty_table (replicate count cancelled) 0 Caller.Operator
 
+abbrev pub sell_all : ℕ → ℕ → Order
+sell_all account ref_no = record { account = account; ref_no = ref_no; body = Body.SellAll 14 }
+
 abbrev pub order_of : ℕ → Request
-order_of account = Request.Order (record { account = account; ref_no = 9; body = Body.SellAll 14 })
+order_of account = Request.Order (sell_all account 9)
+
+-- orders 1, 2, 3 .. of account 101, all of 2024-07-01 09:00 in New York, which are due that day
+abbrev pub order_taken : ℕ → Event
+order_taken ref_no = record {
+  moment = 1719838800;
+  kind = EventKind.Order (placed_now (sell_all 101 ref_no) 1719838800 1719864000);
+}
+
+-- so many of them, in front of later events
+abbrev pub orders_taken : ℕ → List Event → List Event
+orders_taken zero later = later
+orders_taken (suc n) later = orders_taken n (order_taken (suc n) ∷ later)
+
+-- a run with so many of them more, and no lines yet
+abbrev pub with_orders : ℕ → Run → Run
+with_orders count run =
+    record { journal = run.journal ++ orders_taken count []; table = run.table; lines = [] }
+
+-- these lines get these answers behind the preamble and so many such orders
+abbrev pub AnswersWithOrders : ℕ → List (List ℕ) → List (List ℕ) → Type 0
+AnswersWithOrders count items lines =
+    (run_from all_verbs_built operator_key (with_orders count (run_over [])) (script_items (text_of items))).lines
+    ≡ text_of lines
 
 -- a member of a JSON object by its name and its text
 abbrev pub member : List ℕ → List ℕ → Member

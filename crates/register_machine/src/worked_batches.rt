@@ -1,12 +1,13 @@
 //! Worked batches, the limit on an account's orders, and the forms of JSON members, as laws.
 ghost use Rattle.std.specs.Prelude.{◌≡◌, [], ◌∷◌, ◌++◌, codes, Some, None, Err};
-ghost use Rattle.agent_events.specs.Answers.{Refusal};
+ghost use Rattle.agent_events.specs.declared.reply.Refusal.{Refusal};
+ghost use Rattle.agent_events.specs.declared.reply.Refusal.TheVariants as Refusal;
 ghost use Rattle.agent_events.specs.Items.{asked_by};
 ghost use Rattle.agent_events.specs.JsonForms.{asked_by_members};
 ghost use Rattle.register_machine.specs.OrderRules.{orders_full};
-ghost use Rattle.register_machine.specs.WorkedRuns.{BatchAnswers, first_sheet, quoted_record, record_line, with_cancels, order_of, member};
+ghost use Rattle.register_machine.specs.WorkedRuns.{AnswersWithOrders, BatchAnswers, first_sheet, quoted_record, record_line, with_cancels, order_of, member};
 
-/// A dealer's batch of four lines, one of them in quotes: each is answered in turn.
+/// A dealer's batch of five lines, the first of them in quotes: each is answered in turn.
 pub fn batch_of_a_dealer()
     ensures { BatchAnswers (first_sheet ∷ []) 1719964800 (codes "d-broker00005") (
         quoted_record (
@@ -40,11 +41,22 @@ pub fn batch_with_a_repeat()
         ) }
 {}
 
-/// Nobody but a dealer sends a batch.
-pub fn batch_of_a_household()
-    ensures { BatchAnswers [] 1719838800 (codes "h-mary000001") (record_line (codes "1719838000,buy,101,1,14,1000.00")) (
+/// Nobody but a dealer sends a batch: a household doesn't, the operator doesn't, and a stranger doesn't.
+pub fn batches_of_others()
+    ensures household { BatchAnswers [] 1719838800 (codes "h-mary000001") (record_line (codes "1719838000,buy,101,1,14,1000.00")) (
         codes "no,1" ∷ []
         ) }
+    ensures operator { BatchAnswers [] 1719838800 (codes "op-desk000001") (record_line (codes "1719838000,buy,101,1,14,1000.00")) (
+        codes "no,1" ∷ []
+        ) }
+    ensures stranger { BatchAnswers [] 1719838800 (codes "d-nobody00000") (record_line (codes "1719838000,buy,103,1,14,1000.00")) (
+        codes "no,1" ∷ []
+        ) }
+{}
+
+/// An empty batch of a dealer has no lines.
+pub fn empty_batch()
+    ensures { BatchAnswers [] 1719838800 (codes "d-broker00005") [] [] }
 {}
 
 /// With 4,096 orders and cancels an account is full, and another isn't.
@@ -52,6 +64,26 @@ pub fn full_account()
     ensures full { orders_full (with_cancels 4096) (order_of 101) ≡ Some (Refusal.OrdersFull 4096) }
     ensures other { orders_full (with_cancels 4096) (order_of 103) ≡ None }
     ensures room { orders_full (with_cancels 4095) (order_of 101) ≡ None }
+{}
+
+/// The 4,096th order of an account is taken and the 4,097th isn't, nor is a cancel. A repeat gets its first reply all the
+/// same, and another account has room.
+pub fn order_past_the_limit()
+    ensures { AnswersWithOrders 4095 (
+        codes "1719838900,op-desk000001,sellall,101,4096,14"
+        ∷ codes "1719838900,op-desk000001,sellall,101,4097,14"
+        ∷ codes "1719838900,op-desk000001,cancel,101,4097,1"
+        ∷ codes "1719838900,op-desk000001,sellall,101,1,14"
+        ∷ codes "1719838900,op-desk000001,sellall,102,1,14"
+        ∷ []
+        ) (
+        codes "ok,order,101,4096,1719838900,1719864000"
+        ∷ codes "no,16,4096"
+        ∷ codes "no,16,4096"
+        ∷ codes "ok,order,101,1,1719838800,1719864000"
+        ∷ codes "ok,order,102,1,1719838900,1719864000"
+        ∷ []
+        ) }
 {}
 
 /// Members in any order ask what the record of a script asks; a missing one has its place, and another name is place 0.

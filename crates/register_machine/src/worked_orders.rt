@@ -23,7 +23,7 @@ pub fn repeats()
         ) }
 {}
 
-/// A dealer may report what it received before the pricing moment until the sheet is there or its window is over.
+/// A dealer may report what it received before the pricing moment until the sheet of that moment is published.
 pub fn dealer_lines_after_a_sheet()
     ensures { Answers (
         first_sheet
@@ -38,6 +38,22 @@ pub fn dealer_lines_after_a_sheet()
         ∷ codes "ok,order,103,2,1719950400,1720036800"
         ∷ codes "no,8,1719864000"
         ∷ codes "no,1"
+        ∷ []
+        ) }
+{}
+
+/// While the sheet isn't published, a line comes in time up to the dealer's window of 21,600 seconds behind its due moment
+/// and not a second later; what was taken is repeated then too.
+pub fn dealer_window()
+    ensures { Answers (
+        codes "1719885600,d-broker00005,line,1719863999,buy,103,1,14,1000.00"
+        ∷ codes "1719885601,d-broker00005,line,1719863999,buy,103,2,14,1000.00"
+        ∷ codes "1719885601,d-broker00005,line,1719863999,buy,103,1,14,1000.00"
+        ∷ []
+        ) (
+        codes "ok,order,103,1,1719863999,1719864000"
+        ∷ codes "no,8,1719864000"
+        ∷ codes "ok,order,103,1,1719863999,1719864000"
         ∷ []
         ) }
 {}
@@ -122,7 +138,8 @@ pub fn refusals()
         ) }
 {}
 
-/// A zone without its offset is no zone rule.
+/// A zone that names daylight time without its two changes is no zone rule. A household is told before that it has no right
+/// to the verb.
 pub fn bad_zone()
     ensures { Answers (
         codes "1719838800,op-desk000001,calendar,2,EST5EDT,16:00,2024-01-01,2026-12-31,"

@@ -1,7 +1,8 @@
 use Rattle.std.proofs.Common.{◌≡◌, [], ap, arith, codes, Ok}
 use Rattle.std.proofs.lemmas.Int.{ints}
 use Rattle.fund_calendar.specs.PricingDays.{new_calendar}
-use Rattle.register_machine.specs.Journal.{first_calendar, listing_by}
+use Rattle.register_machine.specs.Journal.{first_calendar}
+use Rattle.register_machine.specs.Pricing.{listing_by}
 use Rattle.register_desk.proofs.desk.first_calendar.Goals as goal
 
 pub returns-in-Ok : goal.returns-in-Ok

@@ -3,7 +3,7 @@ use Rattle.register_machine.specs.Replay.{is_on, execute}
 use Rattle.register_desk.specs.Within.{IsWithin}
 use Rattle.register_desk.proofs.register.day.Given as goal
 
-abbrev pub invariant-loop-order : goal.invariant-loop-order
-invariant-loop-order l =
-    (l.register.items ≡ fold (execute l.sheet) l.fn.register.items (filter (is_on l.sheet.number) (take l.order-index l.priced)))
+abbrev pub invariant-loop-purchase : goal.invariant-loop-purchase
+invariant-loop-purchase l =
+    (l.register.items ≡ fold (execute l.sheet) l.fn.register.items (filter (is_on l.sheet.number) (take l.purchase-index l.priced)))
     × (IsWithin l.fn.register.items → IsWithin l.register.items)

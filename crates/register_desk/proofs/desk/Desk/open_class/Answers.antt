@@ -26,4 +26,7 @@ invariant_of-self-2 c =
     (c.add_class.ensures.table
     ∙ (ap (λ t. with_class t class calendar (to_z w64 (of_z w64 c.seconds.result))) c.reserve-2.ensures.table
     ∙ ap (λ z. with_class inside.prices.table class calendar z) back))
-    (c.push_reserved.ensures.items ∙ ap (λ xs. xs ++ event_at c.args.now.now (kind.Class c.in_ok-form.form) ∷ []) c.in_ok-reserve.ensures.items)
+    (c.push_reserved.ensures.items ∙ (ap (λ e. c.reserve.new.self.items ++ e ∷ []) c.class_event.ensures ∙ ap (λ xs. xs ++ event_at c.args.now.now (kind.Class c.in_ok-form.form) ∷ []) c.in_ok-reserve.ensures.items))
+
+pub class_event-requires : goal.class_event-requires
+class_event-requires c = rw c.in_ok-form.ensures c.requires.built

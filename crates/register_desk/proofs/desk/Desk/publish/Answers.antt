@@ -8,7 +8,7 @@ use Rattle.register_desk.proofs.desk.Desk.publish.Goals as goal
 pub publish-number-requires-clause-complete : goal.publish-number-requires-clause-complete
 publish-number-requires-clause-complete c =
     let fits : SFits w64 c.seconds.result = search rules in
-    rw (c.as_slice.ensures, to_z-of_z fits, c.seconds.ensures.value, c.number-calendar.ensures.value, c.reserve-2.ensures.table, c.self.invariant.0, c.self.view_is, c.in_ok-form.ensures) c.requires.complete
+    rw (c.as_slice.ensures.value, to_z-of_z fits, c.seconds.ensures.value, c.number-calendar.ensures.value, c.reserve-2.ensures.table, c.self.invariant.0, c.self.view_is, c.in_ok-form.ensures) c.requires.complete
 
 pub invariant_of-self-2 : goal.invariant_of-self-2
 invariant_of-self-2 c =
@@ -22,5 +22,8 @@ invariant_of-self-2 c =
     (c.publish-number.ensures.table
     ∙ (ap (λ t. with_published t calendar (to_z w64 (of_z w64 c.seconds.result)) c.as_slice.result.now) c.reserve-2.ensures.table
     ∙ (ap (λ z. with_published inside.prices.table calendar z c.as_slice.result.now) back
-    ∙ ap (λ prices. with_published inside.prices.table calendar (pos form.moment) prices) c.as_slice.ensures)))
-    (c.push_reserved.ensures.items ∙ ap (λ xs. xs ++ event_at c.args.now.now (kind.Sheet form) ∷ []) c.in_ok-reserve.ensures.items)
+    ∙ ap (λ prices. with_published inside.prices.table calendar (pos form.moment) prices) c.as_slice.ensures.value)))
+    (c.push_reserved.ensures.items ∙ (ap (λ e. c.reserve.new.self.items ++ e ∷ []) c.sheet_event.ensures ∙ ap (λ xs. xs ++ event_at c.args.now.now (kind.Sheet form) ∷ []) c.in_ok-reserve.ensures.items))
+
+pub sheet_event-requires : goal.sheet_event-requires
+sheet_event-requires c = rw c.in_ok-form.ensures c.requires.listed
