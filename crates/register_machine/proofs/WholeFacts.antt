@@ -372,8 +372,14 @@ orders_are_forward_priced book =
 
 -- ---- the first reply
 
-pub says_its_first_reply : (situation : Situation) (event : Event) → SaysItsFirstReply situation event
-says_its_first_reply situation event own = ap (λ table. reply_of table situation.journal event) own
+pub says_its_first_reply : (situation : Situation) (request : Request) (event : Event) → SaysItsFirstReply situation request event
+says_its_first_reply situation request event own =
+    each-answer (λ said. said.events ≡ event ∷ [] → said.reply ≡ first_reply situation.journal event) situation request
+    (λ reply none. absurd (no_event none))
+    (λ kind e clear one. ap (λ (events : List Event). reply_of situation.table situation.journal (get_or events 0 event)) one ∙ ap (λ table. reply_of table situation.journal event) own)
+  where
+    no_event : [] ≡ event ∷ [] → ⊥
+    no_event h = cc
 
 pub answers_by_the_journal : (operator : List ℕ) (run : Run) (now : ℕ) (key : List ℕ) (request : Request) → AnswersByTheJournal operator run now key request
 answers_by_the_journal operator run now key request own =

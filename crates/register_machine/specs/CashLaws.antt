@@ -28,7 +28,7 @@ pub record IsBetween (parties : List Party) (movement : Movement) : Type 0 where
 abbrev pub total_balance : List Movement → List Party → ℤ
 total_balance movements parties = fold (λ so_far party. so_far +ℤ balance movements party) (pos 0) parties
 
--- Movements between parties leave these nothing together, and so do trades with the payments of corrections.
+-- Movements between parties leave these nothing together.
 abbrev pub BalancesToZero : List Party → List Movement → Type 0
 BalancesToZero parties movements = All (IsBetween parties) movements → total_balance movements parties ≡ pos 0
 
@@ -65,7 +65,7 @@ abbrev pub books_total : BooksReply → ℤ
 books_total books =
     (((classes_cash books.classes +ℤ books.underwriter) +ℤ books.agent) +ℤ dealers_cash books.dealers) +ℤ books.holders
 
--- The books that a run shows, whenever and to whom, have these figures sum to zero: no cash of anyone is left out.
+-- The books that a run shows, whenever and to whom, have these figures sum to zero.
 abbrev pub BooksSumToZero : List ℕ → Run → Type 0
 BooksSumToZero operator run =
     (now : ℕ) (key : List ℕ) (books : BooksReply)

@@ -10,7 +10,7 @@ use Rattle.agent_events.specs.Events.{Event, event_of, request_of}
 use Rattle.register_machine.specs.Callers.{Situation}
 use Rattle.register_machine.specs.CorrectedBook.{classes_in}
 use Rattle.register_machine.specs.Journals.{first_some}
-use Rattle.register_machine.specs.Machine.{answer, appends, due_now, first_reply, first_rules, later_broken_rule, machine_answer, repeats, says}
+use Rattle.register_machine.specs.Machine.{answer, due_now, first_reply, first_rules, later_broken_rule, machine_answer, repeats, says}
 use Rattle.register_machine.specs.Pricing.{table_of}
 use Rattle.register_machine.specs.RegisterRules.{event_at}
 use Rattle.register_machine.specs.Replays.{Priced}
@@ -33,20 +33,20 @@ abbrev pub RefusalAppendsNothing : Situation → Request → Refusal → Type 0
 RefusalAppendsNothing situation request refusal =
     (answer situation request).reply ≡ Reply.Refused refusal → (answer situation request).events ≡ []
 
--- A request of the content of an event, by a caller with the right to it, gets that event's reply again and appends
--- nothing; the event is the first of that content.
+-- A request of the content of an event, by a caller with the right to it and with no bad terms, gets that event's reply again
+-- and appends nothing; the event is the first of that content.
 abbrev pub RepeatsItsFirst : Situation → Request → ℕ → Event → Type 0
 RepeatsItsFirst situation request place event =
     first_some (first_rules situation request) ≡ None → position (repeats request) situation.journal ≡ Some place
     → slice_get situation.journal place ≡ Some event
     → answer situation request ≡ says (first_reply (take place situation.journal) event)
 
--- The reply with which an event is appended is the first reply, which its repeats get, where the situation has the price
--- table of its own journal.
-abbrev pub SaysItsFirstReply : Situation → Event → Type 0
-SaysItsFirstReply situation event =
-    situation.table ≡ table_of situation.journal
-    → (appends situation event).reply ≡ first_reply situation.journal event
+-- The answer that appends an event has the first reply, which the event's repeats get, where the situation has the price table
+-- of its own journal.
+abbrev pub SaysItsFirstReply : Situation → Request → Event → Type 0
+SaysItsFirstReply situation request event =
+    situation.table ≡ table_of situation.journal → (answer situation request).events ≡ event ∷ []
+    → (answer situation request).reply ≡ first_reply situation.journal event
 
 -- What is appended is the one event that the request brings at its moment, and only where the caller has the right to it,
 -- its form is good, no event before has its content, and no later rule is broken.

@@ -34,9 +34,9 @@ pub fn repeats_act_once()
     ensures { (situation : Situation) (request : Request) (place : ℕ) (event : Event) → RepeatsItsFirst situation request place event }
 {}
 
-/// And that reply is the one with which the event was appended.
+/// And that reply is the one of the answer that appended the event.
 pub fn first_replies_are_kept()
-    ensures { (situation : Situation) (event : Event) → SaysItsFirstReply situation event }
+    ensures { (situation : Situation) (request : Request) (event : Event) → SaysItsFirstReply situation request event }
 {}
 
 /// A refused request appends nothing.
