@@ -6,11 +6,11 @@ use Rattle.std.proofs.lemmas.Bool.Decides.{leb_tells}
 use Rattle.std.proofs.lemmas.List.{map_more, at_drop_more, at_drop_all, take_all}
 use Rattle.std.proofs.lemmas.List.Elements.{All-cons, All-map, filter-append}
 use Rattle.std.proofs.lemmas.List.Kept.{AllPairs-cons, AllPairs-filter}
-use Rattle.fund_calendar.specs.declared.calendar.CalendarFault.TheVariants.{BadZone, BadSpan, NotRising}
 use Rattle.fund_calendar.specs.declared.calendar.CalendarFault.{CalendarFault}
 use Rattle.fund_calendar.specs.declared.zone.ZoneRule.{ZoneRule}
 use Rattle.fund_calendar.specs.declared.pricing_day.PricingDay.{PricingDay}
-use Rattle.fund_calendar.specs.PricingDays.{IsListing, days_from, is_priced, pricing_dates, rising, first_not_rising, priced_at, days_on, days_or_fault, last_moment, is_bad_span, instant_on, numbered, new_calendar}
+use Rattle.fund_calendar.specs.PricingDays.{IsListing, days_from, is_priced, pricing_dates, rising, first_not_rising, priced_at, days_on, days_or_fault, last_moment, is_bad_span, instant_on, CalendarRefusal, BadZone, BadSpan, NotRising, CalendarTerms, listing_numbered, new_calendar}
+use Rattle.fund_calendar.specs.Refusals.{RefusedAs}
 use Rattle.fund_calendar.specs.ZoneText.{read_zone}
 
 -- one day more
@@ -179,15 +179,32 @@ pub IsListing-days_on : (f : ℕ → Option ℕ) (dates : List ℕ) (days : List
 unfolding days_on
 IsListing-days_on f dates days rise is = listed_by f dates days (first_not_rising 0 (map f dates)) refl rise is
 
--- the answers of a new calendar, fault by fault
-pub new_bad_zone : (number : ℕ) (zone : List ℕ) (minute first last : ℕ) (holidays : List ℕ) → read_zone zone ≡ None → Err BadZone ≡ new_calendar number zone minute first last holidays
+-- the answers of a new calendar, refusal by refusal
+pub new_bad_zone : (terms : CalendarTerms) → read_zone terms.zone ≡ None → Err BadZone ≡ new_calendar terms
 unfolding new_calendar
-new_bad_zone number zone minute first last holidays e = rw e refl
+new_bad_zone terms e = rw e refl
 
-pub new_bad_span : (number : ℕ) (zone : List ℕ) (minute first last : ℕ) (holidays : List ℕ) (rule : ZoneRule) → read_zone zone ≡ Some rule → is_bad_span first last ≡ true → Err BadSpan ≡ new_calendar number zone minute first last holidays
+pub new_bad_span : (terms : CalendarTerms) (rule : ZoneRule) → read_zone terms.zone ≡ Some rule
+    → is_bad_span terms.first terms.last ≡ true → Err BadSpan ≡ new_calendar terms
 unfolding new_calendar
-new_bad_span number zone minute first last holidays rule e bad = rw (e, bad) refl
+new_bad_span terms rule e bad = rw (e, bad) refl
 
-pub new_by_days : (number : ℕ) (zone : List ℕ) (minute first last : ℕ) (holidays : List ℕ) (rule : ZoneRule) (days : Result (List PricingDay) CalendarFault) → read_zone zone ≡ Some rule → is_bad_span first last ≡ false → days ≡ days_on (instant_on rule minute) (pricing_dates holidays first last) → numbered number days ≡ new_calendar number zone minute first last holidays
+-- the days of terms by their zone rule
+abbrev days_by : ZoneRule → CalendarTerms → Result (List PricingDay) CalendarRefusal
+days_by rule terms = days_on (instant_on rule terms.minute) (pricing_dates terms.holidays terms.first terms.last)
+
+pub new_by_days : (terms : CalendarTerms) (rule : ZoneRule) (days : Result (List PricingDay) CalendarRefusal)
+    → read_zone terms.zone ≡ Some rule → is_bad_span terms.first terms.last ≡ false → days ≡ days_by rule terms
+    → listing_numbered terms.number days ≡ new_calendar terms
 unfolding new_calendar
-new_by_days number zone minute first last holidays rule days e good is = rw (e, good, is) refl
+new_by_days terms rule days e good is = rw (e, good, is) refl
+
+-- a refusal of the days is one of the calendar
+pub refused_by_days : (terms : CalendarTerms) (rule : ZoneRule) (fault : CalendarFault)
+    → read_zone terms.zone ≡ Some rule → is_bad_span terms.first terms.last ≡ false
+    → RefusedAs fault (days_by rule terms) → RefusedAs fault (new_calendar terms)
+refused_by_days terms rule CalendarFault.BadZone e good is = new_by_days terms rule (Err BadZone) e good is
+refused_by_days terms rule CalendarFault.BadSpan e good is = new_by_days terms rule (Err BadSpan) e good is
+refused_by_days terms rule (CalendarFault.NotRising place) e good is =
+    new_by_days terms rule (Err (NotRising place)) e good is
+refused_by_days terms rule CalendarFault.NoMemory e good is = tt

@@ -1,10 +1,8 @@
--- The pricing days of a calendar (17 CFR 270.22c-1(b)(1)): Monday to Friday, without the holidays that the prospectus
--- lists, each priced at the instant of the calendar's time of day in its zone.
+-- The pricing days of a calendar (17 CFR 270.22c-1(b)(1)): Monday to Friday, without the holidays
+-- that the prospectus lists, each priced at the instant of the calendar's time of day in its zone.
 use Rattle.std.specs.Prelude.{ℕ, zero, suc, ◌+◌, ◌-◌, ◌*◌, ◌<◌, ◌≤◌, Bool, not, ◌&&◌, ◌||◌, ◌==◌, nat_lt, nat_le, if◌then◌else◌, ℤ, pos, negsuc, ◌<ℤ◌, ◌≤ℤ◌, List, [], ◌∷◌, map, filter, find, All, AllPairs, Option, Some, None, option_map, unwrap_or, Result, Ok, Err}
 use Rattle.std.specs.List.{list_any}
 use Rattle.std.specs.Option.{option_map_or}
-use Rattle.fund_calendar.specs.declared.calendar.CalendarFault.{CalendarFault}
-use Rattle.fund_calendar.specs.declared.calendar.CalendarFault.TheVariants.{BadZone, BadSpan, NotRising}
 use Rattle.fund_calendar.specs.declared.pricing_day.PricingDay.{PricingDay}
 use Rattle.fund_calendar.specs.declared.zone.ZoneRule.{ZoneRule}
 use Rattle.fund_calendar.specs.Dates.{weekday_of}
@@ -21,6 +19,23 @@ IsMoment moment = (pos 0 ≤ℤ moment) × (moment ≤ℤ pos last_moment)
 -- the most days from a calendar's first date to its last
 abbrev pub longest_span : ℕ
 longest_span = 3660
+
+-- the terms of a calendar: its number, its zone rule as text, its time of day in minutes after
+-- midnight, its first and last date, and the holidays
+pub record CalendarTerms : Type 0 where
+  pub number : ℕ
+  pub zone : List ℕ
+  pub minute : ℕ
+  pub first : ℕ
+  pub last : ℕ
+  pub holidays : List ℕ
+
+-- why terms make no calendar: the text is no zone rule, the dates are out of order or too far
+-- apart, or the moment of the pricing day at this place, from 0, doesn't rise
+pub data CalendarRefusal : Type 0 where
+  BadZone : CalendarRefusal
+  BadSpan : CalendarRefusal
+  NotRising : (place : ℕ) → CalendarRefusal
 
 -- a calendar: its number, and its pricing days with their moments
 pub record Listing : Type 0 where
@@ -40,7 +55,8 @@ days_from (suc n) first = first ∷ days_from n (first + 1)
 
 -- Monday to Friday, and no holiday
 abbrev pub is_priced : List ℕ → ℕ → Bool
-is_priced holidays day = nat_lt (weekday_of day) 5 && not (list_any (λ holiday. holiday == day) holidays)
+is_priced holidays day =
+    nat_lt (weekday_of day) 5 && not (list_any (λ holiday. holiday == day) holidays)
 
 -- the dates from first to last that are priced
 unfoldable pub pricing_dates : List ℕ → ℕ → ℕ → List ℕ
@@ -49,48 +65,56 @@ pricing_dates holidays first last = filter (is_priced holidays) (days_from (last
 -- the instant, where it is a moment and not before the least one that may come
 abbrev pub rising : ℕ → Option ℕ → Option ℕ
 rising least None = None
-rising least (Some moment) = if nat_le least moment && nat_le moment last_moment then Some moment else None
+rising least (Some moment) =
+    if nat_le least moment && nat_le moment last_moment then Some moment else None
 
 -- the place of the first instant that is no moment or isn't greater than the one before it
 unfoldable pub first_not_rising : ℕ → List (Option ℕ) → Option ℕ
 first_not_rising least [] = None
 first_not_rising least (instant ∷ later) =
-    option_map_or (λ moment. option_map (λ place. place + 1) (first_not_rising (moment + 1) later)) (rising least instant) (Some 0)
+    option_map_or
+    (λ moment. option_map (λ place. place + 1) (first_not_rising (moment + 1) later))
+    (rising least instant) (Some 0)
 
 -- a date with the moment of its instant
 abbrev pub priced_at : (ℕ → Option ℕ) → ℕ → PricingDay
 priced_at instant_of day = record { day = day; moment = unwrap_or (instant_of day) 0 }
 
 -- the dates with their moments, or the place at which these don't rise
-abbrev pub days_or_fault : (ℕ → Option ℕ) → List ℕ → Option ℕ → Result (List PricingDay) CalendarFault
+abbrev pub days_or_fault : (ℕ → Option ℕ) → List ℕ → Option ℕ
+    → Result (List PricingDay) CalendarRefusal
 days_or_fault instant_of dates None = Ok (map (priced_at instant_of) dates)
 days_or_fault instant_of dates (Some place) = Err (NotRising place)
 
-unfoldable pub days_on : (ℕ → Option ℕ) → List ℕ → Result (List PricingDay) CalendarFault
-days_on instant_of dates = days_or_fault instant_of dates (first_not_rising 0 (map instant_of dates))
+unfoldable pub days_on : (ℕ → Option ℕ) → List ℕ → Result (List PricingDay) CalendarRefusal
+days_on instant_of dates =
+    days_or_fault instant_of dates (first_not_rising 0 (map instant_of dates))
 
 -- the instant of the time of day, `minute` minutes after midnight, on each day
 abbrev pub instant_on : ZoneRule → ℕ → ℕ → Option ℕ
 instant_on rule minute day = instant rule (1440 * day + minute)
 
-abbrev pub numbered : ℕ → Result (List PricingDay) CalendarFault → Result Listing CalendarFault
-numbered number (Ok days) = Ok (record { number = number; days = days })
-numbered number (Err fault) = Err fault
+-- the days with the number of their calendar
+abbrev pub listing_numbered : ℕ → Result (List PricingDay) CalendarRefusal
+    → Result Listing CalendarRefusal
+listing_numbered number (Ok days) = Ok (record { number = number; days = days })
+listing_numbered number (Err refusal) = Err refusal
 
 -- the last date is before the first, or the calendar is too long
 abbrev pub is_bad_span : ℕ → ℕ → Bool
 is_bad_span first last = nat_lt last first || nat_lt longest_span (last + 1 - first)
 
 -- the calendar by its zone rule, where there is one
-abbrev pub calendar_by : Option ZoneRule → ℕ → ℕ → ℕ → ℕ → List ℕ → Result Listing CalendarFault
-calendar_by None number minute first last holidays = Err BadZone
-calendar_by (Some rule) number minute first last holidays =
-    if is_bad_span first last then Err BadSpan
-    else numbered number (days_on (instant_on rule minute) (pricing_dates holidays first last))
+abbrev pub calendar_by : Option ZoneRule → CalendarTerms → Result Listing CalendarRefusal
+calendar_by None terms = Err BadZone
+calendar_by (Some rule) terms =
+    if is_bad_span terms.first terms.last then Err BadSpan
+    else listing_numbered terms.number
+    (days_on (instant_on rule terms.minute) (pricing_dates terms.holidays terms.first terms.last))
 
--- a new calendar, or the first fault: its zone, its span, a moment that doesn't rise
-unfoldable pub new_calendar : ℕ → List ℕ → ℕ → ℕ → ℕ → List ℕ → Result Listing CalendarFault
-new_calendar number zone minute first last holidays = calendar_by (read_zone zone) number minute first last holidays
+-- a new calendar, or the first refusal: its zone, its span, a moment that doesn't rise
+unfoldable pub new_calendar : CalendarTerms → Result Listing CalendarRefusal
+new_calendar terms = calendar_by (read_zone terms.zone) terms
 
 -- the day is one of the calendar's
 abbrev pub lists_day : Listing → ℕ → Bool
@@ -107,7 +131,8 @@ above (negsuc n) = 0
 
 -- the first listed moment above
 abbrev pub first_above : List PricingDay → ℤ → Option ℤ
-first_above days moment = option_map (λ e. pos e.moment) (find (λ e. nat_le (above moment) e.moment) days)
+first_above days moment =
+    option_map (λ e. pos e.moment) (find (λ e. nat_le (above moment) e.moment) days)
 
 abbrev pub next_after : Listing → ℤ → Option ℤ
 next_after c moment = first_above c.days moment

@@ -1,4 +1,5 @@
-ghost use Rattle.std.specs.Prelude.{◌≡◌, ◌<◌, ◌⊎◌, IfOk, IfErr, IfSome, IfNone, Ok, Err};
+//! The calendar of a fund: its pricing days with their moments, closures, and what is due after a moment.
+ghost use Rattle.std.specs.Prelude.{◌≡◌, ◌<◌, IfOk, IfErr, IfSome, IfNone, Ok, Err};
 ghost use Rattle.std.specs.Bool.{OnFalse};
 ghost use Rattle.fund_calendar.specs.declared.calendar.CalendarFault.TheVariants.{NoMemory};
 
@@ -76,6 +77,7 @@ impl Model for Calendar {
 
 impl Calendar {
     ghost use Rattle.fund_calendar.specs.PricingDays as spec;
+    ghost use Rattle.fund_calendar.specs.Refusals.{RefusedAs};
 
     /// A calendar whose days are priced `minute` minutes after midnight in a zone: Monday to Friday from `first` to
     /// `last`, without the holidays. The faults are tried in the order of their list.
@@ -89,8 +91,22 @@ impl Calendar {
         holidays: &[Day],
     ) -> Result<Calendar, CalendarFault>
         requires { minute < 1440 }
-        ensures made { IfOk result (λ c. Ok c ≡ spec.new_calendar number zone.now minute first last holidays.now) }
-        ensures refused { IfErr result (λ e. (e ≡ NoMemory) ⊎ (Err e ≡ spec.new_calendar number zone.now minute first last holidays.now)) }
+        ensures made { IfOk result (λ c. Ok c ≡ spec.new_calendar (record {
+          number = number;
+          zone = zone.now;
+          minute = minute;
+          first = first;
+          last = last;
+          holidays = holidays.now;
+        })) }
+        ensures refused { IfErr result (λ e. RefusedAs e (spec.new_calendar (record {
+          number = number;
+          zone = zone.now;
+          minute = minute;
+          first = first;
+          last = last;
+          holidays = holidays.now;
+        }))) }
     {
         let Some(rule) = read_zone(zone.as_bytes()) else {
             return Err(CalendarFault::BadZone);

@@ -1,6 +1,7 @@
-ghost use Rattle.std.specs.Prelude.{◌≡◌, ◌+◌, ◌-◌, ◌≤◌, ◌<◌, ◌⊎◌, false, AllPairs, length, IfOk, IfErr, IfSome, Ok, Err};
-ghost use Rattle.fund_calendar.specs.declared.calendar.CalendarFault.TheVariants.{NoMemory};
+//! The pricing days of a calendar, gathered date by date, each with its moment.
+ghost use Rattle.std.specs.Prelude.{◌≡◌, ◌+◌, ◌-◌, ◌≤◌, ◌<◌, false, AllPairs, length, IfOk, IfErr, IfSome, Ok, Err};
 ghost use Rattle.fund_calendar.specs.PricingDays as spec;
+ghost use Rattle.fund_calendar.specs.Refusals.{RefusedAs};
 ghost use Rattle.fund_calendar.specs.ZoneRules.{IsZoneRule};
 
 use crate::Day;
@@ -35,9 +36,11 @@ pub(crate) fn listed_between(
     requires rule { IsZoneRule rule.now }
     requires minute { minute < 1440 }
     requires span { spec.is_bad_span first last ≡ false }
-    ensures listed { IfOk result (λ days. Ok days.items ≡ spec.days_on (spec.instant_on rule.now minute) (spec.pricing_dates holidays.now first last)) }
+    ensures listed { IfOk result (λ days. Ok days.items ≡ spec.days_on
+        (spec.instant_on rule.now minute) (spec.pricing_dates holidays.now first last)) }
     ensures listing { IfOk result (λ days. spec.IsListing days.items) }
-    ensures refused { IfErr result (λ e. (e ≡ NoMemory) ⊎ (Err e ≡ spec.days_on (spec.instant_on rule.now minute) (spec.pricing_dates holidays.now first last))) }
+    ensures refused { IfErr result (λ e. RefusedAs e (spec.days_on
+        (spec.instant_on rule.now minute) (spec.pricing_dates holidays.now first last))) }
 {
     let dates = pricing_dates(alloc, first, last, holidays)?;
     listed_days(alloc, rule, minute, &dates)
@@ -51,7 +54,8 @@ pub(crate) fn pricing_dates(
     holidays: &[Day],
 ) -> Result<Vec<Day>, AllocError>
     requires { first ≤ last }
-    ensures dates { IfOk result (λ dates. dates.items ≡ spec.pricing_dates holidays.now first last) }
+    ensures dates { IfOk result (λ dates.
+        dates.items ≡ spec.pricing_dates holidays.now first last) }
     ensures rise { IfOk result (λ dates. AllPairs (λ a b. a < b) dates.items) }
     ensures few { IfOk result (λ dates. length dates.items ≤ last + 1 - first) }
 {
@@ -83,9 +87,11 @@ pub(crate) fn listed_days(
     requires minute { minute < 1440 }
     requires few { length dates.now < 4_000_000_000 }
     requires rise { AllPairs (λ a b. a < b) dates.now }
-    ensures listed { IfOk result (λ days. Ok days.items ≡ spec.days_on (spec.instant_on rule.now minute) dates.now) }
+    ensures listed { IfOk result (λ days.
+        Ok days.items ≡ spec.days_on (spec.instant_on rule.now minute) dates.now) }
     ensures listing { IfOk result (λ days. spec.IsListing days.items) }
-    ensures refused { IfErr result (λ e. (e ≡ NoMemory) ⊎ (Err e ≡ spec.days_on (spec.instant_on rule.now minute) dates.now)) }
+    ensures refused { IfErr result (λ e.
+        RefusedAs e (spec.days_on (spec.instant_on rule.now minute) dates.now)) }
 {
     let mut listed = Vec::new(alloc);
     let mut least = 0;

@@ -1,10 +1,10 @@
 //! Worked examples of the dates, the zone rules and the pricing days, as laws: the checker computes each.
 ghost use Rattle.std.specs.Prelude.{◌≡◌, ◌+◌, ◌*◌, [], ◌∷◌, Some, None, Ok, Err, true, false, pos, codes};
 ghost use Rattle.std.specs.Option.{option_and_then};
-ghost use Rattle.fund_calendar.specs.declared.calendar.CalendarFault.TheVariants.{BadZone, BadSpan, NotRising};
 ghost use Rattle.fund_calendar.specs.Dates.{add_months, anniversaries, date_of, weekday_of};
 ghost use Rattle.fund_calendar.specs.DayText.{read_day};
-ghost use Rattle.fund_calendar.specs.PricingDays.{new_calendar, next_after};
+ghost use Rattle.fund_calendar.specs.PricingDays.{CalendarRefusal, new_calendar, next_after};
+ghost use Rattle.fund_calendar.specs.WorkedCalendars.{new_york, over_the_change, over_the_holiday, greenwich, july};
 ghost use Rattle.fund_calendar.specs.ZoneRules.{instant};
 ghost use Rattle.fund_calendar.specs.ZoneText.{read_zone};
 
@@ -42,8 +42,10 @@ pub fn anniversary_examples()
 
 /// What is a zone rule, and what is none though POSIX or a zone database may have it.
 pub fn zone_examples()
-    ensures ahead { read_zone (codes "<+0330>-3:30") ≡ Some (record { offset = record { behind = 0; ahead = 210 }; daylight = None }) }
-    ensures behind { read_zone (codes "EST+05") ≡ Some (record { offset = record { behind = 300; ahead = 0 }; daylight = None }) }
+    ensures ahead { read_zone (codes "<+0330>-3:30")
+        ≡ Some (record { offset = record { behind = 0; ahead = 210 }; daylight = None }) }
+    ensures behind { read_zone (codes "EST+05")
+        ≡ Some (record { offset = record { behind = 300; ahead = 0 }; daylight = None }) }
     ensures name { read_zone (codes "Etc/UTC") ≡ None }
     ensures no_changes { read_zone (codes "EST5EDT") ≡ None }
     ensures days_of_year { read_zone (codes "EST5EDT,J60,J300") ≡ None }
@@ -57,28 +59,42 @@ pub fn zone_examples()
 /// With changes on Mondays, 02:30 on 2024-03-11 is skipped and read as standard time, 07:30 UTC; 01:30 on 2024-11-04
 /// comes twice and is its first, 05:30 UTC.
 pub fn change_examples()
-    ensures skipped { option_and_then (λ rule. instant rule (1440 * 19793 + 150)) (read_zone (codes "EST5EDT,M3.2.1,M11.1.1")) ≡ Some 1710142200 }
-    ensures twice { option_and_then (λ rule. instant rule (1440 * 20031 + 90)) (read_zone (codes "EST5EDT,M3.2.1,M11.1.1")) ≡ Some 1730698200 }
-    ensures southern { option_and_then (λ rule. instant rule (1440 * 20088 + 960)) (read_zone (codes "AEST-10AEDT,M10.1.0,M4.1.0/3")) ≡ Some 1735621200 }
-    ensures new_year { option_and_then (λ rule. instant rule (1440 * 20090 + 960)) (read_zone (codes "AEST-10AEDT,M10.1.0,M4.1.0/3")) ≡ Some 1735794000 }
+    ensures skipped { option_and_then (λ rule. instant rule (1440 * 19793 + 150))
+        (read_zone (codes "EST5EDT,M3.2.1,M11.1.1")) ≡ Some 1710142200 }
+    ensures twice { option_and_then (λ rule. instant rule (1440 * 20031 + 90))
+        (read_zone (codes "EST5EDT,M3.2.1,M11.1.1")) ≡ Some 1730698200 }
+    ensures southern { option_and_then (λ rule. instant rule (1440 * 20088 + 960))
+        (read_zone (codes "AEST-10AEDT,M10.1.0,M4.1.0/3")) ≡ Some 1735621200 }
+    ensures new_year { option_and_then (λ rule. instant rule (1440 * 20090 + 960))
+        (read_zone (codes "AEST-10AEDT,M10.1.0,M4.1.0/3")) ≡ Some 1735794000 }
 {}
 
-/// In New York 16:00 on Friday 2024-11-01 and on Monday 2024-11-04 are 73 hours apart. A calendar of a Saturday has no
-/// days; one that begins before its moments do, that ends too early or that is too long is refused.
+/// In New York 16:00 on Friday 2024-11-01 and on Monday 2024-11-04 are 73 hours apart, and 4 July is passed over. A
+/// calendar of a Saturday has no days. Terms are refused where the zone is no rule, the last date is before the first,
+/// there are 3,661 days, or the first moment lies before 1970.
 pub fn calendar_examples()
-    ensures daylight { new_calendar 1 (codes "EST5EDT,M3.2.0,M11.1.0") 960 20028 20031 [] ≡ Ok (record { number = 1; days = record { day = 20028; moment = 1730491200 } ∷ record { day = 20031; moment = 1730754000 } ∷ [] }) }
-    ensures holiday { new_calendar 1 (codes "EST5EDT,M3.2.0,M11.1.0") 960 19907 19909 (19908 ∷ []) ≡ Ok (record { number = 1; days = record { day = 19907; moment = 1720036800 } ∷ record { day = 19909; moment = 1720209600 } ∷ [] }) }
-    ensures saturday { new_calendar 1 (codes "UTC0") 0 20029 20029 [] ≡ Ok (record { number = 1; days = [] }) }
-    ensures no_zone { new_calendar 1 (codes "EST5EDT") 960 20031 20028 [] ≡ Err BadZone }
-    ensures backward { new_calendar 1 (codes "UTC0") 960 20031 20028 [] ≡ Err BadSpan }
-    ensures too_long { new_calendar 1 (codes "UTC0") 960 18262 21922 [] ≡ Err BadSpan }
-    ensures before_1970 { new_calendar 1 (codes "XXX-1") 0 0 1 [] ≡ Err (NotRising 0) }
+    ensures daylight { new_calendar new_york ≡ Ok over_the_change }
+    ensures holiday { new_calendar
+        (record new_york { first = 19907; last = 19909; holidays = 19908 ∷ [] })
+        ≡ Ok over_the_holiday }
+    ensures saturday { new_calendar (record greenwich { minute = 0; first = 20029; last = 20029 })
+        ≡ Ok (record { number = 1; days = [] }) }
+    ensures no_zone { new_calendar
+        (record new_york { zone = codes "EST5EDT"; first = 20031; last = 20028 })
+        ≡ Err CalendarRefusal.BadZone }
+    ensures backward { new_calendar (record greenwich { first = 20031; last = 20028 })
+        ≡ Err CalendarRefusal.BadSpan }
+    ensures too_long { new_calendar (record greenwich { first = 18262; last = 21922 })
+        ≡ Err CalendarRefusal.BadSpan }
+    ensures before_1970 { new_calendar
+        (record greenwich { zone = codes "XXX-1"; minute = 0; first = 0; last = 1 })
+        ≡ Err (CalendarRefusal.NotRising 0) }
 {}
 
 /// A purchase is due at the first pricing moment after it: at 1719863999 it is due a second later, at that moment the
-/// day after, and at 1720036800 after the holiday of 4 July.
+/// day after, and at the last moment that is listed never.
 pub fn due_examples()
-    ensures before { next_after (record { number = 1; days = record { day = 19905; moment = 1719864000 } ∷ record { day = 19906; moment = 1719950400 } ∷ [] }) (pos 1719863999) ≡ Some (pos 1719864000) }
-    ensures at { next_after (record { number = 1; days = record { day = 19905; moment = 1719864000 } ∷ record { day = 19906; moment = 1719950400 } ∷ [] }) (pos 1719864000) ≡ Some (pos 1719950400) }
-    ensures past { next_after (record { number = 1; days = record { day = 19905; moment = 1719864000 } ∷ record { day = 19906; moment = 1719950400 } ∷ [] }) (pos 1719950400) ≡ None }
+    ensures before { next_after july (pos 1719863999) ≡ Some (pos 1719864000) }
+    ensures at { next_after july (pos 1719864000) ≡ Some (pos 1719950400) }
+    ensures past { next_after july (pos 1719950400) ≡ None }
 {}

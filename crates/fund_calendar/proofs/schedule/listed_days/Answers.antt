@@ -1,4 +1,4 @@
-use Rattle.std.proofs.Common.{◌≡◌, inr, sym, ap, ◌∙◌, arith}
+use Rattle.std.proofs.Common.{◌≡◌, sym, ap, ◌∙◌, arith}
 use Rattle.std.proofs.lemmas.Grind.{common_steps}
 use Rattle.fund_calendar.specs.PricingDays.{instant_on, rising}
 use Rattle.fund_calendar.proofs.ScheduleLemmas.{IsListing-days_on, fault_from-more, listed_all, listed_more, not_rising_here}
@@ -11,7 +11,7 @@ returns-in-None-clause-refused c =
     c.loop-day-test.true c.day-item.is none c.loop-day.invariant.fault in
     let items = c.loop-day.invariant.listed in
     let place : c.len.result ≡ c.loop-day.day-index = grind (arith, common_steps) in
-    inr (rw place here)
+    rw place here
 
 pub loop-day-preserved : goal.loop-day-preserved
 loop-day-preserved c =
