@@ -1,3 +1,4 @@
+pub mod OrderLemmas
 pub mod LotLemmas
 pub mod RankedLemmas
 pub mod PayingLemmas

@@ -1,12 +1,12 @@
 -- What a change of each lot leaves of what holds of every position, and sums over lots.
-use Rattle.std.proofs.Common.{◌≡◌, ◌≢◌, ℕ, zero, suc, ◌+◌, ◌-◌, ◌*◌, ◌^◌, ◌<◌, ◌≤◌, Bool, true, false, cond, not, min, nat_lt, List, [], ◌∷◌, ◌++◌, length, get_or, map, filter, take, drop, set, sum_by, refl, sym, ap, ◌∙◌, inl, inr, arith, append_assoc, append-nil, ltb, find, Option, Some, None, option_map}
+use Rattle.std.proofs.Common.{◌≡◌, ◌≢◌, ℕ, zero, suc, ◌+◌, ◌-◌, ◌*◌, ◌<◌, ◌≤◌, Bool, true, false, cond, not, min, List, [], ◌∷◌, ◌++◌, length, get_or, map, filter, take, drop, set, sum_by, refl, sym, ap, ◌∙◌, inl, inr, arith, append_assoc, append-nil, find, Option, Some, None, option_map}
 use Rattle.std.proofs.Math.Nat.{mul-le-mul_left}
 use Rattle.std.proofs.lemmas.List.{at_drop_more, at_drop_all, take_more_set, take_all, drop_all, drop-set-lt}
 use Rattle.std.proofs.lemmas.List.Edits.{map_over_more}
 use Rattle.std.specs.Prelude.{All, AllPairs}
-use Rattle.std.specs.List.Sorted.{IsNonDecreasingBy, IsPartitionPoint}
+use Rattle.std.specs.List.Sorted.{IsPartitionPoint, IsPartitionedBy}
 use Rattle.std.proofs.lemmas.Bool.{cases_lt}
-use Rattle.std.proofs.lemmas.Bool.Decides.{leb_tells, eqb_tells, Decides-ltb}
+use Rattle.std.proofs.lemmas.Bool.Decides.{leb_tells, eqb_tells}
 use Rattle.std.proofs.lemmas.List.Elements.{All-cons, All-filter, All-map}
 use Rattle.std.proofs.lemmas.List.Kept.{AllPairs-cons, AllPairs-filter}
 use Rattle.std.proofs.lemmas.List.Sums.{sum_by-cons, sum_by-append, get_or-le-sum_by}
@@ -14,8 +14,9 @@ use Rattle.money_units.specs.Rounding.{half}
 use Rattle.money_units.proofs.RoundingFacts.{half-mul, half-rises}
 use Rattle.share_lots.specs.declared.lot.Lot.{Lot}
 use Rattle.share_lots.specs.declared.lot.Piece.{Piece}
-use Rattle.share_lots.specs.Lots.{Holding, IsHolding, IsLot, mils, rank, date_key, most_mils, most_cost, HasLoose, hold_in, release_lot, join_free, placed, with_lot, lot_joined}
+use Rattle.share_lots.specs.Lots.{Holding, IsHolding, IsLot, mils, AreRanked, ranks_before, most_mils, most_cost, HasLoose, hold_in, release_lot, join_free, placed, with_lot, lot_joined}
 use Rattle.share_lots.specs.Taking.{lot_less, pieces_of, pieces, lots_less, has_mils}
+use Rattle.share_lots.proofs.OrderLemmas.{ranks-owned, ranks-next, ranks-either}
 
 pub All-tail : {X : Type 0} (P : X → Type 0) (x : X) (xs : List X) → All P (x ∷ xs) → All P xs
 All-tail P x xs h k d short = h (suc k) d (omega arith)
@@ -44,10 +45,11 @@ sum_by-filter-le f p (x ∷ xs) =
       | false ↦ omega (arith, sum_by-filter-le f p xs)
     ])
 
--- a lot in the place of another: its number and rank stay, and it has no more mils and cost
+-- a lot in the place of another: its number, date and free mark stay, and it has no more mils and cost
 pub record Stays (x y : Lot) : Type 0 where
   pub number : y.number ≡ x.number
-  pub rank_is : rank y ≡ rank x
+  pub day_is : y.day ≡ x.day
+  pub free_is : y.free ≡ x.free
   pub mils_le : mils y ≤ mils x
   pub cost_le : y.cost ≤ x.cost
 
@@ -77,6 +79,9 @@ sum-follows f step (x ∷ xs) [] g = absurd g
 sum-follows f step (x ∷ xs) (y ∷ ys) g =
     rw (sum_by-cons f x xs, sum_by-cons f y ys) (omega (arith, step x y g.0, sum-follows f step xs ys g.1))
 
+ranks-stays : (a b x y : Lot) → Stays a x → Stays b y → ranks_before a b ≡ true → ranks_before x y ≡ true
+ranks-stays a b x y s t first = rw (s.number, s.day_is, s.free_is, t.number, t.day_is, t.free_is) first
+
 -- a position whose lots are replaced so, with some of them removed
 pub IsHolding-follows : (h : Holding) (ys : List Lot) (p : Lot → Bool) → IsHolding h → Follows h.lots ys → All (λ lot. 1 ≤ mils lot) (filter p ys) → IsHolding (record { lots = filter p ys; next_lot = h.next_lot })
 IsHolding-follows h ys p is f kept = record {
@@ -84,7 +89,7 @@ IsHolding-follows h ys p is f kept = record {
   numbered = All-filter p (λ lot. 1 ≤ lot.number) ys (All-follows (λ lot. 1 ≤ lot.number) (λ lot. 1 ≤ lot.number) (λ x y s low. rw s.number low) h.lots ys f is.numbered);
   below_next = All-filter p (λ lot. lot.number < h.next_lot) ys (All-follows (λ lot. lot.number < h.next_lot) (λ lot. lot.number < h.next_lot) (λ x y s low. rw s.number low) h.lots ys f is.below_next);
   distinct = AllPairs-filter (λ a b. a.number ≢ b.number) p ys (AllPairs-follows (λ a b. a.number ≢ b.number) (λ a b x y s t apart same. apart (sym s.number ∙ same ∙ t.number)) h.lots ys f is.distinct);
-  ranked = AllPairs-filter (λ a b. rank a < rank b) p ys (AllPairs-follows (λ a b. rank a < rank b) (λ a b x y s t lt. rw (s.rank_is, t.rank_is) lt) h.lots ys f is.ranked);
+  ranked = AllPairs-filter (λ a b. ranks_before a b ≡ true) p ys (AllPairs-follows (λ a b. ranks_before a b ≡ true) ranks-stays h.lots ys f is.ranked);
   with_mils = kept;
   few_mils = omega (arith, sum_by-filter-le mils p ys, sum-follows mils (λ x y s. s.mils_le) h.lots ys f, is.few_mils);
   low_cost = omega (arith, sum_by-filter-le (λ (lot : Lot). lot.cost) p ys, sum-follows (λ (lot : Lot). lot.cost) (λ x y s. s.cost_le) h.lots ys f, is.low_cost);
@@ -117,7 +122,7 @@ All-has_mils (x ∷ xs) = elim (leb_tells 1 (mils x)) [
 
 -- a taking
 Stays-lot_less : (lot : Lot) (quantity : ℕ) → Stays lot (lot_less lot quantity)
-Stays-lot_less lot quantity = record { number = refl; rank_is = refl; mils_le = omega arith; cost_le = omega arith }
+Stays-lot_less lot quantity = record { number = refl; day_is = refl; free_is = refl; mils_le = omega arith; cost_le = omega arith }
 
 pub Follows-lots_less : (asked : ℕ) (lots : List Lot) → Follows lots (lots_less asked lots)
 unfolding lots_less
@@ -187,8 +192,8 @@ mapped-all f xs ys i h done = rw (take_all i xs h, drop_all i xs h, append-nil) 
 -- the lots with mils held back, or all of them loose
 Stays-hold_in : (number quantity : ℕ) (lot : Lot) → (lot.number ≡ number → quantity ≤ lot.loose) → Stays lot (hold_in number quantity lot)
 Stays-hold_in number quantity lot has = elim (eqb_tells lot.number number) [
-  | inl (t, e) ↦ rw t (record { number = refl; rank_is = refl; mils_le = omega (arith, has e); cost_le = omega arith })
-  | inr (t, _) ↦ rw t (record { number = refl; rank_is = refl; mils_le = omega arith; cost_le = omega arith })
+  | inl (t, e) ↦ rw t (record { number = refl; day_is = refl; free_is = refl; mils_le = omega (arith, has e); cost_le = omega arith })
+  | inr (t, _) ↦ rw t (record { number = refl; day_is = refl; free_is = refl; mils_le = omega arith; cost_le = omega arith })
 ]
 
 pub Follows-hold_in : (number quantity : ℕ) (lots : List Lot) → All (λ lot. lot.number ≡ number → quantity ≤ lot.loose) lots → Follows lots (map (hold_in number quantity) lots)
@@ -211,7 +216,7 @@ some-hold_in number quantity (x ∷ xs) has some =
 
 pub Follows-release : (lots : List Lot) → Follows lots (map release_lot lots)
 Follows-release [] = tt
-Follows-release (x ∷ xs) = (record { number = refl; rank_is = refl; mils_le = omega arith; cost_le = omega arith }, Follows-release xs)
+Follows-release (x ∷ xs) = (record { number = refl; day_is = refl; free_is = refl; mils_le = omega arith; cost_le = omega arith }, Follows-release xs)
 
 pub some-release : (lots : List Lot) → All (λ lot. 1 ≤ mils lot) lots → All (λ lot. 1 ≤ mils lot) (map release_lot lots)
 some-release [] some = λ k d short. absurd (omega arith)
@@ -235,52 +240,37 @@ pub written-back : {X : Type 0} (n : ℕ) (xs ys zs : List X) → n ≡ length x
 written-back n xs ys zs e same is =
     rw (e, drop_all (length zs) xs (omega arith), append-nil) (take_all (length xs) zs (omega arith) ∙ is)
 
--- pairs that rise don't fall
-pub non_decreasing : {X : Type 0} (n : X → ℕ) (xs : List X) → AllPairs (λ a b. n a < n b) xs → IsNonDecreasingBy n xs
-non_decreasing n xs rise i j d le short = elim (cases_lt i j) [
-  | inl lt ↦ let above = rise i j d lt short in omega arith
-  | inr ge ↦ let same : i ≡ j = omega arith in rw same (omega arith)
+-- lots by rank have those before a lot first
+pub parted_by_rank : (lot : Lot) (lots : List Lot) → AreRanked lots → IsPartitionedBy (λ other. ranks_before other lot) lots
+parted_by_rank lot lots ranked i j d le short first = elim (cases_lt i j) [
+  | inl lt ↦ ranks-next (get_or lots i d) (get_or lots j d) lot (ranked i j d lt short) first
+  | inr ge ↦ let same : i ≡ j = omega arith in rw same first
 ]
 
-ge_fact : (m n : ℕ) → ltb m n ≡ false → n ≤ m
-ge_fact m n e = elim (leb_tells (suc m) n) [ inl (t, lt) ↦ absurd (let clash : true ≡ false = sym t ∙ e in cc) | inr (t, ge) ↦ omega arith ]
-
-pub rank_point : (lots : List Lot) (least i : ℕ) → IsPartitionPoint (λ lot. ltb (rank lot) least ≡ true) (λ lot. ltb (rank lot) least ≡ false) lots i → IsPartitionPoint (λ lot. rank lot < least) (λ lot. least ≤ rank lot) lots i
-rank_point lots least i point = (λ k d low lt. (Decides-ltb _ _).0 (point.0 k d low lt), λ k d low lt. ge_fact _ _ (point.1 k d low lt))
-
-pub lt_true : (m n : ℕ) → m < n → nat_lt m n ≡ true
-lt_true m n h = elim (leb_tells (suc m) n) [ inl (t, _) ↦ t | inr (_, gt) ↦ absurd (omega arith) ]
-
-pub lt_false : (m n : ℕ) → n ≤ m → nat_lt m n ≡ false
-lt_false m n h = elim (leb_tells (suc m) n) [ inl (_, lt) ↦ absurd (omega arith) | inr (t, _) ↦ t ]
-
--- where all ranks are as high, none comes before
-none_before : (least : ℕ) (lots : List Lot) → All (λ lot. least ≤ rank lot) lots → (filter (λ other. nat_lt (rank other) least) lots ≡ []) × (filter (λ other. not (nat_lt (rank other) least)) lots ≡ lots)
-none_before least [] all = (refl, refl)
-none_before least (x ∷ xs) all =
-    let high = lt_false (rank x) least (All-head (λ lot. least ≤ rank lot) x xs all) in
-    let rest = none_before least xs (All-tail (λ lot. least ≤ rank lot) x xs all) in
-    (rw high rest.0, rw high (ap (λ ys. x ∷ ys) rest.1))
+-- where no lot comes before this one, it stands first
+none_before : (lot : Lot) (lots : List Lot) → All (λ other. ranks_before other lot ≡ false) lots → (filter (λ other. ranks_before other lot) lots ≡ []) × (filter (λ other. not (ranks_before other lot)) lots ≡ lots)
+none_before lot [] all = (refl, refl)
+none_before lot (x ∷ xs) all =
+    let behind = All-head (λ other. ranks_before other lot ≡ false) x xs all in
+    let rest = none_before lot xs (All-tail (λ other. ranks_before other lot ≡ false) x xs all) in
+    (rw behind rest.0, rw behind (ap (λ ys. x ∷ ys) rest.1))
 
 -- an insert at the place by rank
-pub inserted : (lots : List Lot) (lot : Lot) (i : ℕ) → IsPartitionPoint (λ other. rank other < rank lot) (λ other. rank lot ≤ rank other) lots i → take i lots ++ lot ∷ drop i lots ≡ placed lot lots
+pub inserted : (lots : List Lot) (lot : Lot) (i : ℕ) → IsPartitionPoint (λ other. ranks_before other lot ≡ true) (λ other. ranks_before other lot ≡ false) lots i → take i lots ++ lot ∷ drop i lots ≡ placed lot lots
 inserted [] lot i point = rw (take_all {A = Lot} i [] (omega arith), drop_all {X = Lot} i [] (omega arith)) refl
 inserted (x ∷ xs) lot zero point =
-    let none = none_before (rank lot) (x ∷ xs) (λ k d short. point.1 k d (omega arith) short) in
+    let none = none_before lot (x ∷ xs) (λ k d short. point.1 k d (omega arith) short) in
     rw (none.0, none.1) refl
 inserted (x ∷ xs) lot (suc i) point =
-    let low = lt_true (rank x) (rank lot) (point.0 0 x (omega arith) (omega arith)) in
-    rw low (ap (λ ys. x ∷ ys) (inserted xs lot i (λ k d lo lt. point.0 (suc k) d (omega arith) (omega arith), λ k d lo lt. point.1 (suc k) d (omega arith) (omega arith))))
-
-pub point_at : (xs ys : List Lot) (a b i : ℕ) → xs ≡ ys → a ≡ b → IsPartitionPoint (λ lot. rank lot < a) (λ lot. a ≤ rank lot) xs i → IsPartitionPoint (λ lot. rank lot < b) (λ lot. b ≤ rank lot) ys i
-point_at xs ys a b i ex ea point = rw (← ex, ← ea) point
+    let first = point.0 0 x (omega arith) (omega arith) in
+    rw first (ap (λ ys. x ∷ ys) (inserted xs lot i (λ k d lo lt. point.0 (suc k) d (omega arith) (omega arith), λ k d lo lt. point.1 (suc k) d (omega arith) (omega arith))))
 
 -- a lot placed before or behind the first
-placed-low : (x lot : Lot) (xs : List Lot) → rank x < rank lot → placed lot (x ∷ xs) ≡ x ∷ placed lot xs
-placed-low x lot xs low = rw (lt_true (rank x) (rank lot) low) refl
+placed-behind : (x lot : Lot) (xs : List Lot) → ranks_before x lot ≡ true → placed lot (x ∷ xs) ≡ x ∷ placed lot xs
+placed-behind x lot xs first = rw first refl
 
-placed-high : (lot : Lot) (xs : List Lot) → All (λ other. rank lot ≤ rank other) xs → placed lot xs ≡ lot ∷ xs
-placed-high lot xs high = let none = none_before (rank lot) xs high in rw (none.0, none.1) refl
+placed-first : (lot : Lot) (xs : List Lot) → All (λ other. ranks_before other lot ≡ false) xs → placed lot xs ≡ lot ∷ xs
+placed-first lot xs behind = let none = none_before lot xs behind in rw (none.0, none.1) refl
 
 All-append_lem : {X : Type 0} (P : X → Type 0) (xs ys : List X) → All P xs → All P ys → All P (xs ++ ys)
 All-append_lem P [] ys h k = k
@@ -288,34 +278,39 @@ All-append_lem P (x ∷ xs) ys h k = All-cons P x (xs ++ ys) (All-head P x xs h)
 
 pub All-placed : (P : Lot → Type 0) (lot : Lot) (lots : List Lot) → P lot → All P lots → All P (placed lot lots)
 All-placed P lot lots here all =
-    All-append_lem P (filter (λ other. nat_lt (rank other) (rank lot)) lots) (lot ∷ filter (λ other. not (nat_lt (rank other) (rank lot))) lots)
-    (All-filter (λ other. nat_lt (rank other) (rank lot)) P lots all)
-    (All-cons P lot (filter (λ other. not (nat_lt (rank other) (rank lot))) lots) here (All-filter (λ other. not (nat_lt (rank other) (rank lot))) P lots all))
+    All-append_lem P (filter (λ other. ranks_before other lot) lots) (lot ∷ filter (λ other. not (ranks_before other lot)) lots)
+    (All-filter (λ other. ranks_before other lot) P lots all)
+    (All-cons P lot (filter (λ other. not (ranks_before other lot)) lots) here (All-filter (λ other. not (ranks_before other lot)) P lots all))
 
 -- how a new lot stands to one that is there
 pub record Stands (R : Lot → Lot → Type 0) (lot x : Lot) : Type 0 where
-  pub apart : ¬ (rank x ≡ rank lot)
-  pub before : rank x < rank lot → R x lot
-  pub behind : rank lot < rank x → R lot x
+  pub either : ranks_before x lot ≡ false → ranks_before lot x ≡ true
+  pub before : ranks_before x lot ≡ true → R x lot
+  pub behind : ranks_before lot x ≡ true → R lot x
 
-all_above : (lot x : Lot) (xs : List Lot) → AllPairs (λ a b. rank a < rank b) (x ∷ xs) → rank lot ≤ rank x → All (λ other. rank lot ≤ rank other) (x ∷ xs)
-all_above lot x xs ranked h = All-cons (λ other. rank lot ≤ rank other) x xs h (λ k d short. let above = AllPairs-head (λ a b. rank a < rank b) x xs ranked k d short in omega arith)
-
-pub AllPairs-placed : (R : Lot → Lot → Type 0) (lot : Lot) (lots : List Lot) → AllPairs (λ a b. rank a < rank b) lots → All (Stands R lot) lots → AllPairs R lots → AllPairs R (placed lot lots)
-AllPairs-placed R lot [] ranked stands pairs = AllPairs-cons R lot [] (λ k d short. absurd (omega arith)) pairs
-AllPairs-placed R lot (x ∷ xs) ranked stands pairs = elim (cases_lt (rank x) (rank lot)) [
-  | inl low ↦ rw (placed-low x lot xs low) (AllPairs-cons R x (placed lot xs)
-      (All-placed (R x) lot xs ((All-head (Stands R lot) x xs stands).before low) (AllPairs-head R x xs pairs))
-      (AllPairs-placed R lot xs (AllPairs-tail (λ a b. rank a < rank b) x xs ranked) (All-tail (Stands R lot) x xs stands) (AllPairs-tail R x xs pairs)))
-  | inr high ↦
-      let above = all_above lot x xs ranked high in
-      rw (placed-high lot (x ∷ xs) above) (AllPairs-cons R lot (x ∷ xs)
-      (λ k d short. let s = stands k d short in s.behind (let le = above k d short in let ne = s.apart in ne_lt (rank lot) (rank (get_or (x ∷ xs) k d)) le ne))
-      pairs)
-]
+all_behind : (lot x : Lot) (xs : List Lot) → AreRanked (x ∷ xs) → ranks_before x lot ≡ false → All (λ other. ranks_before other lot ≡ false) (x ∷ xs)
+all_behind lot x xs ranked none =
+    All-cons (λ other. ranks_before other lot ≡ false) x xs none (λ k d short. by (get_or xs k d) (AllPairs-head (λ a b. ranks_before a b ≡ true) x xs ranked k d short) (ranks_before (get_or xs k d) lot) refl)
   where
-    ne_lt : (m n : ℕ) → m ≤ n → ¬ (n ≡ m) → m < n
-    ne_lt m n le ne = elim (cases_lt m n) [ inl lt ↦ lt | inr ge ↦ absurd (ne (omega arith)) ]
+    by : (y : Lot) → ranks_before x y ≡ true → (t : Bool) → ranks_before y lot ≡ t → ranks_before y lot ≡ false
+    by y behind true e = absurd (let first = ranks-next x y lot behind e in let clash : true ≡ false = sym first ∙ none in cc)
+    by y behind false e = e
+
+pub AllPairs-placed : (R : Lot → Lot → Type 0) (lot : Lot) (lots : List Lot) → AreRanked lots → All (Stands R lot) lots → AllPairs R lots → AllPairs R (placed lot lots)
+AllPairs-placed R lot [] ranked stands pairs = AllPairs-cons R lot [] (λ k d short. absurd (omega arith)) pairs
+AllPairs-placed R lot (x ∷ xs) ranked stands pairs =
+    by (AllPairs-placed R lot xs (AllPairs-tail (λ a b. ranks_before a b ≡ true) x xs ranked) (All-tail (Stands R lot) x xs stands) (AllPairs-tail R x xs pairs)) (ranks_before x lot) refl
+  where
+    by : AllPairs R (placed lot xs) → (t : Bool) → ranks_before x lot ≡ t → AllPairs R (placed lot (x ∷ xs))
+    by later true first =
+        rw (placed-behind x lot xs first) (AllPairs-cons R x (placed lot xs)
+        (All-placed (R x) lot xs ((All-head (Stands R lot) x xs stands).before first) (AllPairs-head R x xs pairs))
+        later)
+    by later false none =
+        let behind = all_behind lot x xs ranked none in
+        rw (placed-first lot (x ∷ xs) behind) (AllPairs-cons R lot (x ∷ xs)
+        (λ k d short. let s = stands k d short in s.behind (s.either (behind k d short)))
+        pairs)
 
 sum_by-split : {X : Type 0} (f : X → ℕ) (p : X → Bool) (xs : List X) → sum_by f (filter p xs) + sum_by f (filter (λ x. not (p x)) xs) ≡ sum_by f xs
 sum_by-split f p [] = refl
@@ -327,27 +322,17 @@ sum_by-split f p (x ∷ xs) =
 
 pub sum-placed : (f : Lot → ℕ) (lot : Lot) (lots : List Lot) → sum_by f (placed lot lots) ≡ f lot + sum_by f lots
 sum-placed f lot lots =
-    rw (sum_by-append f (filter (λ other. nat_lt (rank other) (rank lot)) lots) (lot ∷ filter (λ other. not (nat_lt (rank other) (rank lot))) lots), sum_by-cons f lot (filter (λ other. not (nat_lt (rank other) (rank lot))) lots))
-    (omega (arith, sum_by-split f (λ other. nat_lt (rank other) (rank lot)) lots))
-
--- the ranks of two lots of different numbers differ, but for two free ones
-pub rank_apart : (lot x : Lot) → ¬ (x.number ≡ lot.number) → x.number < 2 ^ 32 → lot.number < 2 ^ 32 → (lot.free ≡ true → x.free ≡ false) → ¬ (rank x ≡ rank lot)
-rank_apart lot x ne few least one = go x.free lot.free refl refl
-  where
-    go : (b c : Bool) → x.free ≡ b → lot.free ≡ c → ¬ (rank x ≡ rank lot)
-    go true true e f same = cc (one f)
-    go true false e f same = let apart : 0 ≡ date_key lot + 1 = rw (e, f) at same in omega arith
-    go false true e f same = let apart : date_key x + 1 ≡ 0 = rw (e, f) at same in omega arith
-    go false false e f same = let equal : date_key x + 1 ≡ date_key lot + 1 = rw (e, f) at same in ne (omega arith)
+    rw (sum_by-append f (filter (λ other. ranks_before other lot) lots) (lot ∷ filter (λ other. not (ranks_before other lot)) lots), sum_by-cons f lot (filter (λ other. not (ranks_before other lot)) lots))
+    (omega (arith, sum_by-split f (λ other. ranks_before other lot) lots))
 
 -- the position with a new lot
-pub IsHolding-with_lot : (h : Holding) (lot : Lot) → IsHolding h → lot.number ≡ h.next_lot → h.next_lot < 2 ^ 32 → 1 ≤ mils lot → sum_by mils h.lots + mils lot ≤ most_mils → sum_by (λ l. l.cost) h.lots + lot.cost ≤ most_cost → (lot.free ≡ true → All (λ l. l.free ≡ false) h.lots) → IsHolding (with_lot h lot)
-IsHolding-with_lot h lot is number few some mils_fit cost_fits one = record {
+pub IsHolding-with_lot : (h : Holding) (lot : Lot) → IsHolding h → lot.number ≡ h.next_lot → 1 ≤ mils lot → sum_by mils h.lots + mils lot ≤ most_mils → sum_by (λ l. l.cost) h.lots + lot.cost ≤ most_cost → (lot.free ≡ true → All (λ l. l.free ≡ false) h.lots) → IsHolding (with_lot h lot)
+IsHolding-with_lot h lot is number some mils_fit cost_fits one = record {
   next_number = omega arith;
   numbered = All-placed (λ l. 1 ≤ l.number) lot h.lots (omega (arith, is.next_number)) is.numbered;
   below_next = All-placed (λ l. l.number < h.next_lot + 1) lot h.lots (omega arith) (λ k d short. let below = is.below_next k d short in omega arith);
-  distinct = AllPairs-placed (λ a b. a.number ≢ b.number) lot h.lots is.ranked (λ k d short. record { apart = apart k d short; before = λ lt e. new k d short e; behind = λ lt e. new k d short (sym e) }) is.distinct;
-  ranked = AllPairs-placed (λ a b. rank a < rank b) lot h.lots is.ranked (λ k d short. record { apart = apart k d short; before = λ lt. lt; behind = λ lt. lt }) is.ranked;
+  distinct = AllPairs-placed (λ a b. a.number ≢ b.number) lot h.lots is.ranked (λ k d short. record { either = either k d short; before = λ lt e. new k d short e; behind = λ lt e. new k d short (sym e) }) is.distinct;
+  ranked = AllPairs-placed (λ a b. ranks_before a b ≡ true) lot h.lots is.ranked (λ k d short. record { either = either k d short; before = λ lt. lt; behind = λ lt. lt }) is.ranked;
   with_mils = All-placed (λ l. 1 ≤ mils l) lot h.lots some is.with_mils;
   few_mils = rw (sum-placed mils lot h.lots) (omega arith);
   low_cost = rw (sum-placed (λ (l : Lot). l.cost) lot h.lots) (omega arith);
@@ -356,8 +341,8 @@ IsHolding-with_lot h lot is number few some mils_fit cost_fits one = record {
     new : (k : ℕ) (d : Lot) → k < length h.lots → ¬ ((get_or h.lots k d).number ≡ lot.number)
     new k d short e = let below = is.below_next k d short in omega arith
 
-    apart : (k : ℕ) (d : Lot) → k < length h.lots → ¬ (rank (get_or h.lots k d) ≡ rank lot)
-    apart k d short = rank_apart lot (get_or h.lots k d) (new k d short) (let below = is.below_next k d short in omega arith) (omega arith) (λ free. one free k d short)
+    either : (k : ℕ) (d : Lot) → k < length h.lots → ranks_before (get_or h.lots k d) lot ≡ false → ranks_before lot (get_or h.lots k d) ≡ true
+    either k d short = ranks-either (get_or h.lots k d) lot (new k d short) (λ free. one free k d short)
 
 -- no free lot is found where none is free
 owned_with : (x : Lot) (xs : List Lot) (b : Bool) → x.free ≡ b → (find (λ l. l.free) xs ≡ None → All (λ l. l.free ≡ false) xs) → cond b (Some x) (find (λ l. l.free) xs) ≡ None → All (λ l. l.free ≡ false) (x ∷ xs)
@@ -381,8 +366,14 @@ lone_free lots false e f = cc
 number-join : (q c : ℕ) (lot : Lot) → (join_free q c lot).number ≡ lot.number
 number-join q c lot = elim lot.free as (λ b. (cond b (record lot { loose = lot.loose + q; cost = lot.cost + c }) lot).number ≡ lot.number) [ true ↦ refl | false ↦ refl ]
 
-rank-join : (q c : ℕ) (lot : Lot) → rank (join_free q c lot) ≡ rank lot
-rank-join q c lot = elim lot.free as (λ b. rank (cond b (record lot { loose = lot.loose + q; cost = lot.cost + c }) lot) ≡ rank lot) [ true ↦ refl | false ↦ refl ]
+day-join : (q c : ℕ) (lot : Lot) → (join_free q c lot).day ≡ lot.day
+day-join q c lot = elim lot.free as (λ b. (cond b (record lot { loose = lot.loose + q; cost = lot.cost + c }) lot).day ≡ lot.day) [ true ↦ refl | false ↦ refl ]
+
+free-join : (q c : ℕ) (lot : Lot) → (join_free q c lot).free ≡ lot.free
+free-join q c lot = elim lot.free as (λ b. (cond b (record lot { loose = lot.loose + q; cost = lot.cost + c }) lot).free ≡ lot.free) [ true ↦ refl | false ↦ refl ]
+
+ranks-join : (q c : ℕ) (a b : Lot) → ranks_before a b ≡ true → ranks_before (join_free q c a) (join_free q c b) ≡ true
+ranks-join q c a b first = rw (number-join q c a, day-join q c a, free-join q c a, number-join q c b, day-join q c b, free-join q c b) first
 
 mils-join : (q c : ℕ) (lot : Lot) → mils lot ≤ mils (join_free q c lot)
 mils-join q c lot = elim lot.free as (λ b. mils lot ≤ mils (cond b (record lot { loose = lot.loose + q; cost = lot.cost + c }) lot)) [ true ↦ omega arith | false ↦ omega arith ]
@@ -392,13 +383,9 @@ AllPairs-map R f step [] pairs = λ i j d lt short. absurd (omega arith)
 AllPairs-map R f step (x ∷ xs) pairs =
     AllPairs-cons R (f x) (map f xs) (All-map (R (f x)) f xs (λ k d short. step x (get_or xs k d) (AllPairs-head R x xs pairs k d short))) (AllPairs-map R f step xs (AllPairs-tail R x xs pairs))
 
--- the lots behind a free one are not free
-pub owned_behind : (x : Lot) (xs : List Lot) → x.free ≡ true → AllPairs (λ a b. rank a < rank b) (x ∷ xs) → All (λ l. l.free ≡ false) xs
-owned_behind x xs free ranked k d short = go (get_or xs k d).free refl
-  where
-    go : (b : Bool) → (get_or xs k d).free ≡ b → (get_or xs k d).free ≡ false
-    go true f = absurd (let above = AllPairs-head (λ a b. rank a < rank b) x xs ranked k d short in let clash : 0 < 0 = rw (free, f) at above in omega arith)
-    go false f = f
+-- only the first lot is free, where any is
+pub owned_behind : (x : Lot) (xs : List Lot) → AreRanked (x ∷ xs) → All (λ l. l.free ≡ false) xs
+owned_behind x xs ranked k d short = ranks-owned x (get_or xs k d) (AllPairs-head (λ a b. ranks_before a b ≡ true) x xs ranked k d short)
 
 join-owned : (q c : ℕ) (lot : Lot) → lot.free ≡ false → join_free q c lot ≡ lot
 join-owned q c lot e = ap (λ b. cond b (record lot { loose = lot.loose + q; cost = lot.cost + c }) lot) e
@@ -414,19 +401,19 @@ map-join_none q c (x ∷ xs) owned =
     ap (λ y. y ∷ map (join_free q c) xs) here ∙ ap (λ ys. x ∷ ys) rest
 
 -- what joins is added once
-sum-join_at : (f : Lot → ℕ) (more : ℕ) (q c : ℕ) → ((lot : Lot) → f (record lot { loose = lot.loose + q; cost = lot.cost + c }) ≡ f lot + more) → (x : Lot) (xs : List Lot) (b : Bool) → x.free ≡ b → AllPairs (λ a b. rank a < rank b) (x ∷ xs) → sum_by f (map (join_free q c) xs) ≤ sum_by f xs + more → f (join_free q c x) + sum_by f (map (join_free q c) xs) ≤ f x + sum_by f xs + more
+sum-join_at : (f : Lot → ℕ) (more : ℕ) (q c : ℕ) → ((lot : Lot) → f (record lot { loose = lot.loose + q; cost = lot.cost + c }) ≡ f lot + more) → (x : Lot) (xs : List Lot) (b : Bool) → x.free ≡ b → AreRanked (x ∷ xs) → sum_by f (map (join_free q c) xs) ≤ sum_by f xs + more → f (join_free q c x) + sum_by f (map (join_free q c) xs) ≤ f x + sum_by f xs + more
 sum-join_at f more q c step x xs true free ranked later =
     let here : f (join_free q c x) ≡ f x + more = ap f (join-free q c x free) ∙ step x in
-    let rest : sum_by f (map (join_free q c) xs) ≡ sum_by f xs = ap (sum_by f) (map-join_none q c xs (owned_behind x xs free ranked)) in
+    let rest : sum_by f (map (join_free q c) xs) ≡ sum_by f xs = ap (sum_by f) (map-join_none q c xs (owned_behind x xs ranked)) in
     omega arith
 sum-join_at f more q c step x xs false free ranked later =
     let here : f (join_free q c x) ≡ f x = ap f (join-owned q c x free) in
     omega arith
 
-sum-join : (f : Lot → ℕ) (more : ℕ) (q c : ℕ) → ((lot : Lot) → f (record lot { loose = lot.loose + q; cost = lot.cost + c }) ≡ f lot + more) → (lots : List Lot) → AllPairs (λ a b. rank a < rank b) lots → sum_by f (map (join_free q c) lots) ≤ sum_by f lots + more
+sum-join : (f : Lot → ℕ) (more : ℕ) (q c : ℕ) → ((lot : Lot) → f (record lot { loose = lot.loose + q; cost = lot.cost + c }) ≡ f lot + more) → (lots : List Lot) → AreRanked lots → sum_by f (map (join_free q c) lots) ≤ sum_by f lots + more
 sum-join f more q c step [] ranked = omega arith
 sum-join f more q c step (x ∷ xs) ranked =
-    let later = sum-join f more q c step xs (AllPairs-tail (λ a b. rank a < rank b) x xs ranked) in
+    let later = sum-join f more q c step xs (AllPairs-tail (λ a b. ranks_before a b ≡ true) x xs ranked) in
     let here = sum-join_at f more q c step x xs x.free refl ranked later in
     rw (sum_by-cons f (join_free q c x) (map (join_free q c) xs), sum_by-cons f x xs) here
 
@@ -436,7 +423,7 @@ IsHolding-joined h q c is mils_fit cost_fits = record {
   numbered = All-map (λ l. 1 ≤ l.number) (join_free q c) h.lots (λ k d short. rw (number-join q c (get_or h.lots k d)) (is.numbered k d short));
   below_next = All-map (λ l. l.number < h.next_lot) (join_free q c) h.lots (λ k d short. rw (number-join q c (get_or h.lots k d)) (is.below_next k d short));
   distinct = AllPairs-map (λ a b. a.number ≢ b.number) (join_free q c) (λ a b apart same. apart (sym (number-join q c a) ∙ same ∙ number-join q c b)) h.lots is.distinct;
-  ranked = AllPairs-map (λ a b. rank a < rank b) (join_free q c) (λ a b lt. rw (rank-join q c a, rank-join q c b) lt) h.lots is.ranked;
+  ranked = AllPairs-map (λ a b. ranks_before a b ≡ true) (join_free q c) (ranks-join q c) h.lots is.ranked;
   with_mils = All-map (λ l. 1 ≤ mils l) (join_free q c) h.lots (λ k d short. omega (arith, is.with_mils k d short, mils-join q c (get_or h.lots k d)));
   few_mils = omega (arith, sum-join mils q q c (λ lot. omega arith) h.lots is.ranked);
   low_cost = omega (arith, sum-join (λ (l : Lot). l.cost) c q c (λ lot. refl) h.lots is.ranked);

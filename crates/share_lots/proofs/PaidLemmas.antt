@@ -1,110 +1,117 @@
 -- The held mils that lots pay by date and number sum to what is asked.
-use Rattle.std.proofs.Common.{◌≡◌, ◌≢◌, ℕ, zero, suc, ◌+◌, ◌-◌, ◌^◌, ◌<◌, ◌≤◌, Bool, true, false, cond, nat_lt, min, List, [], ◌∷◌, get_or, filter, map, sum_by, refl, ap, ◌∙◌, inl, inr, arith}
-use Rattle.std.specs.Prelude.{All, AllPairs}
-use Rattle.std.proofs.lemmas.Bool.{cases_lt}
+use Rattle.std.proofs.Common.{◌≡◌, ◌≢◌, ℕ, suc, ◌+◌, ◌-◌, ◌≤◌, Bool, true, false, cond, min, List, [], ◌∷◌, get_or, filter, map, sum_by, refl, sym, ap, ◌∙◌, inl, inr, arith}
+use Rattle.std.specs.Prelude.{All, AllPairs, ◌⊎◌}
 use Rattle.std.proofs.lemmas.List.Elements.{All-cons}
 use Rattle.std.proofs.lemmas.List.Sums.{sum_by-cons}
 use Rattle.money_units.proofs.RoundingFacts.{half-mul}
 use Rattle.share_lots.specs.declared.lot.Lot.{Lot}
-use Rattle.share_lots.specs.Lots.{rank, date_key, mils}
+use Rattle.share_lots.specs.Lots.{AreRanked, before_by_date, ranks_before, mils}
 use Rattle.share_lots.specs.Taking.{held_if_before, held_before, paid_of, piece_cost, cost_paid, lot_paying, has_mils}
-use Rattle.share_lots.proofs.LotLemmas.{AllPairs-head, AllPairs-tail, All-head, All-tail, half-le, lt_true, lt_false, owned_behind}
+use Rattle.share_lots.proofs.LotLemmas.{AllPairs-head, AllPairs-tail, All-head, All-tail, half-le, owned_behind}
+use Rattle.share_lots.proofs.OrderLemmas.{before-next, before-itself, before-back, before-either, ranks-dated}
 use Rattle.share_lots.proofs.KeptLemmas.{sum-has_mils}
 
 abbrev held : Lot → ℕ
 held lot = lot.held
 
-abbrev paid : ℕ → (ℕ → ℕ) → Lot → ℕ
-paid asked before lot = min lot.held (asked - before (date_key lot))
+abbrev paid : ℕ → (Lot → ℕ) → Lot → ℕ
+paid asked before lot = min lot.held (asked - before lot)
 
--- what lots at or behind a place hold before it
-none_from : (key : ℕ) (lots : List Lot) → All (λ l. key ≤ date_key l) lots → sum_by (held_if_before key) lots ≡ 0
-none_from key [] from = refl
-none_from key (x ∷ xs) from =
-    let here : held_if_before key x ≡ 0 = ap (λ b. cond b x.held 0) (lt_false (date_key x) key (All-head (λ l. key ≤ date_key l) x xs from)) in
-    rw (sum_by-cons (held_if_before key) x xs) (omega (arith, here, none_from key xs (All-tail (λ l. key ≤ date_key l) x xs from)))
+-- lots by date and number
+abbrev AreDated : List Lot → Type 0
+AreDated lots = AllPairs (λ a b. before_by_date a b ≡ true) lots
 
-at_or_behind : (x : Lot) (xs : List Lot) → All (λ l. date_key x < date_key l) xs → All (λ l. date_key x ≤ date_key l) (x ∷ xs)
-at_or_behind x xs behind zero d short = omega arith
-at_or_behind x xs behind (suc k) d short = let lt = behind k d (omega arith) in omega arith
+-- what other lots hold, before one and behind it
+held_if-before : (lot other : Lot) → before_by_date other lot ≡ true → held_if_before lot other ≡ other.held
+held_if-before lot other first = ap (λ b. cond b other.held 0) first
+
+held_if-behind : (lot other : Lot) → before_by_date other lot ≡ false → held_if_before lot other ≡ 0
+held_if-behind lot other behind = ap (λ b. cond b other.held 0) behind
+
+none_before : (lot : Lot) (lots : List Lot) → All (λ l. before_by_date l lot ≡ false) lots → sum_by (held_if_before lot) lots ≡ 0
+none_before lot [] behind = refl
+none_before lot (x ∷ xs) behind =
+    rw (sum_by-cons (held_if_before lot) x xs) (omega (arith, held_if-behind lot x (All-head (λ l. before_by_date l lot ≡ false) x xs behind), none_before lot xs (All-tail (λ l. before_by_date l lot ≡ false) x xs behind)))
+
+-- the first lot comes before none of the others
+first_behind : (x : Lot) (xs : List Lot) → AreDated (x ∷ xs) → All (λ l. before_by_date l x ≡ false) (x ∷ xs)
+first_behind x xs dated =
+    All-cons (λ l. before_by_date l x ≡ false) x xs (before-itself x x refl) (λ k d short. before-back x (get_or xs k d) (AllPairs-head (λ a b. before_by_date a b ≡ true) x xs dated k d short))
 
 -- lots by date alone
-in_order : (asked : ℕ) (before : ℕ → ℕ) (low passed : ℕ) (lots : List Lot) → AllPairs (λ a b. date_key a < date_key b) lots → All (λ l. low ≤ date_key l) lots → ((k : ℕ) → low ≤ k → before k ≡ passed + sum_by (held_if_before k) lots) → sum_by (paid asked before) lots + min asked passed ≡ min asked (passed + sum_by held lots)
-in_order asked before low passed [] sorted from so = omega arith
-in_order asked before low passed (x ∷ xs) sorted from so =
-    let behind = AllPairs-head (λ a b. date_key a < date_key b) x xs sorted in
-    let here : before (date_key x) ≡ passed = so (date_key x) (All-head (λ l. low ≤ date_key l) x xs from) ∙ (let none = none_from (date_key x) (x ∷ xs) (at_or_behind x xs behind) in omega arith) in
-    let rest = in_order asked before (date_key x + 1) (passed + x.held) xs (AllPairs-tail (λ a b. date_key a < date_key b) x xs sorted) (λ k d short. (let lt = behind k d short in omega arith))
-    (λ k le. so k (let ge = All-head (λ l. low ≤ date_key l) x xs from in omega arith) ∙ (let all : held_if_before k x ≡ x.held = ap (λ b. cond b x.held 0) (lt_true (date_key x) k (omega arith)) in rw (sum_by-cons (held_if_before k) x xs) (omega arith))) in
+in_order : (asked : ℕ) (before : Lot → ℕ) (passed : ℕ) (lots : List Lot) → AreDated lots → All (λ l. before l ≡ passed + sum_by (held_if_before l) lots) lots → sum_by (paid asked before) lots + min asked passed ≡ min asked (passed + sum_by held lots)
+in_order asked before passed [] dated so = omega arith
+in_order asked before passed (x ∷ xs) dated so =
+    let here : before x ≡ passed = (let first = All-head (λ l. before l ≡ passed + sum_by (held_if_before l) (x ∷ xs)) x xs so in omega (arith, none_before x (x ∷ xs) (first_behind x xs dated))) in
+    let rest = in_order asked before (passed + x.held) xs (AllPairs-tail (λ a b. before_by_date a b ≡ true) x xs dated) (λ k d short. later (get_or xs k d) (AllPairs-head (λ a b. before_by_date a b ≡ true) x xs dated k d short) (so (suc k) d (omega arith))) in
     rw (sum_by-cons (paid asked before) x xs, sum_by-cons held x xs, here) (omega (arith, rest))
+  where
+    later : (l : Lot) → before_by_date x l ≡ true → before l ≡ passed + sum_by (held_if_before l) (x ∷ xs) → before l ≡ passed + x.held + sum_by (held_if_before l) xs
+    later l first all = omega (arith, all, sum_by-cons (held_if_before l) x xs, held_if-before l x first)
+
+before_tells : (a b : Lot) → (before_by_date a b ≡ true) ⊎ (before_by_date a b ≡ false)
+before_tells a b = either_way (before_by_date a b)
+  where
+    either_way : (t : Bool) → (t ≡ true) ⊎ (t ≡ false)
+    either_way true = inl refl
+    either_way false = inr refl
 
 -- and around the free lot
-around : (free_key free_held asked : ℕ) (before : ℕ → ℕ) (low passed : ℕ) (lots : List Lot) → AllPairs (λ a b. date_key a < date_key b) lots → All (λ l. date_key l ≢ free_key) lots → All (λ l. low ≤ date_key l) lots → ((k : ℕ) → low ≤ k → before k ≡ passed + cond (nat_lt free_key k) free_held 0 + sum_by (held_if_before k) lots) → sum_by (paid asked before) lots + min free_held (asked - (passed + sum_by (held_if_before free_key) lots)) + min asked passed ≡ min asked (passed + free_held + sum_by held lots)
-around free_key free_held asked before low passed [] sorted other from so = omega arith
-around free_key free_held asked before low passed (x ∷ xs) sorted other from so = elim (cases_lt (date_key x) free_key) [
-  | inl lt ↦
-      let here : before (date_key x) ≡ passed = so (date_key x) ge ∙ (let none = none_from (date_key x) (x ∷ xs) (at_or_behind x xs behind) in let off : cond (nat_lt free_key (date_key x)) free_held 0 ≡ 0 = ap (λ b. cond b free_held 0) (lt_false free_key (date_key x) (omega arith)) in omega arith) in
-      let first : held_if_before free_key x ≡ x.held = ap (λ b. cond b x.held 0) (lt_true (date_key x) free_key lt) in
-      let rest = around free_key free_held asked before (date_key x + 1) (passed + x.held) xs (AllPairs-tail (λ a b. date_key a < date_key b) x xs sorted) (All-tail (λ l. date_key l ≢ free_key) x xs other) (λ k d short. (let lt = behind k d short in omega arith))
-      (λ k le. so k (omega (arith, ge)) ∙ (let all : held_if_before k x ≡ x.held = ap (λ b. cond b x.held 0) (lt_true (date_key x) k (omega arith)) in rw (sum_by-cons (held_if_before k) x xs) (omega arith))) in
-      rw (sum_by-cons (paid asked before) x xs, sum_by-cons held x xs, sum_by-cons (held_if_before free_key) x xs, here) (omega (arith, rest))
-  | inr le ↦
-      let apart = All-head (λ l. date_key l ≢ free_key) x xs other in
-      let above : free_key < date_key x = omega arith in
-      let rest = in_order asked before (date_key x) (passed + free_held) (x ∷ xs) sorted (at_or_behind x xs behind)
-      (λ k le. so k (omega (arith, ge)) ∙ (let on : cond (nat_lt free_key k) free_held 0 ≡ free_held = ap (λ b. cond b free_held 0) (lt_true free_key k (omega arith)) in omega arith)) in
-      let none = none_from free_key (x ∷ xs) (λ k d short. (let from_x = at_or_behind x xs behind k d short in omega arith)) in
-      omega (arith, rest, none)
+around : (free : Lot) (asked : ℕ) (before : Lot → ℕ) (passed : ℕ) (lots : List Lot) → AreDated lots → All (λ l. before_by_date l free ≡ false → before_by_date free l ≡ true) lots → All (λ l. before l ≡ passed + held_if_before l free + sum_by (held_if_before l) lots) lots → sum_by (paid asked before) lots + min free.held (asked - (passed + sum_by (held_if_before free) lots)) + min asked passed ≡ min asked (passed + free.held + sum_by held lots)
+around free asked before passed [] dated either so = omega arith
+around free asked before passed (x ∷ xs) dated either so = elim (before_tells x free) [
+  | inl first ↦
+      let here : before x ≡ passed = passed_at first in
+      let rest = around free asked before (passed + x.held) xs (AllPairs-tail (λ a b. before_by_date a b ≡ true) x xs dated) (All-tail (λ l. before_by_date l free ≡ false → before_by_date free l ≡ true) x xs either)
+      (λ k d short. passed_x (get_or xs k d) (behind_x k d short) (so (suc k) d (omega arith))) in
+      rw (sum_by-cons (paid asked before) x xs, sum_by-cons held x xs, sum_by-cons (held_if_before free) x xs, held_if-before free x first, here) (omega (arith, rest))
+  | inr none ↦
+      let first = free_first none in
+      let rest = in_order asked before (passed + free.held) (x ∷ xs) dated (λ k d short. passed_free (get_or (x ∷ xs) k d) (first k d short) (so k d short)) in
+      let nothing = none_before free (x ∷ xs) (λ k d short. before-back free (get_or (x ∷ xs) k d) (first k d short)) in
+      omega (arith, rest, nothing)
 ]
   where
-    behind : All (λ l. date_key x < date_key l) xs
-    behind = AllPairs-head (λ a b. date_key a < date_key b) x xs sorted
+    behind_x : All (λ l. before_by_date x l ≡ true) xs
+    behind_x = AllPairs-head (λ a b. before_by_date a b ≡ true) x xs dated
 
-    ge : low ≤ date_key x
-    ge = All-head (λ l. low ≤ date_key l) x xs from
+    passed_x : (l : Lot) → before_by_date x l ≡ true → before l ≡ passed + held_if_before l free + sum_by (held_if_before l) (x ∷ xs) → before l ≡ passed + x.held + held_if_before l free + sum_by (held_if_before l) xs
+    passed_x l next all = omega (arith, all, sum_by-cons (held_if_before l) x xs, held_if-before l x next)
 
-owned_by : (lot : Lot) (b : Bool) → lot.free ≡ b → 0 < rank lot → lot.free ≡ false
-owned_by lot true free lt = absurd (let none : rank lot ≡ 0 = ap (λ b. cond b 0 (date_key lot + 1)) free in omega arith)
-owned_by lot false free lt = free
+    passed_at : before_by_date x free ≡ true → before x ≡ passed
+    passed_at first = let all = All-head (λ l. before l ≡ passed + held_if_before l free + sum_by (held_if_before l) (x ∷ xs)) x xs so in omega (arith, all, held_if-behind x free (before-back x free first), none_before x (x ∷ xs) (first_behind x xs dated))
+
+    free_first : before_by_date x free ≡ false → All (λ l. before_by_date free l ≡ true) (x ∷ xs)
+    free_first none =
+        let first = All-head (λ l. before_by_date l free ≡ false → before_by_date free l ≡ true) x xs either none in
+        All-cons (λ l. before_by_date free l ≡ true) x xs first (λ k d short. before-next free x (get_or xs k d) first (behind_x k d short))
+
+    passed_free : (l : Lot) → before_by_date free l ≡ true → before l ≡ passed + held_if_before l free + sum_by (held_if_before l) (x ∷ xs) → before l ≡ passed + free.held + sum_by (held_if_before l) (x ∷ xs)
+    passed_free l first all = omega (arith, all, held_if-before l free first)
 
 -- lots that aren't free stand by date
-by_date : (lots : List Lot) → All (λ l. l.free ≡ false) lots → AllPairs (λ a b. rank a < rank b) lots → AllPairs (λ a b. date_key a < date_key b) lots
+by_date : (lots : List Lot) → All (λ l. l.free ≡ false) lots → AreRanked lots → AreDated lots
 by_date lots owned ranked i j d lt short =
-    let less = ranked i j d lt short in
-    let left : rank (get_or lots i d) ≡ date_key (get_or lots i d) + 1 = ap (λ b. cond b 0 (date_key (get_or lots i d) + 1)) (owned i d (omega arith)) in
-    let right : rank (get_or lots j d) ≡ date_key (get_or lots j d) + 1 = ap (λ b. cond b 0 (date_key (get_or lots j d) + 1)) (owned j d short) in
-    omega arith
+    sym (ranks-dated (get_or lots i d) (get_or lots j d) (owned i d (omega arith)) (owned j d short)) ∙ ranked i j d lt short
 
--- lots of other numbers stand at other places
-apart : (x y : Lot) → x.number < 2 ^ 32 → y.number < 2 ^ 32 → x.number ≢ y.number → date_key y ≢ date_key x
-apart x y low_x low_y other = λ same. other (omega arith)
-
-pub paid-whole : (lots : List Lot) (asked : ℕ) → AllPairs (λ a b. rank a < rank b) lots → AllPairs (λ a b. a.number ≢ b.number) lots → All (λ l. l.number < 2 ^ 32) lots → asked ≤ sum_by (λ l. l.held) lots → sum_by (paid_of lots asked) lots ≡ asked
-paid-whole [] asked ranked distinct low enough = omega arith
-paid-whole (x ∷ xs) asked ranked distinct low enough = whole_by x.free refl
+pub paid-whole : (lots : List Lot) (asked : ℕ) → AreRanked lots → AllPairs (λ a b. a.number ≢ b.number) lots → asked ≤ sum_by (λ l. l.held) lots → sum_by (paid_of lots asked) lots ≡ asked
+paid-whole [] asked ranked distinct enough = omega arith
+paid-whole (x ∷ xs) asked ranked distinct enough = by x.free refl
   where
     total : sum_by (λ l. l.held) (x ∷ xs) ≡ x.held + sum_by (λ l. l.held) xs
     total = sum_by-cons (λ (l : Lot). l.held) x xs
 
-    itself : held_if_before (date_key x) x ≡ 0
-    itself = ap (λ b. cond b x.held 0) (lt_false (date_key x) (date_key x) (omega arith))
+    owned : All (λ l. l.free ≡ false) xs
+    owned = owned_behind x xs ranked
 
-    all_owned : rank x ≡ date_key x + 1 → x.free ≡ false → All (λ l. l.free ≡ false) (x ∷ xs)
-    all_owned first free zero d short = free
-    all_owned first free (suc k) d short =
-        let lt = AllPairs-head (λ a b. rank a < rank b) x xs ranked k d (omega arith) in owned_by (get_or xs k d) (get_or xs k d).free refl (omega arith)
-
-    whole_by : (b : Bool) → x.free ≡ b → sum_by (paid_of (x ∷ xs) asked) (x ∷ xs) ≡ asked
-    whole_by true free =
-        let owned = owned_behind x xs free ranked in
-        let other : All (λ l. date_key l ≢ date_key x) xs = λ k d short. apart x (get_or xs k d) (All-head (λ l. l.number < 2 ^ 32) x xs low) (All-tail (λ l. l.number < 2 ^ 32) x xs low k d short) (AllPairs-head (λ a b. a.number ≢ b.number) x xs distinct k d short) in
-        let rest = around (date_key x) x.held asked (held_before (x ∷ xs)) 0 0 xs (by_date xs owned (AllPairs-tail (λ a b. rank a < rank b) x xs ranked)) other (λ k d short. omega arith) (λ k le. rw (sum_by-cons (held_if_before k) x xs) (omega arith)) in
-        let first : held_before (x ∷ xs) (date_key x) ≡ sum_by (held_if_before (date_key x)) xs = rw (sum_by-cons (held_if_before (date_key x)) x xs) (omega (arith, itself)) in
+    by : (b : Bool) → x.free ≡ b → sum_by (paid_of (x ∷ xs) asked) (x ∷ xs) ≡ asked
+    by true free =
+        let either : All (λ l. before_by_date l x ≡ false → before_by_date x l ≡ true) xs = λ k d short. before-either (get_or xs k d) x (λ same. AllPairs-head (λ a b. a.number ≢ b.number) x xs distinct k d short (sym same)) in
+        let rest = around x asked (held_before (x ∷ xs)) 0 xs (by_date xs owned (AllPairs-tail (λ a b. ranks_before a b ≡ true) x xs ranked)) either (λ k d short. rw (sum_by-cons (held_if_before (get_or xs k d)) x xs) (omega arith)) in
+        let first : held_before (x ∷ xs) x ≡ sum_by (held_if_before x) xs = rw (sum_by-cons (held_if_before x) x xs) (omega (arith, held_if-behind x x (before-itself x x refl))) in
         rw (sum_by-cons (paid_of (x ∷ xs) asked) x xs, first) (omega (arith, rest, total))
-    whole_by false free =
-        let first : rank x ≡ date_key x + 1 = ap (λ b. cond b 0 (date_key x + 1)) free in
-        let owned : All (λ l. l.free ≡ false) (x ∷ xs) = all_owned first free in
-        let rest = in_order asked (held_before (x ∷ xs)) 0 0 (x ∷ xs) (by_date (x ∷ xs) owned ranked) (λ k d short. omega arith) (λ k le. omega arith) in
+    by false free =
+        let rest = in_order asked (held_before (x ∷ xs)) 0 (x ∷ xs) (by_date (x ∷ xs) (All-cons (λ l. l.free ≡ false) x xs free owned) ranked) (λ k d short. omega arith) in
         omega (arith, rest, total)
 
 held_left : (all : List Lot) (asked : ℕ) (lots : List Lot) → sum_by (λ l. l.held) (map (lot_paying all asked) lots) + sum_by (paid_of all asked) lots ≡ sum_by (λ l. l.held) lots
@@ -112,9 +119,9 @@ held_left all asked [] = refl
 held_left all asked (x ∷ xs) =
     rw (sum_by-cons (λ (l : Lot). l.held) (lot_paying all asked x) (map (lot_paying all asked) xs), sum_by-cons (paid_of all asked) x xs, sum_by-cons (λ (l : Lot). l.held) x xs) (omega (arith, held_left all asked xs))
 
-pub paying-whole : (lots : List Lot) (asked : ℕ) → AllPairs (λ a b. rank a < rank b) lots → AllPairs (λ a b. a.number ≢ b.number) lots → All (λ l. l.number < 2 ^ 32) lots → asked ≤ sum_by (λ l. l.held) lots → sum_by (λ l. l.held) (filter has_mils (map (lot_paying lots asked) lots)) + asked ≡ sum_by (λ l. l.held) lots
-paying-whole lots asked ranked distinct low enough =
-    rw (sum-has_mils (λ (l : Lot). l.held) (map (lot_paying lots asked) lots) (λ k d short none. omega arith)) (omega (arith, held_left lots asked lots, paid-whole lots asked ranked distinct low enough))
+pub paying-whole : (lots : List Lot) (asked : ℕ) → AreRanked lots → AllPairs (λ a b. a.number ≢ b.number) lots → asked ≤ sum_by (λ l. l.held) lots → sum_by (λ l. l.held) (filter has_mils (map (lot_paying lots asked) lots)) + asked ≡ sum_by (λ l. l.held) lots
+paying-whole lots asked ranked distinct enough =
+    rw (sum-has_mils (λ (l : Lot). l.held) (map (lot_paying lots asked) lots) (λ k d short none. omega arith)) (omega (arith, held_left lots asked lots, paid-whole lots asked ranked distinct enough))
 
 -- loose mils stay
 loose_left : (all : List Lot) (asked : ℕ) (lots : List Lot) → sum_by (λ l. l.loose) (map (lot_paying all asked) lots) ≡ sum_by (λ l. l.loose) lots

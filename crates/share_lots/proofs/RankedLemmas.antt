@@ -1,18 +1,19 @@
 -- Lots by number, put in their places by rank.
-use Rattle.std.proofs.Common.{◌≡◌, ◌≢◌, ℕ, ◌+◌, ◌^◌, ◌<◌, ◌≤◌, Bool, true, false, List, [], ◌∷◌, length, get_or, drop, sum_by, refl, sym, ap, ◌∙◌, arith}
+use Rattle.std.proofs.Common.{◌≡◌, ◌≢◌, ℕ, ◌+◌, ◌<◌, ◌≤◌, Bool, true, false, List, [], ◌∷◌, length, get_or, drop, sum_by, refl, sym, ap, ◌∙◌, arith}
 use Rattle.std.specs.Prelude.{All, AllPairs}
 use Rattle.std.proofs.lemmas.List.{at_drop_more, at_drop_all}
 use Rattle.std.proofs.lemmas.List.Sums.{sum_by-cons}
 use Rattle.share_lots.specs.declared.lot.Lot.{Lot}
-use Rattle.share_lots.specs.Lots.{IsHolding, IsLotList, mils, rank, placed, placed_all, ranked_lots}
-use Rattle.share_lots.proofs.LotLemmas.{All-head, All-tail, AllPairs-head, AllPairs-tail, All-placed, AllPairs-placed, sum-placed, rank_apart}
+use Rattle.share_lots.specs.Lots.{IsHolding, IsLotList, mils, AreRanked, ranks_before, placed, placed_all, ranked_lots}
+use Rattle.share_lots.proofs.LotLemmas.{All-head, All-tail, AllPairs-head, AllPairs-tail, All-placed, AllPairs-placed, sum-placed}
+use Rattle.share_lots.proofs.OrderLemmas.{ranks-either}
 
 -- lots in their places, and those that are still to be placed
 pub record Placing (next : ℕ) (places rest : List Lot) : Type 0 where
   pub numbered : All (λ l. 1 ≤ l.number) places
   pub below_next : All (λ l. l.number < next) places
   pub distinct : AllPairs (λ a b. a.number ≢ b.number) places
-  pub ranked : AllPairs (λ a b. rank a < rank b) places
+  pub ranked : AreRanked places
   pub with_mils : All (λ l. 1 ≤ mils l) places
   pub rest_numbered : All (λ l. 1 ≤ l.number) rest
   pub rest_below : All (λ l. l.number < next) rest
@@ -43,12 +44,12 @@ not_both : (a b : Bool) → (a ≡ true → b ≡ false) → b ≡ true → a �
 not_both true b one e = cc (one refl)
 not_both false b one e = refl
 
-pub Placing-more : (next : ℕ) (places : List Lot) (x : Lot) (rest : List Lot) → next < 2 ^ 32 → Placing next places (x ∷ rest) → Placing next (placed x places) rest
-Placing-more next places x rest few p = record {
+pub Placing-more : (next : ℕ) (places : List Lot) (x : Lot) (rest : List Lot) → Placing next places (x ∷ rest) → Placing next (placed x places) rest
+Placing-more next places x rest p = record {
   numbered = All-placed (λ l. 1 ≤ l.number) x places (All-head (λ l. 1 ≤ l.number) x rest p.rest_numbered) p.numbered;
   below_next = All-placed (λ l. l.number < next) x places (All-head (λ l. l.number < next) x rest p.rest_below) p.below_next;
-  distinct = AllPairs-placed (λ a b. a.number ≢ b.number) x places p.ranked (λ k d short. record { apart = apart k d short; before = λ lt e. new k d short e; behind = λ lt e. new k d short (sym e) }) p.distinct;
-  ranked = AllPairs-placed (λ a b. rank a < rank b) x places p.ranked (λ k d short. record { apart = apart k d short; before = λ lt. lt; behind = λ lt. lt }) p.ranked;
+  distinct = AllPairs-placed (λ a b. a.number ≢ b.number) x places p.ranked (λ k d short. record { either = either k d short; before = λ lt e. new k d short e; behind = λ lt e. new k d short (sym e) }) p.distinct;
+  ranked = AllPairs-placed (λ a b. ranks_before a b ≡ true) x places p.ranked (λ k d short. record { either = either k d short; before = λ lt. lt; behind = λ lt. lt }) p.ranked;
   with_mils = All-placed (λ l. 1 ≤ mils l) x places (All-head (λ l. 1 ≤ mils l) x rest p.rest_mils) p.with_mils;
   rest_numbered = All-tail (λ l. 1 ≤ l.number) x rest p.rest_numbered;
   rest_below = All-tail (λ l. l.number < next) x rest p.rest_below;
@@ -62,9 +63,8 @@ Placing-more next places x rest few p = record {
     new : (k : ℕ) (d : Lot) → k < length places → ¬ ((get_or places k d).number ≡ x.number)
     new k d short e = let above = All-head (λ y. (get_or places k d).number < y.number) x rest (p.above k d short) in omega arith
 
-    apart : (k : ℕ) (d : Lot) → k < length places → ¬ (rank (get_or places k d) ≡ rank x)
-    apart k d short = rank_apart x (get_or places k d) (new k d short) (let below = p.below_next k d short in omega arith) (let below = All-head (λ l. l.number < next) x rest p.rest_below in omega arith)
-        (not_both (get_or places k d).free x.free (All-head (λ y. (get_or places k d).free ≡ true → y.free ≡ false) x rest (p.one_free k d short)))
+    either : (k : ℕ) (d : Lot) → k < length places → ranks_before (get_or places k d) x ≡ false → ranks_before x (get_or places k d) ≡ true
+    either k d short = ranks-either (get_or places k d) x (new k d short) (not_both (get_or places k d).free x.free (All-head (λ y. (get_or places k d).free ≡ true → y.free ≡ false) x rest (p.one_free k d short)))
 
 sum-placed_all : (f : Lot → ℕ) (places lots : List Lot) → sum_by f (placed_all places lots) ≡ sum_by f places + sum_by f lots
 unfolding placed_all
@@ -72,11 +72,11 @@ sum-placed_all f places [] = omega arith
 sum-placed_all f places (x ∷ xs) = rw (sum-placed_all f (placed x places) xs, sum-placed f x places, sum_by-cons f x xs) (omega arith)
 
 -- one lot more in its place
-pub placing-more : (next : ℕ) (places new lots all : List Lot) (i : ℕ) (x : Lot) → next < 2 ^ 32 → i < length lots → x ≡ get_or lots i x → new ≡ placed x places → Placing next places (drop i lots) → placed_all places (drop i lots) ≡ all → Placing next new (drop (i + 1) lots) × (placed_all new (drop (i + 1) lots) ≡ all)
+pub placing-more : (next : ℕ) (places new lots all : List Lot) (i : ℕ) (x : Lot) → i < length lots → x ≡ get_or lots i x → new ≡ placed x places → Placing next places (drop i lots) → placed_all places (drop i lots) ≡ all → Placing next new (drop (i + 1) lots) × (placed_all new (drop (i + 1) lots) ≡ all)
 unfolding placed_all
-placing-more next places new lots all i x few h is e p done =
+placing-more next places new lots all i x h is e p done =
     let step : drop i lots ≡ x ∷ drop (i + 1) lots = at_drop_more (λ rest. rest) lots i x h ∙ ap (λ y. y ∷ drop (i + 1) lots) (sym is) in
-    (rw e (Placing-more next places x (drop (i + 1) lots) few (rw step at p)), rw e (rw step at done))
+    (rw e (Placing-more next places x (drop (i + 1) lots) (rw step at p)), rw e (rw step at done))
 
 pub placing-all : (next : ℕ) (places lots : List Lot) (i : ℕ) → length lots ≤ i → placed_all places (drop i lots) ≡ ranked_lots lots → places ≡ ranked_lots lots
 unfolding placed_all

@@ -1,9 +1,12 @@
--- The amounts of a taking by rank are the only ones that the relation allows.
-use Rattle.std.proofs.Common.{◌≡◌, ℕ, zero, suc, ◌-◌, ◌<◌, ◌≤◌, min, List, [], ◌∷◌, length, get_or, sum, sum_by, refl, ap, ◌∙◌, inl, inr, arith}
+-- The amounts of a taking from lots by rank are the only ones that the relation allows.
+use Rattle.std.proofs.Common.{◌≡◌, ◌⊎◌, ℕ, zero, suc, ◌-◌, ◌<◌, ◌≤◌, true, false, min, List, [], ◌∷◌, length, get_or, sum, sum_by, refl, sym, ap, ◌∙◌, inl, inr, arith}
 use Rattle.std.proofs.lemmas.Bool.{cases_lt}
 use Rattle.std.proofs.lemmas.List.Sums.{sum_by-cons}
 use Rattle.share_lots.specs.declared.lot.Lot.{Lot}
+use Rattle.share_lots.specs.Lots.{AreRanked, ranks_before}
 use Rattle.share_lots.specs.Taking.{IsTaking, amounts}
+use Rattle.share_lots.proofs.LotLemmas.{AllPairs-tail}
+use Rattle.share_lots.proofs.OrderLemmas.{ranks-back, ranks-itself}
 
 length-amounts : (asked : ℕ) (lots : List Lot) → length (amounts asked lots) ≡ length lots
 unfolding amounts
@@ -37,12 +40,23 @@ rank-amounts asked (x ∷ xs) i zero d lt h some = absurd (omega arith)
 rank-amounts asked (x ∷ xs) zero (suc j) d lt h some = let left = some-amounts (asked - x.loose) xs j (omega arith) some in omega arith
 rank-amounts asked (x ∷ xs) (suc i) (suc j) d lt h some = rank-amounts (asked - x.loose) xs i j d (omega arith) (omega arith) some
 
-pub amounts-taking : (asked : ℕ) (lots : List Lot) → asked ≤ sum_by (λ l. l.loose) lots → IsTaking asked lots (amounts asked lots)
-amounts-taking asked lots h = record {
+-- of lots by rank, one that comes before another stands before it
+stands_before : (lots : List Lot) (i j : ℕ) (d : Lot) → AreRanked lots → i < length lots → j < length lots → ranks_before (get_or lots i d) (get_or lots j d) ≡ true → i < j
+stands_before lots i j d ranked low short first = elim (cases_lt i j) [
+  | inl lt ↦ lt
+  | inr ge ↦ absurd (let none = not_first ge (cases_lt j i) in let clash : true ≡ false = sym first ∙ none in cc)
+]
+  where
+    not_first : j ≤ i → (j < i) ⊎ (i ≤ j) → ranks_before (get_or lots i d) (get_or lots j d) ≡ false
+    not_first ge (inl lt) = ranks-back (get_or lots j d) (get_or lots i d) (ranked j i d lt low)
+    not_first ge (inr le) = ranks-itself (get_or lots i d) (get_or lots j d) (let same : i ≡ j = omega arith in ap (λ k. get_or lots k d) same)
+
+pub amounts-taking : (asked : ℕ) (lots : List Lot) → AreRanked lots → asked ≤ sum_by (λ l. l.loose) lots → IsTaking asked lots (amounts asked lots)
+amounts-taking asked lots ranked h = record {
   one_each = length-amounts asked lots;
   whole = sum-amounts asked lots h;
   within = within-amounts asked lots;
-  in_rank = rank-amounts asked lots;
+  in_rank = λ i j d low short first some. rank-amounts asked lots i j d (stands_before lots i j d ranked low short first) short some;
 }
 
 -- a sum above 0 has an item above 0
@@ -57,12 +71,13 @@ some_item (x ∷ xs) h = elim (cases_lt 0 x) [
 ]
 
 -- the first amount is all that its lot has, or all that is asked
-first_amount : (asked : ℕ) (x : Lot) (xs : List Lot) (g : ℕ) (gs : List ℕ) → IsTaking asked (x ∷ xs) (g ∷ gs) → (g ≡ min x.loose asked) × (sum gs ≡ asked - x.loose)
-first_amount asked x xs g gs is = elim (cases_lt 0 (sum gs)) [
+first_amount : (asked : ℕ) (x : Lot) (xs : List Lot) (g : ℕ) (gs : List ℕ) → AreRanked (x ∷ xs) → IsTaking asked (x ∷ xs) (g ∷ gs) → (g ≡ min x.loose asked) × (sum gs ≡ asked - x.loose)
+first_amount asked x xs g gs ranked is = elim (cases_lt 0 (sum gs)) [
   | inl some ↦
       let total = sum_by-cons (λ n. n) g gs in
       let later = some_item gs some in
-      let all : g ≡ x.loose = is.in_rank 0 (suc later.0) x (omega arith) (let long = is.one_each in omega (arith, later.1)) later.2 in
+      let short : suc later.0 < length (x ∷ xs) = (let long = is.one_each in omega (arith, later.1)) in
+      let all : g ≡ x.loose = is.in_rank 0 (suc later.0) x (omega arith) short (ranked 0 (suc later.0) x (omega arith) short) later.2 in
       let whole = is.whole in
       (omega arith, omega arith)
   | inr none ↦
@@ -72,17 +87,17 @@ first_amount asked x xs g gs is = elim (cases_lt 0 (sum gs)) [
       (omega arith, omega arith)
 ]
 
-pub only_amounts : (asked : ℕ) (lots : List Lot) (given : List ℕ) → IsTaking asked lots given → given ≡ amounts asked lots
+pub only_amounts : (asked : ℕ) (lots : List Lot) (given : List ℕ) → AreRanked lots → IsTaking asked lots given → given ≡ amounts asked lots
 unfolding amounts
-only_amounts asked [] [] is = refl
-only_amounts asked [] (g ∷ gs) is = absurd (let long = is.one_each in omega arith)
-only_amounts asked (x ∷ xs) [] is = absurd (let long = is.one_each in omega arith)
-only_amounts asked (x ∷ xs) (g ∷ gs) is =
-    let first = first_amount asked x xs g gs is in
+only_amounts asked [] [] ranked is = refl
+only_amounts asked [] (g ∷ gs) ranked is = absurd (let long = is.one_each in omega arith)
+only_amounts asked (x ∷ xs) [] ranked is = absurd (let long = is.one_each in omega arith)
+only_amounts asked (x ∷ xs) (g ∷ gs) ranked is =
+    let first = first_amount asked x xs g gs ranked is in
     let rest : IsTaking (asked - x.loose) xs gs = record {
       one_each = (let long = is.one_each in omega arith);
       whole = first.1;
       within = λ i d h. is.within (suc i) d (omega arith);
-      in_rank = λ i j d lt h some. is.in_rank (suc i) (suc j) d (omega arith) (omega arith) some;
+      in_rank = λ i j d low short before some. is.in_rank (suc i) (suc j) d (omega arith) (omega arith) before some;
     } in
-    ap (λ n. n ∷ gs) first.0 ∙ ap (λ ns. min x.loose asked ∷ ns) (only_amounts (asked - x.loose) xs gs rest)
+    ap (λ n. n ∷ gs) first.0 ∙ ap (λ ns. min x.loose asked ∷ ns) (only_amounts (asked - x.loose) xs gs (AllPairs-tail (λ a b. ranks_before a b ≡ true) x xs ranked) rest)

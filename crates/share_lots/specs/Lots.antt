@@ -1,19 +1,24 @@
 -- The lots of a position: what was bought or reinvested, by date and cost. The order of a redemption is the usual one
 -- of a load fund's prospectus: shares free of a deferred charge first, and then those held longest.
-use Rattle.std.specs.Prelude.{ℕ, ◌+◌, ◌-◌, ◌*◌, ◌^◌, ◌<◌, ◌≤◌, ◌≢◌, ◌≡◌, Bool, true, false, not, ◌==◌, nat_lt, if◌then◌else◌, List, ◌∷◌, ◌++◌, map, filter, sum_by, find, Option, Some, None, option_map, All, AllPairs, []}
+use Rattle.std.specs.Prelude.{ℕ, ◌+◌, ◌-◌, ◌<◌, ◌≤◌, ◌≢◌, ◌≡◌, Bool, true, false, not, ◌&&◌, ◌||◌, ◌==◌, nat_lt, if◌then◌else◌, List, ◌∷◌, ◌++◌, map, filter, sum_by, find, Option, Some, None, option_map, All, AllPairs, []}
 use Rattle.share_lots.specs.declared.lot.Lot.{Lot}
 
 -- loose and held mils together
 abbrev pub mils : Lot → ℕ
 mils lot = lot.loose + lot.held
 
--- the order by date, and then by number
-abbrev pub date_key : Lot → ℕ
-date_key lot = lot.day * 2 ^ 32 + lot.number
+-- the earlier date comes first, and at equal dates the smaller number
+abbrev pub before_by_date : Lot → Lot → Bool
+before_by_date lot other =
+    nat_lt lot.day other.day || (lot.day == other.day && nat_lt lot.number other.number)
 
--- the free lot first, then the earlier date, then the smaller number
-abbrev pub rank : Lot → ℕ
-rank lot = if lot.free then 0 else date_key lot + 1
+-- the free lot comes first, and then it goes by date and number
+abbrev pub ranks_before : Lot → Lot → Bool
+ranks_before lot other = not other.free && (lot.free || before_by_date lot other)
+
+-- lots by rank, of which one at most is free
+abbrev pub AreRanked : List Lot → Type 0
+AreRanked lots = AllPairs (λ a b. ranks_before a b ≡ true) lots
 
 -- the lots of one account and class by rank, and the number of the next lot
 pub record Holding : Type 0 where
@@ -49,7 +54,7 @@ pub record IsHolding (h : Holding) : Type 0 where
   pub numbered : All (λ lot. 1 ≤ lot.number) h.lots
   pub below_next : All (λ lot. lot.number < h.next_lot) h.lots
   pub distinct : AllPairs (λ a b. a.number ≢ b.number) h.lots
-  pub ranked : AllPairs (λ a b. rank a < rank b) h.lots
+  pub ranked : AreRanked h.lots
   pub with_mils : All (λ lot. 1 ≤ mils lot) h.lots
   pub few_mils : sum_by mils h.lots ≤ most_mils
   pub low_cost : sum_by (λ lot. lot.cost) h.lots ≤ most_cost
@@ -84,7 +89,7 @@ joined h quantity cents = record { lots = map (join_free quantity cents) h.lots;
 -- a lot in its place by rank
 abbrev pub placed : Lot → List Lot → List Lot
 placed lot lots =
-    filter (λ other. nat_lt (rank other) (rank lot)) lots ++ lot ∷ filter (λ other. not (nat_lt (rank other) (rank lot))) lots
+    filter (λ other. ranks_before other lot) lots ++ lot ∷ filter (λ other. not (ranks_before other lot)) lots
 
 -- a new lot, with the next number
 abbrev pub with_lot : Holding → Lot → Holding

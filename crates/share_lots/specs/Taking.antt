@@ -1,11 +1,10 @@
 -- What a redemption takes of the lots: a lot gives nothing unless every lot of lower rank has given all its loose mils.
-use Rattle.std.specs.Prelude.{ℕ, Option, Some, None, ◌+◌, ◌-◌, ◌*◌, ◌<◌, ◌≤◌, ◌≡◌, Bool, nat_lt, min, if◌then◌else◌, List, [], ◌∷◌, length, filter, sum, ◌++◌, slice_index, sum_by, map}
+use Rattle.std.specs.Prelude.{ℕ, Option, Some, None, ◌+◌, ◌-◌, ◌*◌, ◌<◌, ◌≤◌, ◌≡◌, Bool, true, nat_lt, min, if◌then◌else◌, List, [], ◌∷◌, length, filter, sum, ◌++◌, slice_index, sum_by, map}
 use Rattle.std.specs.List.{slice_index_or}
 use Rattle.money_units.specs.Rounding.{half}
 use Rattle.share_lots.specs.declared.lot.Lot.{Lot}
 use Rattle.share_lots.specs.declared.lot.Piece.{Piece}
-use Rattle.share_lots.specs.declared.paying.FreeLot.{FreeLot}
-use Rattle.share_lots.specs.Lots.{Holding, mils, date_key}
+use Rattle.share_lots.specs.Lots.{Holding, mils, before_by_date, ranks_before}
 
 -- the cost of so many mils of a lot; the lot keeps the rest
 abbrev pub piece_cost : Lot → ℕ → ℕ
@@ -51,34 +50,37 @@ pub record IsTaking (asked : ℕ) (lots : List Lot) (given : List ℕ) : Type 0 
   pub one_each : length given ≡ length lots
   pub whole : sum given ≡ asked
   pub within : (i : ℕ) (d : Lot) → i < length lots → slice_index given i ≤ (slice_index_or lots i d).loose
-  pub in_rank : (i j : ℕ) (d : Lot) → i < j → j < length lots → 0 < slice_index given j → slice_index given i ≡ (slice_index_or lots i d).loose
+  pub in_rank : (i j : ℕ) (d : Lot) → i < length lots → j < length lots
+      → ranks_before (slice_index_or lots i d) (slice_index_or lots j d) ≡ true → 0 < slice_index given j
+      → slice_index given i ≡ (slice_index_or lots i d).loose
 
--- a lot's held mils, where it stands before a place among the dates
-abbrev pub held_if_before : ℕ → Lot → ℕ
-held_if_before key lot = if nat_lt (date_key lot) key then lot.held else 0
+-- the held mils of another lot, where it comes before this one by date and number
+abbrev pub held_if_before : Lot → Lot → ℕ
+held_if_before lot other = if before_by_date other lot then other.held else 0
 
--- the held mils of the lots before a place by date and number
-abbrev pub held_before : List Lot → ℕ → ℕ
-held_before lots key = sum_by (held_if_before key) lots
+-- the held mils of the lots before one by date and number
+abbrev pub held_before : List Lot → Lot → ℕ
+held_before lots lot = sum_by (held_if_before lot) lots
 
--- the same by rank: the free lot's place and held mils, and those of the other lots
-abbrev pub place_of : Lot → FreeLot
-place_of lot = record { key = date_key lot; held = lot.held }
+-- the same by rank: what is held before the free lot, what the free lot holds before another, and what a lot that isn't
+-- free holds; `passed` is what those of lower rank hold that aren't free
+abbrev pub held_before_free : List Lot → Option Lot → ℕ
+held_before_free lots None = 0
+held_before_free lots (Some free) = held_before lots free
 
-abbrev pub free_place : Option Lot → FreeLot
-free_place None = record { key = 0; held = 0 }
-free_place (Some lot) = place_of lot
+abbrev pub free_held : Option Lot → Lot → ℕ
+free_held None lot = 0
+free_held (Some free) lot = held_if_before lot free
 
 abbrev pub owned_held : Lot → ℕ
 owned_held lot = if lot.free then 0 else lot.held
 
-abbrev pub before_of : Lot → FreeLot → ℕ → ℕ → ℕ
-before_of lot free before_free passed =
-    if lot.free then before_free else (if nat_lt free.key (date_key lot) then passed + free.held else passed)
+abbrev pub before_of : Lot → Option Lot → ℕ → ℕ → ℕ
+before_of lot free before_free passed = if lot.free then before_free else passed + free_held free lot
 
 -- what a lot pays of its held mils: what is still asked for when all lots before it by date and number have paid theirs
 abbrev pub paid_of : List Lot → ℕ → Lot → ℕ
-paid_of lots asked lot = min lot.held (asked - held_before lots (date_key lot))
+paid_of lots asked lot = min lot.held (asked - held_before lots lot)
 
 -- the cost of what a lot pays
 abbrev pub cost_paid : List Lot → ℕ → Lot → ℕ

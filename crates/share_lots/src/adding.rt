@@ -1,10 +1,10 @@
-ghost use Rattle.std.specs.Prelude.{◌≡◌, ◌+◌, ◌≤◌, ◌<◌, length, map, All, AllPairs, IfOk, OnOk, OnErr};
+ghost use Rattle.std.specs.Prelude.{◌≡◌, ◌≤◌, true, false, length, map, All, IfOk, OnOk, OnErr};
 ghost use Rattle.std.specs.List.Sorted.{IsPartitionPoint};
 ghost use Rattle.share_lots.specs.Lots as spec;
 
 use crate::Lot;
 use crate::escrow::copy_of;
-use crate::lot_list::{cost_of, held_of, loose_of, rank};
+use crate::lot_list::{cost_of, held_of, loose_of, ranks_before};
 use fund_calendar::Day;
 use money_units::{Cents, Mils, NoMemory};
 use std::alloc::Global;
@@ -68,22 +68,22 @@ fn joined_lot(lot: &Lot, mils: &Mils, cost: &Cents) -> Lot
 
 /// Puts a lot in its place by rank.
 pub(crate) fn insert_lot(lots: &mut Vec<Lot>, lot: Lot) -> Result<(), NoMemory>
-    requires { AllPairs (λ a b. spec.rank a < spec.rank b) lots.old.items }
+    requires { spec.AreRanked lots.old.items }
     ensures ok { OnOk result (lots.new.items ≡ spec.placed lot lots.old.items) }
     ensures err { OnErr result (lots.new.items ≡ lots.old.items) }
 {
-    let place = place_of(lots, rank(&lot));
+    let place = place_of(lots, &lot);
     lots.insert(place, lot)?;
     Ok(())
 }
 
-/// The place of the first lot whose rank isn't lower.
-fn place_of(lots: &[Lot], least: u64) -> usize
-    requires { AllPairs (λ a b. spec.rank a < spec.rank b) lots.now }
-    ensures point { IsPartitionPoint (λ lot. spec.rank lot < least) (λ lot. least ≤ spec.rank lot) lots.now result }
+/// The place of a lot by rank: the lots that come before it stand there.
+fn place_of(lots: &[Lot], lot: &Lot) -> usize
+    requires { spec.AreRanked lots.now }
+    ensures point { IsPartitionPoint (λ other. spec.ranks_before other lot.now ≡ true) (λ other. spec.ranks_before other lot.now ≡ false) lots.now result }
     ensures bound { result ≤ length lots.now }
 {
-    lots.partition_point(|lot| rank(lot) < least)
+    lots.partition_point(|other| ranks_before(other, lot))
 }
 
 /// The lots in their places by rank.

@@ -1,4 +1,4 @@
-ghost use Rattle.std.specs.Prelude.{◌≡◌, ◌+◌, ◌≤◌, ◌<◌, ◌^◌, sum_by, map};
+ghost use Rattle.std.specs.Prelude.{◌≡◌, ◌+◌, ◌≤◌, sum_by, map};
 ghost use Rattle.share_lots.specs.Lots as spec;
 
 use crate::Lot;
@@ -48,17 +48,16 @@ pub(crate) fn cost_total(lots: &[Lot]) -> u64
     lots.iter().map(|lot| lot.cost.0).sum()
 }
 
-/// The order by the free mark, the date and the number.
-pub(crate) fn rank(lot: &Lot) -> u64
-    ensures { result ≡ spec.rank lot.now }
+/// The lot comes before the other by rank: the free lot first, and then by date and number.
+pub(crate) fn ranks_before(lot: &Lot, other: &Lot) -> bool
+    ensures { result ≡ spec.ranks_before lot.now other.now }
 {
-    if lot.free { 0 } else { date_key(lot) + 1 }
+    !other.free && (lot.free || before_by_date(lot, other))
 }
 
-/// The order by date, and then by number.
-pub(crate) fn date_key(lot: &Lot) -> u64
-    ensures value { result ≡ spec.date_key lot.now }
-    ensures bound { result < 2 ^ 62 }
+/// The lot has the earlier date, or at equal dates the smaller number.
+pub(crate) fn before_by_date(lot: &Lot, other: &Lot) -> bool
+    ensures { result ≡ spec.before_by_date lot.now other.now }
 {
-    ((lot.day.number() as u64) << 32) + lot.number as u64
+    lot.day < other.day || (lot.day == other.day && lot.number < other.number)
 }

@@ -1,28 +1,22 @@
-ghost use Rattle.std.specs.Prelude.{◌≡◌, ◌≤◌, ◌<◌, All, AllPairs, find, map, min, option_map, sum_by};
+ghost use Rattle.std.specs.Prelude.{◌≡◌, ◌≤◌, All, find, map, min, sum_by};
+ghost use Rattle.std.specs.Option.{option_copied};
 ghost use Rattle.share_lots.specs.Lots as spec;
 ghost use Rattle.share_lots.specs.Taking as taking;
 
 use crate::Lot;
-use crate::lot_list::{cost_of, date_key, held_of, loose_of};
+use crate::lot_list::{before_by_date, cost_of, held_of, loose_of};
 use crate::taking::piece_cost;
 use money_units::{Cents, Mils};
-
-/// The free lot's place in the order by date, and its held mils; without one nothing is held.
-#[derive(Clone, Copy)]
-pub(crate) struct FreeLot {
-    pub key: u64,
-    pub held: u64,
-}
 
 /// Pays held mils of lots by date and number.
 pub(crate) fn pay_lots(lots: &mut [Lot], asked: u64)
     requires lots { All spec.IsLot lots.old }
-    requires ranked { AllPairs (λ a b. spec.rank a < spec.rank b) lots.old }
+    requires ranked { spec.AreRanked lots.old }
     requires total { sum_by (λ lot. lot.held) lots.old ≤ spec.most_mils }
     ensures { lots.new ≡ map (taking.lot_paying lots.old asked) lots.old }
 {
     let free = free_lot(lots);
-    let before_free = held_before(lots, free.key);
+    let before_free = held_before_free(lots, &free);
     let mut passed = 0;
     for lot in lots.iter_mut() {
         let before = before_of(lot, &free, before_free, passed);
@@ -31,46 +25,48 @@ pub(crate) fn pay_lots(lots: &mut [Lot], asked: u64)
     }
 }
 
-/// The place of the free lot among the dates, and what it holds.
-fn free_lot(lots: &[Lot]) -> FreeLot
-    ensures { result ≡ taking.free_place (find (λ lot. lot.free) lots.now) }
+/// A copy of the free lot, where there is one.
+fn free_lot(lots: &[Lot]) -> Option<Lot>
+    ensures { result ≡ find (λ lot. lot.free) lots.now }
 {
-    match found_free(lots) {
-        Some(free) => free,
-        None => FreeLot { key: 0, held: 0 },
+    found_free(lots).copied()
+}
+
+/// The free lot in the list, where there is one.
+fn found_free(lots: &[Lot]) -> Option<&Lot>
+    ensures { option_copied result ≡ find (λ lot. lot.free) lots.now }
+{
+    lots.iter().find(|lot| lot.free)
+}
+
+/// The held mils of the lots before the free one by date and number.
+fn held_before_free(lots: &[Lot], free: &Option<Lot>) -> u64
+    requires { taking.held_before_free lots.now free.now ≤ spec.most_mils }
+    ensures { result ≡ taking.held_before_free lots.now free.now }
+{
+    match free {
+        Some(free) => held_before(lots, free),
+        None => 0,
     }
 }
 
-/// The same, where there is a free lot.
-fn found_free(lots: &[Lot]) -> Option<FreeLot>
-    ensures { result ≡ option_map taking.place_of (find (λ lot. lot.free) lots.now) }
+/// The held mils of the lots before one by date and number.
+fn held_before(lots: &[Lot], lot: &Lot) -> u64
+    requires { taking.held_before lots.now lot.now ≤ spec.most_mils }
+    ensures { result ≡ taking.held_before lots.now lot.now }
 {
-    lots.iter().find(|lot| lot.free).map(|lot| place_of(lot))
+    lots.iter().map(|other| held_if_before(lot, other)).sum()
 }
 
-/// A lot's place among the dates, and what it holds.
-fn place_of(lot: &Lot) -> FreeLot
-    ensures { result ≡ taking.place_of lot.now }
+/// The held mils of another lot, where it comes before this one by date and number.
+fn held_if_before(lot: &Lot, other: &Lot) -> u64
+    ensures { result ≡ taking.held_if_before lot.now other.now }
 {
-    FreeLot {
-        key: date_key(lot),
-        held: held_of(lot),
+    if before_by_date(other, lot) {
+        held_of(other)
+    } else {
+        0
     }
-}
-
-/// The held mils of the lots before a place among the dates.
-fn held_before(lots: &[Lot], key: u64) -> u64
-    requires { taking.held_before lots.now key ≤ spec.most_mils }
-    ensures { result ≡ taking.held_before lots.now key }
-{
-    lots.iter().map(|lot| held_if_before(lot, key)).sum()
-}
-
-/// A lot's held mils, where it stands before a place among the dates.
-fn held_if_before(lot: &Lot, key: u64) -> u64
-    ensures { result ≡ taking.held_if_before key lot.now }
-{
-    if date_key(lot) < key { held_of(lot) } else { 0 }
 }
 
 /// The held mils of a lot that isn't free.
@@ -81,17 +77,25 @@ fn owned_held(lot: &Lot) -> u64
 }
 
 /// The held mils of the lots before one by date and number, given those that aren't free and come before it by rank.
-fn before_of(lot: &Lot, free: &FreeLot, before_free: u64, passed: u64) -> u64
-    requires free { free.now.held ≤ spec.most_mils }
+fn before_of(lot: &Lot, free: &Option<Lot>, before_free: u64, passed: u64) -> u64
+    requires free { taking.free_held free.now lot.now ≤ spec.most_mils }
     requires passed { passed ≤ spec.most_mils }
     ensures { result ≡ taking.before_of lot.now free.now before_free passed }
 {
     if lot.free {
         before_free
-    } else if free.key < date_key(lot) {
-        passed + free.held
     } else {
-        passed
+        passed + free_held(free, lot)
+    }
+}
+
+/// The held mils of the free lot, where it comes before another by date and number.
+fn free_held(free: &Option<Lot>, lot: &Lot) -> u64
+    ensures { result ≡ taking.free_held free.now lot.now }
+{
+    match free {
+        Some(free) => held_if_before(lot, free),
+        None => 0,
     }
 }
 

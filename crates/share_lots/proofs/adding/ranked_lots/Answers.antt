@@ -13,7 +13,7 @@ loop-lot-init c = record {
 pub loop-lot-preserved : goal.loop-lot-preserved
 loop-lot-preserved c =
     let new = c.in_ok-insert_lot.ensures.ok ∙ ap (λ (l : Lot). placed l c.loop-lot.places.items) c.copy_of.ensures in
-    let both = placing-more c.args.next_lot c.loop-lot.places.items c.insert_lot.new.lots.items c.args.lots.now _ c.loop-lot.lot-index c.lot-item.result c.ranges.next_lot.fits c.loop-lot-test.true c.lot-item.is new c.loop-lot.invariant.placing c.loop-lot.invariant.done in
+    let both = placing-more c.args.next_lot c.loop-lot.places.items c.insert_lot.new.lots.items c.args.lots.now _ c.loop-lot.lot-index c.lot-item.result c.loop-lot-test.true c.lot-item.is new c.loop-lot.invariant.placing c.loop-lot.invariant.done in
     record { placing = both.0; done = both.1 }
 
 pub returns : goal.returns

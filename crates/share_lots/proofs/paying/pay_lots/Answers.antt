@@ -1,17 +1,15 @@
-use Rattle.std.proofs.Common.{◌≡◌, ◌<◌, ◌-◌, length, min, ◌∙◌, ap, sym, arith}
+use Rattle.std.proofs.Common.{◌≡◌, ◌<◌, ◌-◌, Option, length, min, ◌∙◌, ap, sym, arith}
 use Rattle.share_lots.specs.declared.lot.Lot.{Lot}
-use Rattle.share_lots.specs.declared.paying.FreeLot.{FreeLot}
-use Rattle.share_lots.specs.Lots.{date_key}
-use Rattle.share_lots.specs.Taking.{held_before, before_of, lot_paid, lot_paying, owned_held}
+use Rattle.share_lots.specs.Taking.{held_before, held_before_free, before_of, lot_paid, lot_paying, owned_held}
 use Rattle.share_lots.proofs.LotLemmas.{same_rest, rest-set, mapped-more, mapped-all}
-use Rattle.share_lots.proofs.PayingLemmas.{held_before-le, free_bound, passed-more, before_is}
+use Rattle.share_lots.proofs.PayingLemmas.{before_free-le, free_bound, passed-more, before_is}
 use Rattle.share_lots.proofs.paying.pay_lots.Goals as goal
 
-pub held_before-before_free-requires : goal.held_before-before_free-requires
-held_before-before_free-requires c = omega (arith, held_before-le c.args.lots.now c.free_lot-free.result.key, c.requires.total)
+pub held_before_free-before_free-requires : goal.held_before_free-before_free-requires
+held_before_free-before_free-requires c = omega (arith, before_free-le c.args.lots.now c.free_lot-free.result, c.requires.total)
 
 pub before_of-before-requires-clause-free : goal.before_of-before-requires-clause-free
-before_of-before-requires-clause-free c = rw c.free_lot-free.ensures (free_bound c.args.lots.now c.requires.lots)
+before_of-before-requires-clause-free c = rw c.free_lot-free.ensures (free_bound c.args.lots.now _ c.requires.lots)
 
 pub paying_lot-requires : goal.paying_lot-requires
 paying_lot-requires c =
@@ -27,11 +25,11 @@ loop-lot-preserved c =
     let same = same_rest c.loop-lot.lots lots c.loop-lot.lot-index x short c.loop-lot-test.true c.loop-lot.invariant.rest in
     let at_start = c.lot-item.is ∙ same.0 in
     let free = c.free_lot-free.ensures in
-    let before : c.before_of-before.result ≡ held_before lots (date_key x) =
+    let before : c.before_of-before.result ≡ held_before lots x =
     c.before_of-before.ensures
-    ∙ ap (λ (l : Lot). before_of l c.free_lot-free.result c.held_before-before_free.result c.loop-lot.passed) (sym c.lot-item.is)
-    ∙ ap (λ n. before_of x c.free_lot-free.result n c.loop-lot.passed) c.held_before-before_free.ensures
-    ∙ ap (λ (f : FreeLot). before_of x f (held_before lots f.key) c.loop-lot.passed) free
+    ∙ ap (λ (l : Lot). before_of l c.free_lot-free.result c.held_before_free-before_free.result c.loop-lot.passed) (sym c.lot-item.is)
+    ∙ ap (λ n. before_of x c.free_lot-free.result n c.loop-lot.passed) c.held_before_free-before_free.ensures
+    ∙ ap (λ (f : Option Lot). before_of x f (held_before_free lots f) c.loop-lot.passed) free
     ∙ before_is lots c.loop-lot.lot-index x c.loop-lot.passed c.requires.ranked c.loop-lot-test.true at_start c.loop-lot.invariant.so_far in
     let one : c.paying_lot.result ≡ lot_paying lots c.args.asked x =
     c.paying_lot.ensures

@@ -24,6 +24,6 @@ invariant_of-self-in-None c =
     let cost_fits = subst (λ (h : Holding). sum_by (λ (l : Lot). l.cost) h.lots + c.args.cost ≤ most_cost) (sym c.self.view_is) c.requires.low_cost in
     let none : lot_joined items c.args.free ≡ None = ap (λ lots. lot_joined lots c.args.free) (sym c.deref.ensures.value) ∙ (sym c.lot_joined.ensures ∙ c.in-None.is) in
     let made = c.new_lot.ensures in
-    let is = IsHolding-with_lot h lot c.self.invariant (ap (λ (l : Lot). l.number) made) (omega (arith, c.requires.next)) (rw made (omega (arith, c.requires.positive))) (rw made (omega (arith, mils_fit))) (rw made cost_fits) (λ free. lone_free items c.args.free none (ap (λ (l : Lot). l.free) (sym made) ∙ free)) in
+    let is = IsHolding-with_lot h lot c.self.invariant (ap (λ (l : Lot). l.number) made) (rw made (omega (arith, c.requires.positive))) (rw made (omega (arith, mils_fit))) (rw made cost_fits) (λ free. lone_free items c.args.free none (ap (λ (l : Lot). l.free) (sym made) ∙ free)) in
     let placed_is : c.insert_lot.new.lots.items ≡ placed lot items = c.in_ok-insert_lot-in-None.ensures.ok in
     rw placed_is is

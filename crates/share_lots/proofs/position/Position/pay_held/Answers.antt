@@ -19,7 +19,7 @@ pub returns-clause-whole : goal.returns-clause-whole
 returns-clause-whole c =
     let items = c.self.inside.lots.items in
     let rest : c.remove_empty.new.lots.items ≡ filter has_mils (map (lot_paying items c.mils.inside.0) items) = grind (arith, common_steps) in
-    rw (rest, ← c.self.view_is, ← c.mils.view_is) (paying-whole items c.mils.inside.0 c.self.invariant.ranked c.self.invariant.distinct (λ k d short. (let below = c.self.invariant.below_next k d short in omega arith)) (rw (← c.self.view_is, ← c.mils.view_is) at c.requires))
+    rw (rest, ← c.self.view_is, ← c.mils.view_is) (paying-whole items c.mils.inside.0 c.self.invariant.ranked c.self.invariant.distinct (rw (← c.self.view_is, ← c.mils.view_is) at c.requires))
 
 pub returns-clause-loose_kept : goal.returns-clause-loose_kept
 returns-clause-loose_kept c =
