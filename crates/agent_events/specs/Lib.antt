@@ -1,6 +1,5 @@
 pub mod Fields
 pub mod Forms
-pub mod Content
 pub mod Events
 pub mod Contents
 pub mod VerbForms

@@ -2,12 +2,12 @@
 -- order. Their number of fields is what the order verb needs, and places count over the whole record.
 use Rattle.std.specs.Prelude.{ℕ, ◌+◌, List, length, if◌then◌else◌, nat_lt, Some, None, Ok, Err, codes, bytes_eq, Option, Result, option_map}
 use Rattle.agent_events.specs.Fields.{amount, bearer, identifier, moment, pay, quantity, reference}
-use Rattle.agent_events.specs.Forms.{at, field, ◌>>=◌}
+use Rattle.agent_events.specs.Forms.{at, field, ◌>>=◌, of_length}
 use Rattle.agent_events.specs.declared.order.Body.{Body}
 use Rattle.agent_events.specs.declared.request.EntryForm.{EntryForm}
 use Rattle.agent_events.specs.declared.order.Order.{Order}
 use Rattle.agent_events.specs.declared.request.Request.{Request}
-use Rattle.agent_events.specs.VerbForms.{Asked, counted}
+use Rattle.agent_events.specs.VerbForms.{Asked}
 
 -- how many fields an order verb has, where it is one
 abbrev pub order_count : List ℕ → Option ℕ
@@ -65,7 +65,7 @@ carried_order before fields = order_form (field fields before) before fields
 -- a verb with lead fields, the last of them an order verb: the number of fields counts only where that verb is known
 abbrev pub counted_by : Option ℕ → ℕ → (List (List ℕ) → Asked) → List (List ℕ) → Asked
 counted_by None lead form fields = form fields
-counted_by (Some count) lead form fields = counted (lead + count) form fields
+counted_by (Some count) lead form fields = of_length (lead + count) form fields
 
 abbrev pub with_order : ℕ → (List (List ℕ) → Asked) → List (List ℕ) → Asked
 with_order lead form fields =
@@ -96,4 +96,4 @@ replace_asked fields = entry_form fields >>= λ form. Ok (Request.Replace form)
 -- an order verb by itself, or no verb at all
 abbrev pub order_or_unknown : Option ℕ → List ℕ → List (List ℕ) → Asked
 order_or_unknown None verb fields = Err 0
-order_or_unknown (Some count) verb fields = counted count (order_asked verb) fields
+order_or_unknown (Some count) verb fields = of_length count (order_asked verb) fields

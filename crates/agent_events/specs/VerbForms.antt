@@ -1,6 +1,6 @@
 -- The forms of all verbs: what the fields of a verb ask, or the place of the first field that isn't in its form, from 1. An
 -- unknown verb and a wrong number of fields are place 0, which is tried before all others.
-use Rattle.std.specs.Prelude.{ℕ, List, length, if◌then◌else◌, ◌==◌, Ok, Err, Result}
+use Rattle.std.specs.Prelude.{ℕ, List, Ok, Result}
 use Rattle.fund_calendar.specs.DayText.{read_day}
 use Rattle.agent_events.specs.Fields.{bearer, corrected_rate, dealer_key, dividend_rate, holidays, household_key, identifier, identifier_or_none, label, moment, nav, reference, time, window, zone}
 use Rattle.agent_events.specs.Forms.{at, class_form, field, sheet_form, ◌>>=◌}
@@ -9,10 +9,6 @@ use Rattle.agent_events.specs.declared.request.Request.{Request}
 -- what the fields ask, or the place of the first that isn't in its form
 abbrev pub Asked : Type 0
 Asked = Result Request ℕ
-
--- what so many fields ask
-abbrev pub counted : ℕ → (List (List ℕ) → Asked) → List (List ℕ) → Asked
-counted count form fields = if length fields == count then form fields else Err 0
 
 abbrev pub calendar_asked : List (List ℕ) → Asked
 calendar_asked fields = do

@@ -5,6 +5,7 @@
 //! print replies are proved to follow them.
 #![tactic(auto)]
 
+mod checkpoint;
 mod event;
 mod fields;
 mod item;
@@ -18,6 +19,7 @@ mod rows;
 mod tests;
 mod texts;
 
+pub use crate::checkpoint::{LetterRow, LotRow, LotRows, PositionRow, PositionRows, StateRow};
 pub use crate::event::{Event, EventKind, Placed, Source};
 pub use crate::fields::{
     Amount, CorrectedRate, DividendRate, Identifier, Minimum, Quantity, Reference, TimeOfDay,
