@@ -1,0 +1,8 @@
+-- What was read so far and what is still read make all of it.
+use Rattle.std.proofs.Common.{◌≡◌, ◌-◌}
+use Rattle.row_fields.specs.Reading.{with_front, items_at}
+use Rattle.event_rows.specs.Reading.{bracket_at}
+use Rattle.event_rows.proofs.list_readers.read_brackets.Given as goal
+
+abbrev pub invariant-loop : goal.invariant-loop
+invariant-loop l = with_front l.brackets (items_at bracket_at (l.count - l.counter) l.row) ≡ items_at bracket_at l.count l.fn.row

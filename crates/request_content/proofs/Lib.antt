@@ -1,0 +1,2 @@
+-- parts that are compared in another shape
+pub mod SameParts

@@ -1,0 +1,10 @@
+//! Equal content: whether what is asked is what was asked before, the verb and all its fields.
+#![tactic(auto)]
+
+mod content;
+mod parts;
+mod verbs;
+
+pub use crate::content::same_request;
+pub use crate::parts::same_prices;
+pub use crate::verbs::same_class;

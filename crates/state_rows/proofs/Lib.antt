@@ -1,0 +1,4 @@
+-- each part of a checkpoint row is exact
+pub mod EachPart
+-- a test of each item, as a loop goes
+pub mod Tests

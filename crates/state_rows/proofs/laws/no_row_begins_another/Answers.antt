@@ -1,0 +1,6 @@
+use Rattle.row_fields.proofs.Fields.{one_reading}
+use Rattle.state_rows.proofs.EachPart.{row_field}
+use Rattle.state_rows.proofs.laws.no_row_begins_another.Goals as goal
+
+pub returns : goal.returns
+returns c = λ first second rest more fits suits same. one_reading row_field first second rest more fits suits same

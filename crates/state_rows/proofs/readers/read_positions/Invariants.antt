@@ -1,0 +1,8 @@
+-- What was read so far and what is still read make all of it.
+use Rattle.std.proofs.Common.{◌≡◌, ◌-◌}
+use Rattle.row_fields.specs.Reading.{with_front, items_at}
+use Rattle.state_rows.specs.Reading.{position_at}
+use Rattle.state_rows.proofs.readers.read_positions.Given as goal
+
+abbrev pub invariant-loop : goal.invariant-loop
+invariant-loop l = with_front l.positions (items_at position_at (l.count - l.counter) l.row) ≡ items_at position_at l.count l.fn.row
