@@ -1,19 +1,13 @@
 //! From bytes to requests, and from replies to bytes.
 #![tactic(auto)]
 
-mod fault;
-mod field_forms;
-mod list_forms;
-mod reply_lines;
-mod reply_texts;
-mod rows;
 mod script;
 #[cfg(test)]
 mod tests;
 mod verb_forms;
-pub mod worked;
 
 pub use agent_events::{Ask, Item, Items, KeyText};
-pub use reply_lines::reply_line;
-pub use rows::{Fields, append_line, records_of};
+pub use csv_rows::{Fields, append_line, records_of};
+pub use http_replies::{batch_bytes, fault_bytes, reply_bytes, reply_line};
+pub use http_stream::HttpFault;
 pub use script::script_items;

@@ -6,11 +6,11 @@ ghost use Rattle.agent_events.specs.Fields.{is_visible};
 ghost use Rattle.agent_events.specs.Forms.{is_key_text};
 ghost use Rattle.agent_events.specs.Forms as form;
 
-use crate::field_forms::moment_of;
-use crate::rows::{Fields, records_of};
 use crate::verb_forms::ask_of;
 use agent_events::{Item, Items, KeyText};
+use csv_rows::{Fields, records_of, slices_of};
 use money_units::NoMemory;
+use request_fields::moment_of;
 use std::alloc::Global;
 
 /// The items of a script in order: each record of the text is a moment, a key, a verb and the verb's fields. A record
@@ -29,18 +29,18 @@ pub fn script_items(alloc: Global, bytes: &[u8]) -> Result<Items, NoMemory>
 fn item_of(alloc: Global, row: &Fields) -> Result<Item, NoMemory>
     ensures { IfOk result (λ item. item ≡ form.item_of row.now) }
 {
-    let texts = row.texts();
+    let texts = slices_of(alloc, row.texts())?;
     if texts.len() < 3 {
         return Ok(Item::Bad);
     }
-    let Some(moment) = moment_of(&texts[0]) else {
+    let Some(moment) = moment_of(texts[0]) else {
         return Ok(Item::Bad);
     };
-    if !is_key_text(&texts[1]) {
+    if !is_key_text(texts[1]) {
         return Ok(Item::Bad);
     }
-    let key = key_text(alloc, &texts[1])?;
-    let ask = ask_of(alloc, &texts[2], &texts[3..])?;
+    let key = key_text(alloc, texts[1])?;
+    let ask = ask_of(alloc, texts[2], &texts[3..])?;
     Ok(Item::Good { moment, key, ask })
 }
 

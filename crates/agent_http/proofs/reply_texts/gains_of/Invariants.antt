@@ -1,6 +1,0 @@
-use Rattle.std.proofs.Common.{◌≡◌, map, take}
-use Rattle.agent_events.specs.AnswerTexts.{gain_text}
-use Rattle.agent_http.proofs.reply_texts.gains_of.Given as goal
-
-abbrev pub invariant-loop-gain : goal.invariant-loop-gain
-invariant-loop-gain l = l.items ≡ map gain_text (take l.gain-index l.gains)

@@ -1,6 +1,0 @@
-use Rattle.std.proofs.Common.{◌≡◌, map, take}
-use Rattle.agent_events.specs.AnswerTexts.{list_text}
-use Rattle.agent_http.proofs.reply_texts.spaced.Given as goal
-
-abbrev pub invariant-loop-i : goal.invariant-loop-i
-invariant-loop-i l = l.text.items ≡ list_text (map (λ item. item.items) (take l.i l.texts))

@@ -1,0 +1,4 @@
+use Rattle.http_calls.proofs.body.asked_by_all_names.Goals as goal
+
+pub returns : goal.returns
+returns c = rw (c.deref.ensures.value, c.in_ok-all.ensures) at c.asked_by_names.ensures

@@ -1,0 +1,190 @@
+//! What a request asks.
+ghost use Rattle.std.specs.Prelude.{◌≡◌, ◌∷◌, ◌++◌, [], ℕ, Result, Ok, Err, map, drop, bytes_eq, codes, if◌then◌else◌, IfOk, OnOk, OnErr};
+ghost use Rattle.agent_events.specs.Forms as form;
+ghost use Rattle.agent_events.specs.Items.{asked_by, batch_line};
+ghost use Rattle.request_fields.specs.Reading.{Gives};
+ghost use Rattle.http_calls.specs.Bodies.{asked_by_body};
+ghost use Rattle.http_calls.specs.Calls as spec;
+
+use crate::body::asked_by_body;
+use crate::routes::{Route, behind, part, parts_of, route_of};
+use agent_events::{Ask, Request};
+use csv_rows::{Fields, records_of, slices_of};
+use http_stream::HttpFault;
+use money_units::NoMemory;
+use request_fields::{FormFault, asked_by, line_asked, same_bytes};
+use std::alloc::Global;
+use std::marker::Model;
+
+/// What the lines of a batch ask in order, which contracts see as the list of them.
+#[derive(Debug, Drop)]
+pub struct BatchAsks {
+    items: Vec<Ask>,
+}
+
+impl Model for BatchAsks {
+    ghost use Rattle.std.specs.Prelude.{List};
+    ghost use Rattle.agent_events.specs.declared.item.Ask.{Ask};
+
+    ghost Value = { List Ask };
+
+    ghost view = { λ asks. asks.items.items };
+}
+
+impl BatchAsks {
+    /// The empty list, which takes no memory yet.
+    pub fn new(alloc: Global) -> BatchAsks
+        ensures { result ≡ [] }
+    {
+        BatchAsks {
+            items: Vec::new(alloc),
+        }
+    }
+
+    /// Appends what a line asks; after `NoMemory` the list is as before.
+    pub fn push(&mut self, item: Ask) -> Result<(), NoMemory>
+        ensures ok { OnOk result (self.new ≡ self.old ++ item ∷ []) }
+        ensures err { OnErr result (self.new ≡ self.old) }
+    {
+        self.items.push(item)?;
+        Ok(())
+    }
+
+    /// What the lines ask in order.
+    pub fn as_slice(&self) -> &[Ask]
+        ensures { result.now ≡ self.now }
+    {
+        self.items.as_slice()
+    }
+}
+
+/// What a request over HTTP asks.
+#[derive(Debug, Drop)]
+pub enum CallAsk {
+    One(Ask),
+    /// A dealer's lines, each by itself.
+    Batch(BatchAsks),
+}
+
+/// What a request asks, or its fault.
+pub(crate) fn answered(
+    alloc: Global,
+    target: &[u8],
+    method: &[u8],
+    size: Option<usize>,
+    body: &[u8],
+) -> Result<Result<CallAsk, HttpFault>, NoMemory>
+    ensures { IfOk result (λ answer. answer ≡ spec.answered target.now method.now size body.now) }
+{
+    let parts = parts_of(alloc, target)?;
+    answered_by(alloc, &parts, method, size, body)
+}
+
+fn answered_by(
+    alloc: Global,
+    parts: &[&[u8]],
+    method: &[u8],
+    size: Option<usize>,
+    body: &[u8],
+) -> Result<Result<CallAsk, HttpFault>, NoMemory>
+    ensures { IfOk result (λ answer. answer ≡ spec.answered_by (map (λ part. part.now) parts.now) method.now size body.now) }
+{
+    match route_of(parts) {
+        Route::Missing => Ok(Err(HttpFault::S404)),
+        Route::Batch => batch_answer(alloc, method, size, body),
+        Route::Posted => posted_answer(alloc, parts, method, size, body),
+        Route::Look => look_answer(alloc, parts, method),
+    }
+}
+
+fn batch_answer(
+    alloc: Global,
+    method: &[u8],
+    size: Option<usize>,
+    body: &[u8],
+) -> Result<Result<CallAsk, HttpFault>, NoMemory>
+    ensures { IfOk result (λ answer. answer ≡ (if bytes_eq method.now (codes "POST") then spec.with_length size (spec.batch_ask body.now) else Err HttpFault.S405)) }
+{
+    if !same_bytes(method, b"POST") {
+        Ok(Err(HttpFault::S405))
+    } else if size.is_none() {
+        Ok(Err(HttpFault::S411))
+    } else {
+        Ok(Ok(batch_ask(alloc, body)?))
+    }
+}
+
+fn posted_answer(
+    alloc: Global,
+    parts: &[&[u8]],
+    method: &[u8],
+    size: Option<usize>,
+    body: &[u8],
+) -> Result<Result<CallAsk, HttpFault>, NoMemory>
+    ensures { IfOk result (λ answer. answer ≡ (if bytes_eq method.now (codes "POST")
+        then spec.with_length size (CallAsk.One (form.asked (asked_by_body (form.field (map (λ part. part.now) parts.now) 3) body.now)))
+        else Err HttpFault.S405)) }
+{
+    if !same_bytes(method, b"POST") {
+        Ok(Err(HttpFault::S405))
+    } else if size.is_none() {
+        Ok(Err(HttpFault::S411))
+    } else {
+        let asks = asked(asked_by_body(alloc, part(parts, 3), body))?;
+        Ok(Ok(CallAsk::One(asks)))
+    }
+}
+
+fn look_answer(
+    alloc: Global,
+    parts: &[&[u8]],
+    method: &[u8],
+) -> Result<Result<CallAsk, HttpFault>, NoMemory>
+    ensures { IfOk result (λ answer. answer ≡ (if bytes_eq method.now (codes "GET")
+        then Ok (CallAsk.One (form.asked (asked_by (form.field (map (λ part. part.now) parts.now) 3) (drop 3 (map (λ part. part.now) parts.now)))))
+        else Err HttpFault.S405)) }
+{
+    if !same_bytes(method, b"GET") {
+        return Ok(Err(HttpFault::S405));
+    }
+    let asks = asked(asked_by(alloc, part(parts, 3), behind(parts, 3)))?;
+    Ok(Ok(CallAsk::One(asks)))
+}
+
+// What was read is asked, and a fault of the form is a bad form.
+fn asked(read: Result<Request, FormFault>) -> Result<Ask, NoMemory>
+    ensures { (want : Result Request ℕ) → Gives read want → IfOk result (λ asks. asks ≡ form.asked want) }
+{
+    match read {
+        Ok(request) => Ok(Ask::Request(request)),
+        Err(FormFault::Place(place)) => Ok(Ask::BadForm(place)),
+        Err(FormFault::NoMemory) => Err(NoMemory),
+    }
+}
+
+fn batch_ask(alloc: Global, body: &[u8]) -> Result<CallAsk, NoMemory>
+    ensures { IfOk result (λ asks. asks ≡ spec.batch_ask body.now) }
+{
+    let rows = records_of(alloc, body)?;
+    if rows.len() > 4096 {
+        return Ok(CallAsk::One(Ask::BadForm(0)));
+    }
+    Ok(CallAsk::Batch(line_asks(alloc, &rows)?))
+}
+
+fn line_asks(alloc: Global, rows: &[Fields]) -> Result<BatchAsks, NoMemory>
+    ensures { IfOk result (λ asks. asks ≡ map (λ row. form.asked (batch_line row)) rows.now) }
+{
+    let mut asks = BatchAsks::new(alloc);
+    for row in rows {
+        asks.push(line_ask(alloc, row)?)?;
+    }
+    Ok(asks)
+}
+
+fn line_ask(alloc: Global, row: &Fields) -> Result<Ask, NoMemory>
+    ensures { IfOk result (λ asks. asks ≡ form.asked (batch_line row.now)) }
+{
+    let texts = slices_of(alloc, row.texts())?;
+    asked(line_asked(&texts))
+}

@@ -1,0 +1,155 @@
+//! The route of a path.
+ghost use Rattle.std.specs.Prelude.{◌≡◌, ◌≤◌, map, drop, IfOk};
+ghost use Rattle.std.specs.List.{list_all, position_or_len, slice_split};
+ghost use Rattle.agent_events.specs.Forms.{field};
+ghost use Rattle.http_calls.specs.Calls as spec;
+
+use crate::body::is_posted;
+use money_units::NoMemory;
+use request_fields::same_bytes;
+use std::alloc::{AllocError, Global};
+
+/// What stands at a path.
+#[derive(Clone, Copy, Debug)]
+pub(crate) enum Route {
+    Missing,
+    /// A batch of a dealer's lines by POST.
+    Batch,
+    /// A verb by POST.
+    Posted,
+    /// A look by GET.
+    Look,
+}
+
+/// The parts of a target's path between slashes.
+pub(crate) fn parts_of(alloc: Global, target: &[u8]) -> Result<Vec<&[u8]>, NoMemory>
+    ensures { IfOk result (λ parts. map (λ part. part.now) parts.items ≡ spec.parts_of (spec.path_of target.now)) }
+{
+    Ok(slash_parts(alloc, path_of(target))?)
+}
+
+fn slash_parts(alloc: Global, path: &[u8]) -> Result<Vec<&[u8]>, AllocError>
+    ensures { IfOk result (λ parts. map (λ part. part.now) parts.items ≡ slice_split spec.is_slash path.now) }
+{
+    path.split(|byte| *byte == b'/').collect(alloc)
+}
+
+// The target up to a question mark.
+fn path_of(target: &[u8]) -> &[u8]
+    ensures { result.now ≡ spec.path_of target.now }
+{
+    &target[..question_of(target)]
+}
+
+fn question_of(target: &[u8]) -> usize
+    ensures { result ≡ position_or_len spec.is_question target.now }
+{
+    target
+        .iter()
+        .position(|byte| *byte == b'?')
+        .unwrap_or(target.len())
+}
+
+/// The part at this place, from 1; past the last it is empty.
+pub(crate) fn part<'a>(parts: &[&'a [u8]], place: usize) -> &'a [u8]
+    requires { 1 ≤ place }
+    ensures { result.now ≡ field (map (λ part. part.now) parts.now) place }
+{
+    match parts.get(place - 1) {
+        Some(part) => part,
+        None => &[],
+    }
+}
+
+/// The route by all parts of a path.
+pub(crate) fn route_of(parts: &[&[u8]]) -> Route
+    ensures { result ≡ spec.route_of (map (λ part. part.now) parts.now) }
+{
+    if is_rooted(parts) && are_filled(behind(parts, 2)) {
+        route_in(behind(parts, 2))
+    } else {
+        Route::Missing
+    }
+}
+
+/// The parts behind so many.
+pub(crate) fn behind<'a, 'b>(parts: &'b [&'a [u8]], count: usize) -> &'b [&'a [u8]]
+    ensures { map (λ part. part.now) result.now ≡ drop count (map (λ part. part.now) parts.now) }
+{
+    if parts.len() < count {
+        &[]
+    } else {
+        &parts[count..]
+    }
+}
+
+fn is_rooted(parts: &[&[u8]]) -> bool
+    ensures { result ≡ spec.is_rooted (map (λ part. part.now) parts.now) }
+{
+    same_bytes(part(parts, 1), b"") && same_bytes(part(parts, 2), b"v1")
+}
+
+fn are_filled(parts: &[&[u8]]) -> bool
+    ensures { result ≡ list_all spec.is_filled (map (λ part. part.now) parts.now) }
+{
+    all_filled(parts)
+}
+
+fn all_filled(parts: &[&[u8]]) -> bool
+    ensures { result ≡ list_all (λ part. spec.is_filled part.now) parts.now }
+{
+    parts.iter().all(|part| is_filled(part))
+}
+
+fn is_filled(part: &[u8]) -> bool
+    ensures { result ≡ spec.is_filled part.now }
+{
+    !part.is_empty()
+}
+
+fn route_in(parts: &[&[u8]]) -> Route
+    ensures { result ≡ spec.route_in (map (λ part. part.now) parts.now) }
+{
+    let verb = part(parts, 1);
+    if parts.len() == 1 {
+        verb_route(verb)
+    } else if parts.len() == 2 {
+        look_route(verb, b"show")
+    } else if parts.len() == 3 {
+        look_route(verb, b"trace")
+    } else if parts.len() == 4 {
+        look_route(verb, b"statement")
+    } else {
+        Route::Missing
+    }
+}
+
+fn look_route(verb: &[u8], known: &[u8]) -> Route
+    ensures { result ≡ spec.look_route verb.now known.now }
+{
+    if same_bytes(verb, known) {
+        Route::Look
+    } else {
+        Route::Missing
+    }
+}
+
+fn verb_route(verb: &[u8]) -> Route
+    ensures { result ≡ spec.verb_route verb.now }
+{
+    if same_bytes(verb, b"batch") {
+        Route::Batch
+    } else if same_bytes(verb, b"books") {
+        Route::Look
+    } else if is_body_verb(verb) {
+        Route::Posted
+    } else {
+        Route::Missing
+    }
+}
+
+fn is_body_verb(verb: &[u8]) -> bool
+    ensures { result ≡ spec.is_body_verb verb.now }
+{
+    is_posted(verb) || (same_bytes(verb, b"enter") || same_bytes(verb, b"replace"))
+}

@@ -1,0 +1,4 @@
+pub mod ItemLists
+pub mod FaultLaws
+pub mod ObjectLaws
+pub mod BuiltLaws

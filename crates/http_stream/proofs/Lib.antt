@@ -1,0 +1,7 @@
+pub mod LineLaws
+pub mod FrontLaws
+pub mod HeadLaws
+pub mod FieldLaws
+pub mod MoreLaws
+pub mod LookLaws
+pub mod ItemLaws

@@ -1,0 +1,11 @@
+use Rattle.std.proofs.Common.{List, ℕ, Option, Some, ap, subst}
+use Rattle.http_stream.specs.declared.head.HeadAt.{HeadAt}
+use Rattle.http_stream.specs.Kept.{StandsAt}
+use Rattle.http_stream.specs.Stream.{Stream}
+use Rattle.http_stream.proofs.intake.Intake.find_head.Goals as goal
+
+pub returns-in-Some-clause-seen : goal.returns-in-Some-clause-seen
+returns-in-Some-clause-seen c =
+    let P : Option HeadAt → Type 0 = λ waiting. StandsAt c.args.self.now.rest waiting in
+    let Q : Stream → Type 0 = λ stream. StandsAt stream.rest c.self.inside.waiting in
+    subst P c.in-Some.is (subst Q c.self.view_is c.self.invariant.1.stands)

@@ -1,0 +1,9 @@
+-- What is gathered, in front of what is still read, is the whole list.
+use Rattle.std.proofs.Common.{◌≡◌, drop, map}
+use Rattle.agent_events.specs.Fields.{each, list_items, basis_points}
+use Rattle.request_fields.proofs.ItemLists.{with_front}
+use Rattle.request_fields.proofs.list_forms.rates_of.Given as goal
+
+abbrev pub invariant-loop-item : goal.invariant-loop-item
+invariant-loop-item l =
+    with_front l.rates (each basis_points (drop l.item-index (map (λ item. item.now) l.item-items))) ≡ each basis_points (list_items l.text)

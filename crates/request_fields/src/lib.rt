@@ -1,0 +1,16 @@
+//! The fields of requests: the form of each field, read once for script records, batch records, JSON members and the parts of a
+//! path, and what the fields of each verb ask.
+#![tactic(auto)]
+
+mod fault;
+mod field_forms;
+mod list_forms;
+mod order_forms;
+mod reading;
+mod text_forms;
+mod verb_forms;
+
+pub use crate::fault::FormFault;
+pub use crate::field_forms::{moment_of, same_bytes};
+pub use crate::order_forms::{line_asked, order_count};
+pub use crate::verb_forms::{asked_by, buy_request, class_request, sheet_request, show_request};
