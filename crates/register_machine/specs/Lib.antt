@@ -1,33 +1,17 @@
-pub mod Journal
-pub mod Replay
-pub mod Answer
-pub mod PathScript
-pub mod Worked
-pub mod Laws
-pub mod Journals
-pub mod Views
-pub mod Pricing
-pub mod CorrectedBook
-pub mod Positions
-pub mod Trades
-pub mod Purchases
-pub mod Redemptions
-pub mod DayStep
-pub mod Replays
-pub mod Cash
-pub mod Corrections
-pub mod Callers
-pub mod NamedThings
-pub mod OrderRules
-pub mod RegisterRules
-pub mod Looks
-pub mod Statements
-pub mod Machine
-pub mod Lawful
-pub mod Batches
-pub mod Script
-pub mod WorkedRuns
-pub mod MachineLaws
-pub mod IdentityLaws
-pub mod CashLaws
-pub mod TradeLaws
+-- The reading order of the whole register, chapter by chapter.
+-- the journal: what happened, in order, what its events say, and who sees which of them
+pub mod journal
+-- prices and orders as they stand after all corrections
+pub mod pricing
+-- what a sheet does to the shares of all holders, and the replay of all sheets
+pub mod replay
+-- cash, gains and losses, and who pays
+pub mod corrections
+-- who may ask what, and what a request is refused for
+pub mod rules
+-- what the register shows
+pub mod queries
+-- the machine: from a request to its answer, and from a script to its lines
+pub mod run
+-- what the program runs today: one class without a load. It goes out when the desk is rebuilt on the whole register
+pub mod first_path

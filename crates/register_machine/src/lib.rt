@@ -1,14 +1,6 @@
-//! The register machine: the definitions that the register is proved to follow, from the journal to the lines of a
-//! script, with worked runs and laws above them. It has no code but laws.
+//! The register machine: the definitions that the register is proved to follow, from the journal to the lines of a script,
+//! chapter by chapter (specs/Lib.antt is the reading order). It has no code but the laws of the first path; the laws of the
+//! whole register stand in `register_laws`, its worked scripts in `register_worked`.
 #![tactic(auto)]
 
-pub mod laws;
-pub mod machine_laws;
-pub mod worked;
-pub mod worked_batches;
-pub mod worked_corrections;
-pub mod worked_letters;
-pub mod worked_orders;
-pub mod worked_purchases;
-pub mod worked_redemptions;
-pub mod worked_sheets;
+pub mod first_path;

@@ -1,5 +1,0 @@
-use Rattle.register_machine.proofs.IdentityFacts.{run_has_no_class_twice}
-use Rattle.register_machine.proofs.machine_laws.no_class_stands_twice.Goals as goal
-
-pub returns : goal.returns
-returns c = run_has_no_class_twice

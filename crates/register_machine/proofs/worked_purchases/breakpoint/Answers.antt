@@ -1,7 +1,0 @@
-use Rattle.std.proofs.Common.{refl}
-use Rattle.register_machine.proofs.OnLiterals.{machine_on_literals}
-use Rattle.register_machine.proofs.worked_purchases.breakpoint.Goals as goal
-
-pub returns : goal.returns
-unfolding machine_on_literals
-returns c = refl

@@ -1,0 +1,111 @@
+-- What one sheet does to the register: its trades. An order on a sheet is filled, or it is unfilled for the first of the
+-- reasons that holds.
+use Rattle.std.specs.Prelude.{List, None, Option, Some, [], ℕ, ◌++◌, ◌∷◌, unwrap_or}
+use Rattle.agent_events.specs.declared.order.Order.{Order}
+use Rattle.forward_price.specs.Sheets.{nav_on}
+use Rattle.forward_price.specs.declared.price_sheet.Sheet.{Sheet}
+use Rattle.register_machine.specs.journal.Choices.{first_some}
+use Rattle.register_machine.specs.pricing.OrderClasses.{class_of, target_of}
+use Rattle.register_machine.specs.pricing.PublishedTable.{moment_of}
+use Rattle.register_machine.specs.replay.Positions.{Position, Register, put}
+
+pub data Why : Type 0 where
+  Short : (loose : ℕ) → Why
+  TooSmall : Why
+  Ceiling : Why
+  LetterOpen : Why
+
+pub data Outcome : Type 0 where
+  Filled : Outcome
+  Unfilled : Why → Outcome
+
+pub data TradeKind : Type 0 where
+  Buy : TradeKind
+  Sell : TradeKind
+  Exchange : TradeKind
+  Letter : TradeKind
+  LetterReached : TradeKind
+  LetterEnded : TradeKind
+  ElectCash : TradeKind
+  ElectShares : TradeKind
+  DividendShares : TradeKind
+  DividendCash : TradeKind
+
+-- A trade on a sheet, with 0 where a field has no part: the reference of its order, the price in cents, the mils and the
+-- new mils of an exchange, the cash and the charge in cents.
+--   a purchase            its offering price, the shares bought, the gross, and the charge within it
+--   a redemption          the net asset value, the shares sold, their value, and the deferred charge within it
+--   an exchange           the net asset value of its class, the shares given and those got, and the value that goes over
+--   a letter that begins  its amount as `cash`, though no cash moves
+--   one ended by date     the net asset value, the shares paid, what they pay as `cash`, and the waived part as `charge`
+--   a dividend            its cash; where it is reinvested, the net asset value and the shares got too
+-- Elections, letters that are reached and unfilled orders have none of these numbers.
+pub record Trade : Type 0 where
+  pub sheet : ℕ
+  pub moment : ℕ
+  pub day : ℕ
+  pub account : ℕ
+  pub ref_no : ℕ
+  pub kind : TradeKind
+  pub outcome : Outcome
+  pub class : ℕ
+  pub to_class : ℕ
+  pub price : ℕ
+  pub mils : ℕ
+  pub to_mils : ℕ
+  pub cash : ℕ
+  pub charge : ℕ
+
+-- a trade of an account and class without an order
+abbrev pub plain_trade : Sheet → ℕ → ℕ → TradeKind → Trade
+plain_trade sheet account class kind = record {
+  sheet = sheet.number;
+  moment = moment_of sheet;
+  day = sheet.day;
+  account = account;
+  ref_no = 0;
+  kind = kind;
+  outcome = Outcome.Filled;
+  class = class;
+  to_class = 0;
+  price = 0;
+  mils = 0;
+  to_mils = 0;
+  cash = 0;
+  charge = 0;
+}
+
+-- and with one
+abbrev pub order_trade : Sheet → Order → TradeKind → Trade
+order_trade sheet order kind =
+    record (plain_trade sheet order.account (class_of order.body) kind) {
+      ref_no = order.ref_no;
+      to_class = unwrap_or (target_of order.body) 0;
+    }
+
+-- the register and the trades so far, within one sheet or over many
+pub record Day : Type 0 where
+  pub register : Register
+  pub trades : List Trade
+
+abbrev pub with_trade : Day → Trade → Day
+with_trade day trade = record { register = day.register; trades = day.trades ++ trade ∷ [] }
+
+abbrev pub with_position : Day → Position → Day
+with_position day position = record { register = put position day.register; trades = day.trades }
+
+-- a trade that leaves this position
+abbrev pub day_after_trade : Day → Position → Trade → Day
+day_after_trade day position trade = with_trade (with_position day position) trade
+
+-- the order is unfilled for the first reason that holds, else it is done
+abbrev pub day_unless : Option Why → Day → Trade → Day → Day
+day_unless None day trade done = done
+day_unless (Some why) day trade done = with_trade day (record trade { outcome = Outcome.Unfilled why })
+
+abbrev pub day_unless_any : List (Option Why) → Day → Trade → Day → Day
+day_unless_any reasons day trade done = day_unless (first_some reasons) day trade done
+
+-- the net asset value of a class on a sheet
+abbrev pub nav_of : Sheet → ℕ → ℕ
+nav_of sheet class = unwrap_or (nav_on sheet.prices class) 0
