@@ -1,0 +1,71 @@
+-- What one event more does to what a journal says.
+use Rattle.std.proofs.Common.{List, None, Option, Some, [], ap, append-nil, append_assoc, fold, option_to_list, refl, sym, ◌++◌, ◌∙◌, ◌∷◌, ◌≡◌}
+use Rattle.std.proofs.lemmas.List.Elements.{filter_map-append}
+use Rattle.std.specs.List.{cons_option}
+use Rattle.agent_events.specs.Events.{Event}
+use Rattle.agent_events.specs.declared.event.EventKind.{EventKind}
+use Rattle.agent_events.specs.declared.request.DividendForm.{DividendForm}
+use Rattle.agent_events.specs.declared.request.FixRateForm.{FixRateForm}
+use Rattle.forward_price.specs.PriceTables.{Table}
+use Rattle.register_laws.proofs.Runs.{table-one}
+use Rattle.register_laws.specs.OneEventMore.{KindsGoOn, PaymentsGoOn, RatesGoOn, TableGoesOn, rates_after}
+use Rattle.register_machine.specs.corrections.Payments.{bearer_in, payments_for, payments_from}
+use Rattle.register_machine.specs.journal.Journals.{Journal, with_event}
+use Rattle.register_machine.specs.journal.Kinds.{account_in, calendar_in, class_in, closure_in, dealer_in, dividend_in, each_in, household_in, rate_fix_in, sheet_in}
+use Rattle.register_machine.specs.pricing.DividendRates.{Rates, rates_of}
+use Rattle.register_machine.specs.pricing.PublishedTable.{empty_table, table_after, table_behind}
+
+-- ---- kinds
+
+one-chosen : {X : Type 0} (found : Option X) → cons_option found [] ≡ option_to_list found
+one-chosen None = refl
+one-chosen (Some x) = refl
+
+pub gathers-on : {X : Type 0} (chosen : EventKind → Option X) (journal : Journal) (event : Event) → each_in chosen (with_event journal event) ≡ each_in chosen journal ++ option_to_list (chosen event.kind)
+gathers-on chosen journal event =
+    filter_map-append (λ (e : Event). chosen e.kind) journal (event ∷ [])
+    ∙ ap (λ more. each_in chosen journal ++ more) (one-chosen (chosen event.kind))
+
+pub kinds_go_on : (journal : Journal) (event : Event) → KindsGoOn journal event
+kinds_go_on journal event = record {
+  calendars = gathers-on calendar_in journal event;
+  closures = gathers-on closure_in journal event;
+  classes = gathers-on class_in journal event;
+  dealers = gathers-on dealer_in journal event;
+  households = gathers-on household_in journal event;
+  accounts = gathers-on account_in journal event;
+  sheets = gathers-on sheet_in journal event;
+}
+
+-- ---- rates
+
+rates-by : (rates : Rates) (kind : EventKind) → record { declared = rates.declared ++ option_to_list (dividend_in kind); fixed = rates.fixed ++ option_to_list (rate_fix_in kind) } ≡ rates_after rates kind
+rates-by rates (EventKind.Dividend form) = ap (λ (fixed : List FixRateForm). record { declared = rates.declared ++ form ∷ []; fixed = fixed }) (append-nil rates.fixed)
+rates-by rates (EventKind.FixRate form) = ap (λ (declared : List DividendForm). record { declared = declared; fixed = rates.fixed ++ form ∷ [] }) (append-nil rates.declared)
+rates-by rates _ =
+    ap (λ (declared : List DividendForm). record { declared = declared; fixed = rates.fixed ++ [] }) (append-nil rates.declared)
+    ∙ ap (λ (fixed : List FixRateForm). record { declared = rates.declared; fixed = fixed }) (append-nil rates.fixed)
+
+pub rates_go_on : (journal : Journal) (event : Event) → RatesGoOn journal event
+rates_go_on journal event =
+    ap (λ (declared : List DividendForm). record { declared = declared; fixed = each_in rate_fix_in (with_event journal event) }) (gathers-on dividend_in journal event)
+    ∙ (ap (λ (fixed : List FixRateForm). record { declared = each_in dividend_in journal ++ option_to_list (dividend_in event.kind); fixed = fixed }) (gathers-on rate_fix_in journal event)
+    ∙ rates-by (rates_of journal) event.kind)
+
+-- ---- payments
+
+payments-on : (table : Table) (before later : Journal) (event : Event) → payments_from table before (later ++ event ∷ []) ≡ payments_from table before later ++ payments_for (bearer_in event.kind) (table_behind table later) (before ++ later) event
+unfolding table_behind
+payments-on table before [] event =
+    append-nil (payments_for (bearer_in event.kind) table before event)
+    ∙ ap (λ known. payments_for (bearer_in event.kind) table known event) (sym (append-nil before))
+payments-on table before (first ∷ later) event =
+    ap (λ more. payments_for (bearer_in first.kind) table before first ++ more) (payments-on (table_after table first) (with_event before first) later event)
+    ∙ (sym (append_assoc (payments_for (bearer_in first.kind) table before first) (payments_from (table_after table first) (with_event before first) later) (payments_for (bearer_in event.kind) (fold table_after (table_after table first) later) (with_event before first ++ later) event))
+    ∙ ap (λ known. (payments_for (bearer_in first.kind) table before first ++ payments_from (table_after table first) (with_event before first) later) ++ payments_for (bearer_in event.kind) (fold table_after (table_after table first) later) known event) (append_assoc before (first ∷ []) later))
+
+pub payments_go_on : (journal : Journal) (event : Event) → PaymentsGoOn journal event
+payments_go_on journal event = payments-on empty_table [] journal event
+
+pub table_goes_on : (journal : Journal) (event : Event) → TableGoesOn journal event
+table_goes_on journal event = table-one journal event

@@ -1,0 +1,76 @@
+-- The price table that a run carries is that of its journal, and what each answer keeps, a run keeps.
+use Rattle.std.proofs.Common.{Bool, Err, List, Ok, [], ap, append-nil, cond, false, fold, nat_lt, refl, subst, sym, true, ℕ, ◌++◌, ◌∙◌, ◌∷◌, ◌≡◌, ◌≤◌}
+use Rattle.std.proofs.lemmas.Bool.{ltb-false}
+use Rattle.std.proofs.lemmas.List.Sums.{fold-append}
+use Rattle.agent_events.specs.Events.{Event}
+use Rattle.agent_events.specs.Forms.{asked}
+use Rattle.agent_events.specs.Items.{ScriptItem}
+use Rattle.agent_events.specs.VerbForms.{Asked}
+use Rattle.agent_events.specs.declared.reply.Refusal.{Refusal}
+use Rattle.agent_events.specs.declared.request.Request.{Request}
+use Rattle.forward_price.specs.PriceTables.{Table}
+use Rattle.register_laws.specs.Answers.{AnswersByTheJournal, KeepsItsTable}
+use Rattle.register_machine.specs.journal.Journals.{Journal, last_moment, with_event}
+use Rattle.register_machine.specs.pricing.PublishedTable.{empty_table, table_after, table_behind, table_by, table_of}
+use Rattle.register_machine.specs.rules.Callers.{caller_of}
+use Rattle.register_machine.specs.rules.Situations.{situation_at}
+use Rattle.register_machine.specs.run.Answers.{Answer, answer, answer_asked, refuses}
+use Rattle.register_machine.specs.run.Scripts.{Run, empty_run, item_answer, item_step, run_from, situation_in}
+
+-- the table behind one event more
+pub table-one : (journal : Journal) (event : Event) → table_of (with_event journal event) ≡ table_by (table_of journal) event.moment event.kind
+unfolding table_behind
+table-one journal event = fold-append table_after empty_table journal (event ∷ [])
+
+table-more : (table : Table) (journal events : Journal) → table ≡ table_of journal → table_behind table events ≡ table_of (journal ++ events)
+unfolding table_behind
+table-more table journal events e =
+    ap (λ known. fold table_after known events) e ∙ sym (fold-append table_after empty_table journal events)
+
+table-run : (built : Request → Bool) (operator : List ℕ) (run : Run) (items : List ScriptItem) → KeepsItsTable run → KeepsItsTable (fold (item_step built operator) run items)
+unfolding item_step
+table-run built operator run [] keeps = keeps
+table-run built operator run (first ∷ items) keeps =
+    table-run built operator (item_step built operator run first) items (table-more run.table run.journal (item_answer built operator run first).events keeps)
+
+pub run_keeps_its_table : (built : Request → Bool) (operator : List ℕ) (items : List ScriptItem) → KeepsItsTable (run_from built operator empty_run items)
+unfolding run_from table_behind
+run_keeps_its_table built operator items = table-run built operator empty_run items refl
+
+-- what holds of every refusal, and of the answer to a request that doesn't come before the last event, holds of an item's
+each-item : (C : Answer → Type 0) (built : Request → Bool) (operator : List ℕ) (run : Run) (item : ScriptItem) → ((refusal : Refusal) → C (refuses refusal)) → ((now : ℕ) (key : List ℕ) (request : Request) → last_moment run.journal ≤ now → C (answer (situation_in operator run now key) request)) → C (item_answer built operator run item)
+each-item C built operator run ScriptItem.Bad refused answered = refused (Refusal.BadForm 0)
+each-item C built operator run (ScriptItem.Good now key asked) refused answered = by_moment (nat_lt now (last_moment run.journal)) refl
+  where
+    by_request : (request : Request) → last_moment run.journal ≤ now → (is_built : Bool) → C (cond is_built (answer (situation_in operator run now key) request) (refuses Refusal.Unbuilt))
+    by_request request late true = answered now key request late
+    by_request request late false = refused Refusal.Unbuilt
+
+    by_asked : (asked : Asked) → last_moment run.journal ≤ now → C (answer_asked built (situation_in operator run now key) asked)
+    by_asked (Ok request) late = by_request request late (built request)
+    by_asked (Err place) late = refused (Refusal.BadForm place)
+
+    by_moment : (early : Bool) → nat_lt now (last_moment run.journal) ≡ early → C (cond early (refuses (Refusal.StampBack (last_moment run.journal))) (answer_asked built (situation_in operator run now key) asked))
+    by_moment true e = refused (Refusal.StampBack (last_moment run.journal))
+    by_moment false e = by_asked asked (ltb-false now (last_moment run.journal) e)
+
+-- so what each answer to a caller by its key keeps, in a situation with its journal's own table, a run keeps
+run-with-table : (P : Journal → Type 0) (operator : List ℕ) → ((journal : Journal) (now : ℕ) (key : List ℕ) (request : Request) → last_moment journal ≤ now → P journal → P (journal ++ (answer (situation_at (table_of journal) journal now (caller_of journal operator key)) request).events)) → (built : Request → Bool) (run : Run) (items : List ScriptItem) → KeepsItsTable run → P run.journal → P (fold (item_step built operator) run items).journal
+unfolding item_step
+run-with-table P operator keeps built run [] own holds = holds
+run-with-table P operator keeps built run (first ∷ items) own holds =
+    run-with-table P operator keeps built (item_step built operator run first) items
+    (table-more run.table run.journal (item_answer built operator run first).events own)
+    (each-item (λ said. P (run.journal ++ said.events)) built operator run first
+    (λ refusal. subst P (sym (append-nil run.journal)) holds)
+    (λ now key request late.
+    subst (λ table. P (run.journal ++ (answer (situation_at table run.journal now (caller_of run.journal operator key)) request).events)) (sym own)
+    (keeps run.journal now key request late holds)))
+
+pub run-keeps-its : (P : Journal → Type 0) (operator : List ℕ) → ((journal : Journal) (now : ℕ) (key : List ℕ) (request : Request) → last_moment journal ≤ now → P journal → P (journal ++ (answer (situation_at (table_of journal) journal now (caller_of journal operator key)) request).events)) → (built : Request → Bool) (items : List ScriptItem) → P [] → P (run_from built operator empty_run items).journal
+unfolding run_from table_behind
+run-keeps-its P operator keeps built items holds = run-with-table P operator keeps built empty_run items refl holds
+
+pub answers_by_the_journal : (operator : List ℕ) (run : Run) (now : ℕ) (key : List ℕ) (request : Request) → AnswersByTheJournal operator run now key request
+answers_by_the_journal operator run now key request own =
+    ap (λ table. answer (situation_at table run.journal now (caller_of run.journal operator key)) request) own

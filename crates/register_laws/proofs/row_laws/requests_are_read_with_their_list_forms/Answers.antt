@@ -1,0 +1,5 @@
+use Rattle.register_laws.proofs.ListForms.{reads_list_forms}
+use Rattle.register_laws.proofs.row_laws.requests_are_read_with_their_list_forms.Goals as goal
+
+pub returns : goal.returns
+returns c = reads_list_forms
