@@ -1,0 +1,3 @@
+-- words for scripts, and for the members of JSON bodies
+pub mod WorkedRuns
+pub mod WorkedMembers
