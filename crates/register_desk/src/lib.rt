@@ -1,7 +1,6 @@
 //! The register and order desk: it answers requests as the register machine does and keeps the journal.
 #![tactic(auto)]
 
-mod content;
 mod copies;
 mod desk;
 mod register;
