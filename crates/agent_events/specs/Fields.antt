@@ -1,6 +1,7 @@
 -- The forms of single fields, as readers of a text: the value where the text is in the form.
-use Rattle.std.specs.Prelude.{ℕ, ◌+◌, ◌-◌, ◌*◌, Bool, true, false, not, ◌&&◌, ◌||◌, nat_lt, nat_le, nat_eq, ◌==◌, if◌then◌else◌, List, [], ◌∷◌, length, take, drop, slice_index, Option, Some, None, option_map, option_and_then, codes, bytes_eq}
-use Rattle.std.specs.List.{list_all, slice_split, before_first, after_first, starts_with}
+use Rattle.std.specs.Prelude.{ℕ, ◌+◌, ◌-◌, ◌*◌, Bool, true, false, not, ◌&&◌, ◌||◌, nat_lt, nat_le, ◌==◌, if◌then◌else◌, List, [], ◌∷◌, length, take, drop, slice_index, Option, Some, None, option_map, option_and_then, codes, bytes_eq}
+use Rattle.std.specs.List.{list_all, slice_split, before_first, after_first}
+use Rattle.money_units.specs.ByteTexts.{begins, is_visible}
 use Rattle.money_units.specs.Texts.{number, money, shares, rate as millionths}
 use Rattle.fund_calendar.specs.DayText.{two_digits, read_day}
 use Rattle.class_terms.specs.declared.lists.Bracket.{Bracket}
@@ -45,12 +46,9 @@ basis_points text = within 0 65535 (number text)
 abbrev pub flag : List ℕ → Option Bool
 flag text = if bytes_eq text (codes "1") then Some true else if bytes_eq text (codes "0") then Some false else None
 
--- a byte from space to tilde, and one from `!` to tilde
+-- a byte from space to tilde
 abbrev pub is_printable : ℕ → Bool
 is_printable byte = nat_le 32 byte && nat_le byte 126
-
-abbrev pub is_visible : ℕ → Bool
-is_visible byte = nat_le 33 byte && nat_le byte 126
 
 -- 1 to 40 printable bytes, the first and the last no space
 abbrev pub is_label : List ℕ → Bool
@@ -159,9 +157,6 @@ holidays text = option_and_then if_holidays (each read_day (list_items text))
 -- a small letter or a digit
 abbrev pub is_key_byte : ℕ → Bool
 is_key_byte byte = (nat_le 97 byte && nat_le byte 122) || (nat_le 48 byte && nat_le byte 57)
-
-abbrev pub begins : List ℕ → List ℕ → Bool
-begins prefix text = starts_with nat_eq text prefix
 
 -- the key of a household: `h-`, then 8 to 56 of a to z and 0 to 9
 abbrev pub is_household_key : List ℕ → Bool

@@ -10,7 +10,8 @@ use Rattle.agent_events.specs.declared.order.Order.{Order}
 use Rattle.agent_events.specs.declared.request.Request.{Request}
 use Rattle.agent_events.specs.declared.item.Ask.{Ask}
 use Rattle.agent_events.specs.declared.item.Item.{Item}
-use Rattle.agent_events.specs.Fields.{identifier, identifier_or_none, reference, moment, amount, minimum, flag, label, brackets, rates, prices, is_visible}
+use Rattle.agent_events.specs.Fields.{identifier, identifier_or_none, reference, moment, amount, minimum, flag, label, brackets, rates, prices}
+use Rattle.money_units.specs.ByteTexts.{is_visible}
 
 -- the field at this place, from 1
 abbrev pub field : List (List ℕ) → ℕ → List ℕ

@@ -1,3 +1,4 @@
+//! Events of the journal.
 ghost use Rattle.std.specs.Prelude.{◌≡◌, true};
 ghost use Rattle.agent_events.specs.Events.{fits_row};
 

@@ -1,3 +1,4 @@
+//! Numbers of the trade, each in its range.
 ghost use Rattle.std.specs.Prelude.{◌≡◌, ◌≤◌, ◌<◌, SomeIff};
 
 use money_units::{Cents, Mils};

@@ -15,9 +15,10 @@ mod reply;
 mod reply_lists;
 mod request;
 mod rows;
-#[cfg(test)]
-mod tests;
 mod texts;
+mod totals;
+mod trade;
+mod verdict;
 
 pub use crate::checkpoint::{LetterRow, LotRow, LotRows, PositionRow, PositionRows, StateRow};
 pub use crate::event::{Event, EventKind, Placed, Source};
@@ -40,3 +41,6 @@ pub use crate::request::{
 };
 pub use crate::rows::{AccountRow, RateRow, Rates};
 pub use crate::texts::{DealerKey, HouseholdKey, Name, ZoneText};
+pub use crate::totals::{CashChange, Changes, ClassMils, MilsChange, PartyCash, Totals};
+pub use crate::trade::{Outcome, Trade, TradeKind, Trades, Why};
+pub use crate::verdict::{Caller, Verdict};

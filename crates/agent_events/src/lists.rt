@@ -1,11 +1,10 @@
-ghost use Rattle.std.specs.Prelude.{◌≡◌, true, nat_lt, nat_le, ◌&&◌, length, [], ◌∷◌, ◌++◌, OnOk, OnErr};
-ghost use Rattle.std.specs.List.{list_all};
-ghost use Rattle.agent_events.specs.Fields.{is_floor, are_floors, if_floors, is_rising, rises_above, if_rising, are_rising, are_holidays, if_holidays};
+//! Lists that rise: prices by class, holidays by date, brackets by floor.
+ghost use Rattle.std.specs.Prelude.{◌≡◌, true, ◌&&◌};
+ghost use Rattle.agent_events.specs.Fields.{is_floor, are_floors, if_floors, is_rising, if_rising, are_rising, are_holidays, if_holidays};
 
 use class_terms::{Bracket, Brackets};
 use fund_calendar::Day;
-use money_units::{Nav, NoMemory};
-use std::alloc::Global;
+use money_units::{List, Nav};
 use std::marker::Model;
 
 /// The most holidays of a calendar.
@@ -14,46 +13,8 @@ const MAX_HOLIDAYS: usize = 3_660;
 /// The most cents that a floor can have in its form, 13 digits of dollars.
 const MAX_FLOOR_CENTS: u64 = 999_999_999_999_999;
 
-/// The list of a sheet as it is gathered: a class and its net asset value, item by item, which contracts see as that list.
-#[derive(Debug, Drop)]
-pub struct SheetPrices {
-    items: Vec<(u32, Nav)>,
-}
-
-impl Model for SheetPrices {
-    ghost use Rattle.std.specs.Prelude.{ℕ, List};
-
-    ghost Value = { List (ℕ × ℕ) };
-
-    ghost view = { λ prices. prices.items.items };
-}
-
-impl SheetPrices {
-    /// The empty list, which takes no memory yet.
-    pub fn new(alloc: Global) -> SheetPrices
-        ensures { result ≡ [] }
-    {
-        SheetPrices {
-            items: Vec::new(alloc),
-        }
-    }
-
-    /// Appends a class and its net asset value; after `NoMemory` the list is as before.
-    pub fn push(&mut self, item: (u32, Nav)) -> Result<(), NoMemory>
-        ensures ok { OnOk result (self.new ≡ self.old ++ item ∷ []) }
-        ensures err { OnErr result (self.new ≡ self.old) }
-    {
-        self.items.push(item)?;
-        Ok(())
-    }
-
-    /// The items in order.
-    pub fn as_slice(&self) -> &[(u32, Nav)]
-        ensures { result.now ≡ self.now }
-    {
-        self.items.as_slice()
-    }
-}
+/// The list of a sheet as it is gathered: a class and its net asset value, item by item.
+pub type SheetPrices = List<(u32, Nav)>;
 
 /// The list of a sheet in its form: classes from 1 on that rise strictly, each with its net asset value.
 #[derive(Debug, Drop)]
@@ -107,46 +68,8 @@ fn is_rising(prices: &[(u32, Nav)]) -> bool
     true
 }
 
-/// Dates as they are gathered, which contracts see as the list of their day numbers.
-#[derive(Debug, Drop)]
-pub struct Days {
-    items: Vec<Day>,
-}
-
-impl Model for Days {
-    ghost use Rattle.std.specs.Prelude.{ℕ, List};
-
-    ghost Value = { List ℕ };
-
-    ghost view = { λ days. days.items.items };
-}
-
-impl Days {
-    /// The empty list, which takes no memory yet.
-    pub fn new(alloc: Global) -> Days
-        ensures { result ≡ [] }
-    {
-        Days {
-            items: Vec::new(alloc),
-        }
-    }
-
-    /// Appends a date; after `NoMemory` the list is as before.
-    pub fn push(&mut self, item: Day) -> Result<(), NoMemory>
-        ensures ok { OnOk result (self.new ≡ self.old ++ item ∷ []) }
-        ensures err { OnErr result (self.new ≡ self.old) }
-    {
-        self.items.push(item)?;
-        Ok(())
-    }
-
-    /// The dates in order.
-    pub fn as_slice(&self) -> &[Day]
-        ensures { result.now ≡ self.now }
-    {
-        self.items.as_slice()
-    }
-}
+/// Dates as they are gathered.
+pub type Days = List<Day>;
 
 /// The holidays of a calendar: at most 3,660 dates that rise strictly.
 #[derive(Debug, Drop)]

@@ -1,9 +1,6 @@
-ghost use Rattle.std.specs.Prelude.{◌≡◌, [], ◌∷◌, ◌++◌, OnOk, OnErr};
-
+//! Orders, and the bearers of a loss.
 use crate::fields::{Amount, Identifier, Quantity, Reference};
-use money_units::{Moment, NoMemory};
-use std::alloc::Global;
-use std::marker::Model;
+use money_units::{List, Moment};
 
 /// Who bears the loss of a correction.
 #[derive(Clone, Copy, Debug, PartialEq, Eq)]
@@ -90,45 +87,5 @@ pub struct OrderRow {
     pub order: Order,
 }
 
-/// The orders that aren't struck, by place, which contracts see as the list of them.
-#[derive(Debug, Drop)]
-pub struct Standing {
-    items: Vec<OrderRow>,
-}
-
-impl Model for Standing {
-    ghost use Rattle.std.specs.Prelude.{List};
-    ghost use Rattle.agent_events.specs.declared.order.OrderRow.{OrderRow};
-
-    ghost Value = { List OrderRow };
-
-    ghost view = { λ orders. orders.items.items };
-}
-
-impl Standing {
-    /// The empty list, which takes no memory yet.
-    pub fn new(alloc: Global) -> Standing
-        ensures { result ≡ [] }
-    {
-        Standing {
-            items: Vec::new(alloc),
-        }
-    }
-
-    /// Appends an order; after `NoMemory` the list is as before.
-    pub fn push(&mut self, item: OrderRow) -> Result<(), NoMemory>
-        ensures ok { OnOk result (self.new ≡ self.old ++ item ∷ []) }
-        ensures err { OnErr result (self.new ≡ self.old) }
-    {
-        // `push` of a row that holds an enum of checked numbers gets no proof in this kit.
-        self.items.extend_from_slice(&[item])?;
-        Ok(())
-    }
-
-    /// The orders in order.
-    pub fn as_slice(&self) -> &[OrderRow]
-        ensures { result.now ≡ self.now }
-    {
-        self.items.as_slice()
-    }
-}
+/// The orders that aren't struck, by place.
+pub type Standing = List<OrderRow>;

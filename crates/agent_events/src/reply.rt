@@ -1,3 +1,4 @@
+//! Replies and refusals.
 use crate::fields::{Identifier, Minimum, Reference};
 use crate::reply_lists::{BooksOfClasses, BooksOfDealers, ClassGains, Positions};
 use crate::request::{CancelForm, CloseForm};

@@ -1,3 +1,4 @@
+//! Requests by their verbs.
 use crate::fields::{
     CorrectedRate, DividendRate, Identifier, Minimum, Reference, TimeOfDay, Window,
 };

@@ -1,9 +1,10 @@
+//! Texts of the trade that are kept as they were given: names, zones and keys, each in its form.
 ghost use Rattle.std.specs.Prelude.{◌≡◌, ◌≤◌, ◌-◌, ◌==◌, ◌&&◌, not, true, length, slice_index};
 ghost use Rattle.std.specs.List.{list_all};
-ghost use Rattle.agent_events.specs.Fields.{is_printable, is_visible, is_key_byte, is_label, label, is_zone_text, zone, begins, is_household_key, household_key, is_dealer_key, dealer_key};
+ghost use Rattle.agent_events.specs.Fields.{is_printable, is_key_byte, is_label, label, is_zone_text, zone, is_household_key, household_key, is_dealer_key, dealer_key};
 
 use class_terms::Label;
-use money_units::Bytes;
+use money_units::{Bytes, all_visible, begins};
 use std::marker::Model;
 
 /// The name of a class or an account: 1 to 40 bytes from space to tilde, the first and the last no space.
@@ -180,7 +181,9 @@ fn is_printable(byte: u8) -> bool
 // Whether neither the first nor the last byte is a space.
 fn has_no_outer_space(text: &[u8]) -> bool
     requires { 1 ≤ length text.now }
-    ensures { result ≡ (not (slice_index text.now 0 == 32) && not (slice_index text.now (length text.now - 1) == 32)) }
+    ensures { result
+        ≡ (not (slice_index text.now 0 == 32) && not
+        (slice_index text.now (length text.now - 1) == 32)) }
 {
     text[0] != b' ' && text[text.len() - 1] != b' '
 }
@@ -189,25 +192,6 @@ fn is_zone_text(text: &[u8]) -> bool
     ensures { result ≡ is_zone_text text.now }
 {
     1 <= text.len() && text.len() <= 64 && all_visible(text)
-}
-
-fn all_visible(text: &[u8]) -> bool
-    ensures { result ≡ list_all is_visible text.now }
-{
-    text.iter().all(|byte| is_visible(*byte))
-}
-
-// A byte from `!` to tilde.
-fn is_visible(byte: u8) -> bool
-    ensures { result ≡ is_visible byte }
-{
-    33 <= byte && byte <= 126
-}
-
-fn begins(prefix: &[u8], text: &[u8]) -> bool
-    ensures { result ≡ begins prefix.now text.now }
-{
-    text.starts_with(prefix)
 }
 
 // A small letter or a digit.

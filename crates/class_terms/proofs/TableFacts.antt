@@ -1,6 +1,8 @@
 -- What holds of each row of a lawful table of loads.
 use Rattle.std.proofs.Common.{◌≡◌, ℕ, zero, suc, ◌+◌, ◌<◌, ◌≤◌, Bool, false, List, [], ◌∷◌, length, Option, Some, None, slice_get, arith, subst}
+use Rattle.std.specs.Prelude.{All}
 use Rattle.std.proofs.lemmas.Bool.Decides.{nat_tests}
+use Rattle.std.proofs.lemmas.List.Elements.{All-cons}
 use Rattle.class_terms.specs.declared.lists.Bracket.{Bracket}
 use Rattle.class_terms.specs.Tables.{first_broken, breaks_table, front_fault, breaks_schedule, deferred_fault}
 
@@ -102,3 +104,18 @@ first-floor (x ∷ rows) row h found =
     let same : x ≡ row = cc in
     let stands : breaks_table None x ≡ false = first-follows breaks_table 0 None x rows h in
     subst (λ (r : Bracket). r.floor ≡ 0) same (grind (arith, nat_tests))
+
+-- no rate of a lawful table passes 850 basis points
+all-stand : {X : Type 0} (breaks : Option X → X → Bool) (P : X → Type 0)
+    → ((before : Option X) (x : X) → breaks before x ≡ false → P x)
+    → (place : ℕ) (before : Option X) (xs : List X) → first_broken breaks place before xs ≡ None → All P xs
+all-stand breaks P holds place before [] h = λ k d short. absurd (omega arith)
+all-stand breaks P holds place before (x ∷ xs) h =
+    All-cons P x xs (holds before x (first-follows breaks place before x xs h))
+    (all-stand breaks P holds (place + 1) (Some x) xs (others-follow breaks place before x xs h))
+
+pub front-ceiling : (rows : List Bracket) → front_fault rows ≡ None → All (λ row. row.rate ≤ 850) rows
+front-ceiling rows h = all-stand breaks_table (λ row. row.rate ≤ 850) table-ceiling 0 None rows (rows-lawful rows h).stands
+
+pub deferred-ceiling : (rates : List ℕ) → deferred_fault rates ≡ None → All (λ rate. rate ≤ 850) rates
+deferred-ceiling rates h = all-stand breaks_schedule (λ rate. rate ≤ 850) schedule-ceiling 0 None rates (rates-lawful rates h).stands

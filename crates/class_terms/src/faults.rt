@@ -1,3 +1,4 @@
+//! Why terms are refused.
 use std::error::Error;
 use std::fmt;
 

@@ -1,3 +1,4 @@
+//! Terms of a class before they are checked.
 use crate::lists::{Brackets, Label, Schedule};
 use money_units::Cents;
 

@@ -7,8 +7,6 @@ mod form;
 pub mod laws;
 mod lists;
 mod terms;
-#[cfg(test)]
-mod tests;
 pub mod worked;
 
 pub use crate::checking::{MAX_BRACKETS, MAX_RATE, MAX_SCHEDULE_ROWS, check};

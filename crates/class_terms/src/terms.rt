@@ -1,10 +1,10 @@
-ghost use Rattle.std.specs.Prelude.{◌≡◌, [], ◌∷◌, ◌++◌, None, OnOk, OnErr};
+//! Terms that were checked.
+ghost use Rattle.std.specs.Prelude.{◌≡◌, ◌≤◌, None, All};
 ghost use Rattle.class_terms.specs.Tables.{front_fault, deferred_fault};
 
 use crate::form::TermsForm;
 use crate::lists::{Brackets, Label, Schedule};
-use money_units::{Cents, NoMemory};
-use std::alloc::Global;
+use money_units::{Cents, List};
 use std::marker::Model;
 
 /// The terms of a class, checked: contracts see the form that they came from, whose tables of loads are lawful.
@@ -95,6 +95,7 @@ impl Terms {
     pub fn front(&self) -> &Brackets
         ensures value { result.now ≡ self.now.front }
         ensures lawful { front_fault self.now.front ≡ None }
+        ensures ceiling { All (λ row. row.rate ≤ 850) self.now.front }
     {
         &self.form.front
     }
@@ -103,49 +104,11 @@ impl Terms {
     pub fn deferred(&self) -> &Schedule
         ensures value { result.now ≡ self.now.deferred }
         ensures lawful { deferred_fault self.now.deferred ≡ None }
+        ensures ceiling { All (λ rate. rate ≤ 850) self.now.deferred }
     {
         &self.form.deferred
     }
 }
 
-/// The terms of the classes of a transfer agent, which contracts see as the list of them.
-#[derive(Debug, Drop)]
-pub struct TermsTable {
-    items: Vec<Terms>,
-}
-
-impl Model for TermsTable {
-    ghost use Rattle.std.specs.Prelude.{List};
-    ghost use Rattle.class_terms.specs.declared.form.TermsForm.{TermsForm};
-
-    ghost Value = { List TermsForm };
-
-    ghost view = { λ table. table.items.items };
-}
-
-impl TermsTable {
-    /// The empty list, which takes no memory yet.
-    pub fn new(alloc: Global) -> TermsTable
-        ensures { result ≡ [] }
-    {
-        TermsTable {
-            items: Vec::new(alloc),
-        }
-    }
-
-    /// Appends the terms of a class; after `NoMemory` the list is as before, and the terms are gone.
-    pub fn push(&mut self, item: Terms) -> Result<(), NoMemory>
-        ensures ok { OnOk result (self.new ≡ self.old ++ item ∷ []) }
-        ensures err { OnErr result (self.new ≡ self.old) }
-    {
-        self.items.push(item)?;
-        Ok(())
-    }
-
-    /// The terms in order.
-    pub fn as_slice(&self) -> &[Terms]
-        ensures { result.now ≡ self.now }
-    {
-        self.items.as_slice()
-    }
-}
+/// The terms of the classes of a transfer agent.
+pub type TermsTable = List<Terms>;

@@ -4,7 +4,10 @@ ghost use Rattle.class_terms.specs.Tables.{front_fault, deferred_fault, row_of};
 
 /// The tables of a growth fund's load class and of a class without a load are lawful, and so is the ceiling itself.
 pub fn lawful_tables()
-    ensures growth { front_fault (row_of 0 575 ∷ row_of 2500000 500 ∷ row_of 5000000 450 ∷ row_of 10000000 350 ∷ row_of 25000000 250 ∷ row_of 50000000 200 ∷ row_of 100000000 0 ∷ []) ≡ None }
+    ensures growth { front_fault
+        (row_of 0 575 ∷ row_of 2500000 500 ∷ row_of 5000000 450 ∷ row_of 10000000 350
+        ∷ row_of 25000000 250 ∷ row_of 50000000 200 ∷ row_of 100000000 0 ∷ [])
+        ≡ None }
     ensures without_load { front_fault (row_of 0 0 ∷ []) ≡ None }
     ensures ceiling { front_fault (row_of 0 850 ∷ []) ≡ None }
     ensures level_rate { front_fault (row_of 0 500 ∷ row_of 2500000 500 ∷ []) ≡ None }

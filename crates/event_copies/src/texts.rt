@@ -1,13 +1,12 @@
 //! Copies of texts.
 use crate::Copied;
-use crate::lists::{bytes_of, label_of};
 use agent_events::{DealerKey, HouseholdKey, Name, ZoneText};
-use money_units::NoMemory;
+use money_units::{List, NoMemory};
 use std::alloc::Global;
 
 impl Copied for Name {
     fn copy(&self, alloc: Global) -> Result<Name, NoMemory> {
-        match Name::new(label_of(alloc, self.as_slice())?) {
+        match Name::new(List::from_slice(alloc, self.as_slice())?) {
             Some(copy) => Ok(copy),
             None => unreachable!(),
         }
@@ -16,7 +15,7 @@ impl Copied for Name {
 
 impl Copied for ZoneText {
     fn copy(&self, alloc: Global) -> Result<ZoneText, NoMemory> {
-        match ZoneText::new(bytes_of(alloc, self.as_slice())?) {
+        match ZoneText::new(List::from_slice(alloc, self.as_slice())?) {
             Some(copy) => Ok(copy),
             None => unreachable!(),
         }
@@ -25,7 +24,7 @@ impl Copied for ZoneText {
 
 impl Copied for HouseholdKey {
     fn copy(&self, alloc: Global) -> Result<HouseholdKey, NoMemory> {
-        match HouseholdKey::new(bytes_of(alloc, self.as_slice())?) {
+        match HouseholdKey::new(List::from_slice(alloc, self.as_slice())?) {
             Some(copy) => Ok(copy),
             None => unreachable!(),
         }
@@ -34,7 +33,7 @@ impl Copied for HouseholdKey {
 
 impl Copied for DealerKey {
     fn copy(&self, alloc: Global) -> Result<DealerKey, NoMemory> {
-        match DealerKey::new(bytes_of(alloc, self.as_slice())?) {
+        match DealerKey::new(List::from_slice(alloc, self.as_slice())?) {
             Some(copy) => Ok(copy),
             None => unreachable!(),
         }

@@ -23,7 +23,8 @@ point_of places text = length text - (places + 1)
 -- a whole number of at most `most` digits, a point, and so many digits behind it
 abbrev pub is_fixed : ℕ → ℕ → List ℕ → Bool
 is_fixed most places text =
-    is_whole most (take (point_of places text) text) && slice_index text (point_of places text) == 46
+    is_whole most (take (point_of places text) text)
+    && slice_index text (point_of places text) == 46
     && list_all is_ascii_digit (drop (point_of places text + 1) text)
 
 -- the number of units of the last place that such a text writes
@@ -60,7 +61,8 @@ money_text cents = decimal (cents / 100) ++ 46 ∷ last_digit (cents / 10) ∷ l
 
 abbrev pub shares_text : ℕ → List ℕ
 shares_text mils =
-    decimal (mils / 1000) ++ 46 ∷ last_digit (mils / 100) ∷ last_digit (mils / 10) ∷ last_digit mils ∷ []
+    decimal (mils / 1000) ++ 46 ∷ last_digit (mils / 100) ∷ last_digit (mils / 10) ∷ last_digit mils
+    ∷ []
 
 -- the one form of signed cents: `-` before the size of a negative amount, and zero is `0.00`
 abbrev pub signed_text : ℤ → List ℕ

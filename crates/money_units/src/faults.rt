@@ -1,3 +1,4 @@
+//! The two faults that every crate may answer: no memory, and a text that isn't in its form.
 ghost use Rattle.std.specs.Prelude.{⊤};
 
 use std::alloc::{AllocError, AllocFailed};

@@ -2,20 +2,20 @@
 //! they are written and read.
 #![tactic(auto)]
 
+mod byte_texts;
 mod faults;
 pub mod laws;
-mod lists;
+mod list;
 mod moment;
 mod printing;
 mod reading;
 mod rounding;
-#[cfg(test)]
-mod tests;
 mod units;
 pub mod worked;
 
+pub use crate::byte_texts::{all_visible, begins, same_bytes};
 pub use crate::faults::{NoMemory, TextFault};
-pub use crate::lists::Bytes;
+pub use crate::list::{Bytes, List};
 pub use crate::moment::{MAX_MOMENT_SECONDS, Moment};
 pub use crate::printing::{print_cents, print_mils, print_number, print_signed};
 pub use crate::reading::{read_cents, read_mils, read_number, read_rate};

@@ -1,3 +1,4 @@
+//! Moments, in seconds since 1970-01-01 00:00 UTC.
 ghost use Rattle.std.specs.Prelude.{◌≡◌, ◌≢◌, ◌≤◌, ◌≤ℤ◌, ℕ, ℤ, pos, SomeIff, IfSome, IfNone};
 ghost use Rattle.money_units.specs.declared.moment.TheConstants.{MAX_MOMENT_SECONDS};
 

@@ -1,3 +1,4 @@
+//! Cents, mils, basis points and net asset values, each a type of its own.
 ghost use Rattle.std.specs.Prelude.{◌≡◌, ◌≤◌, SomeIff};
 ghost use Rattle.money_units.specs.declared.units.TheConstants.{MAX_NAV_CENTS};
 

@@ -5,7 +5,6 @@
 mod fault;
 pub mod laws;
 mod reader;
-mod texts;
 mod writer;
 
 pub use crate::fault::RowFault;

@@ -6,13 +6,13 @@ ghost use Rattle.row_fields.specs.Reading.{Reads, ReadsAs, number_at, byte_at};
 ghost use Rattle.row_fields.specs.Readers as field;
 
 use crate::fault::RowFault;
-use crate::texts::{bytes_of, label_of};
 use agent_events::{
     Amount, Bearer, CorrectedRate, DealerKey, DividendRate, HouseholdKey, Identifier, Minimum,
     Name, Quantity, Reference, TimeOfDay, Window, ZoneText,
 };
+use class_terms::Label;
 use fund_calendar::Day;
-use money_units::{Bps, Cents, Mils, Moment, Nav};
+use money_units::{Bps, Bytes, Cents, Mils, Moment, Nav};
 use std::alloc::Global;
 use std::marker::Model;
 
@@ -279,7 +279,7 @@ impl<'a> RowReader<'a> {
         ensures { Reads result self.new (field.name_at self.old) }
     {
         let text = self.text()?;
-        Name::new(label_of(alloc, text)?).ok_or(RowFault::Wrong)
+        Name::new(Label::from_slice(alloc, text)?).ok_or(RowFault::Wrong)
     }
 
     /// The text of a zone.
@@ -288,7 +288,7 @@ impl<'a> RowReader<'a> {
         ensures { Reads result self.new (field.zone_at self.old) }
     {
         let text = self.text()?;
-        ZoneText::new(bytes_of(alloc, text)?).ok_or(RowFault::Wrong)
+        ZoneText::new(Bytes::from_slice(alloc, text)?).ok_or(RowFault::Wrong)
     }
 
     /// The key of a household.
@@ -297,7 +297,7 @@ impl<'a> RowReader<'a> {
         ensures { Reads result self.new (field.household_key_at self.old) }
     {
         let text = self.text()?;
-        HouseholdKey::new(bytes_of(alloc, text)?).ok_or(RowFault::Wrong)
+        HouseholdKey::new(Bytes::from_slice(alloc, text)?).ok_or(RowFault::Wrong)
     }
 
     /// The key of a dealer.
@@ -306,7 +306,7 @@ impl<'a> RowReader<'a> {
         ensures { Reads result self.new (field.dealer_key_at self.old) }
     {
         let text = self.text()?;
-        DealerKey::new(bytes_of(alloc, text)?).ok_or(RowFault::Wrong)
+        DealerKey::new(Bytes::from_slice(alloc, text)?).ok_or(RowFault::Wrong)
     }
 
     /// Who bears a loss: 00 the fund, 01 the agent, 02 and the dealer.

@@ -116,7 +116,10 @@ fn put_positions(row: &mut RowWriter, positions: &[PositionRow]) -> Result<(), N
 /// The household and its positions.
 pub(crate) fn put_state(row: &mut RowWriter, state: &StateRow) -> Result<(), NoMemory>
     requires { fits_lists state.now ≡ true }
-    ensures { OnOk result (row.new ≡ row.old ++ (four_bytes state.now.household ++ listed spelled.position state.now.positions)) }
+    ensures { OnOk result
+        (row.new
+        ≡ row.old
+        ++ (four_bytes state.now.household ++ listed spelled.position state.now.positions)) }
 {
     row.u32(state.household)?;
     put_positions(row, state.positions.as_slice())?;
