@@ -1,3 +1,4 @@
+//! The deferred charge of the pieces of a redemption.
 ghost use Rattle.std.specs.Prelude.{◌≡◌, ◌+◌, ◌*◌, ◌≤◌, All, min, sum_by};
 ghost use Rattle.money_units.specs.Rounding.{half};
 ghost use Rattle.share_lots.specs.Lots.{most_mils, most_cost};
@@ -85,7 +86,8 @@ fn piece_charged(piece: &Piece, value: Cents, day: Day, schedule: &[Bps]) -> Cha
     ensures value { result.value ≡ value }
     ensures base { result.base ≡ spec.base_of (record { piece = piece.now; value = value }) }
     ensures base_within { result.base ≤ value }
-    ensures charge { result.charge ≡ spec.charge_of day schedule.now (record { piece = piece.now; value = value }) }
+    ensures charge { result.charge
+        ≡ spec.charge_of day schedule.now (record { piece = piece.now; value = value }) }
     ensures charge_within { result.charge ≤ value }
 {
     Charged {

@@ -5,8 +5,6 @@
 mod charging;
 pub mod laws;
 mod rates;
-#[cfg(test)]
-mod tests;
 pub mod worked;
 
 pub use crate::charging::{Charged, charge};

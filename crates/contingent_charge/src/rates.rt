@@ -1,3 +1,4 @@
+//! The rate of a deferred charge by the years since the purchase.
 ghost use Rattle.std.specs.Prelude.{◌≡◌, ◌≤◌, All};
 ghost use Rattle.contingent_charge.specs.DeferredCharge as spec;
 

@@ -16,21 +16,53 @@ pub fn rates()
 /// $600.00, and the charge is taken on the cost, $450.00: it is $22.50, and the holder has $577.50. At 8.00 it is taken on the
 /// value of the shares that aren't free, $360.00: it is $18.00, and of $400.00 the holder has $382.00.
 pub fn free_shares_bear_no_charge()
-    ensures risen { charged (pieces 50000 (record { number = 2; day = 19950; loose = 5000; held = 0; cost = 5000; free = true } ∷ record { number = 1; day = 19905; loose = 100000; held = 0; cost = 100000; free = false } ∷ [])) 1200 19997 (500 ∷ 400 ∷ 300 ∷ 200 ∷ 100 ∷ []) ≡ record { value = 60000; base = 45000; charge = 2250 } }
+    ensures risen { charged
+        (pieces 50000
+        (record { number = 2; day = 19950; loose = 5000; held = 0; cost = 5000; free = true }
+        ∷ record {
+          number = 1;
+          day = 19905;
+          loose = 100000;
+          held = 0;
+          cost = 100000;
+          free = false;
+        } ∷ [])) 1200 19997 (500 ∷ 400 ∷ 300 ∷ 200 ∷ 100 ∷ [])
+        ≡ record { value = 60000; base = 45000; charge = 2250 } }
     ensures risen_holder { 60000 - 2250 ≡ 57750 }
-    ensures fallen { charged (pieces 50000 (record { number = 2; day = 19950; loose = 5000; held = 0; cost = 5000; free = true } ∷ record { number = 1; day = 19905; loose = 100000; held = 0; cost = 100000; free = false } ∷ [])) 800 19997 (500 ∷ 400 ∷ 300 ∷ 200 ∷ 100 ∷ []) ≡ record { value = 40000; base = 36000; charge = 1800 } }
+    ensures fallen { charged
+        (pieces 50000
+        (record { number = 2; day = 19950; loose = 5000; held = 0; cost = 5000; free = true }
+        ∷ record {
+          number = 1;
+          day = 19905;
+          loose = 100000;
+          held = 0;
+          cost = 100000;
+          free = false;
+        } ∷ [])) 800 19997 (500 ∷ 400 ∷ 300 ∷ 200 ∷ 100 ∷ [])
+        ≡ record { value = 40000; base = 36000; charge = 1800 } }
     ensures fallen_holder { 40000 - 1800 ≡ 38200 }
 {}
 
 /// 50.000 shares of 2024-07-01 that cost $1,000.00 are sold at 20.00: on the day before the first anniversary for a charge of
 /// 5%, on it, 2025-07-01, of 4%, and from 2029-07-01 on, when the schedule is through, without one.
 pub fn anniversaries_lower_the_charge()
-    ensures day_before { charged (record { lot = 1; day = 19905; mils = 50000; cost = 100000; free = false } ∷ []) 2000 20269 (500 ∷ 400 ∷ 300 ∷ 200 ∷ 100 ∷ []) ≡ record { value = 100000; base = 100000; charge = 5000 } }
-    ensures first { charged (record { lot = 1; day = 19905; mils = 50000; cost = 100000; free = false } ∷ []) 2000 20270 (500 ∷ 400 ∷ 300 ∷ 200 ∷ 100 ∷ []) ≡ record { value = 100000; base = 100000; charge = 4000 } }
-    ensures through { charged (record { lot = 1; day = 19905; mils = 50000; cost = 100000; free = false } ∷ []) 2000 21731 (500 ∷ 400 ∷ 300 ∷ 200 ∷ 100 ∷ []) ≡ record { value = 100000; base = 100000; charge = 0 } }
+    ensures day_before { charged (record { lot = 1; day = 19905; mils = 50000; cost = 100000; free = false } ∷ [])
+        2000 20269 (500 ∷ 400 ∷ 300 ∷ 200 ∷ 100 ∷ [])
+        ≡ record { value = 100000; base = 100000; charge = 5000 } }
+    ensures first { charged (record { lot = 1; day = 19905; mils = 50000; cost = 100000; free = false } ∷ [])
+        2000 20270 (500 ∷ 400 ∷ 300 ∷ 200 ∷ 100 ∷ [])
+        ≡ record { value = 100000; base = 100000; charge = 4000 } }
+    ensures through { charged (record { lot = 1; day = 19905; mils = 50000; cost = 100000; free = false } ∷ [])
+        2000 21731 (500 ∷ 400 ∷ 300 ∷ 200 ∷ 100 ∷ [])
+        ≡ record { value = 100000; base = 100000; charge = 0 } }
 {}
 
 /// Of two pieces of half a cent each the first has the whole cent: together they have the value of both.
 pub fn values_make_the_whole()
-    ensures { charged (record { lot = 1; day = 19905; mils = 1; cost = 1; free = true } ∷ record { lot = 2; day = 19906; mils = 1; cost = 1; free = false } ∷ []) 500 19997 (500 ∷ []) ≡ record { value = 1; base = 0; charge = 0 } }
+    ensures { charged
+        (record { lot = 1; day = 19905; mils = 1; cost = 1; free = true }
+        ∷ record { lot = 2; day = 19906; mils = 1; cost = 1; free = false } ∷ []) 500 19997
+        (500 ∷ [])
+        ≡ record { value = 1; base = 0; charge = 0 } }
 {}

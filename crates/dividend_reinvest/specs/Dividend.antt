@@ -39,3 +39,9 @@ abbrev pub KeepsCeiling : ℕ → ℕ → Payment → Type 0
 KeepsCeiling room cost_room Nothing = Unit {0}
 KeepsCeiling room cost_room (Cash cash) = Unit {0}
 KeepsCeiling room cost_room (Shares cash mils) = (mils ≤ room) × (cash ≤ cost_room)
+
+-- what is reinvested is a mil or more
+abbrev pub BuysMils : Payment → Type 0
+BuysMils Nothing = Unit {0}
+BuysMils (Cash cash) = Unit {0}
+BuysMils (Shares cash mils) = 1 ≤ mils

@@ -3,8 +3,6 @@
 
 pub mod laws;
 mod payment;
-#[cfg(test)]
-mod tests;
 pub mod worked;
 
 pub use crate::payment::{Payment, pay};

@@ -1,3 +1,4 @@
+//! What a dividend pays: shares, cash or nothing.
 ghost use Rattle.std.specs.Prelude.{◌≡◌, ◌≤◌};
 ghost use Rattle.dividend_reinvest.specs.Dividend as spec;
 
@@ -25,6 +26,7 @@ pub fn pay(mils: Mils, rate: u64, nav: Nav, in_cash: bool, room: Mils, cost_room
     ensures cents { spec.cents_of result ≡ spec.cash_of mils rate }
     ensures most { spec.cents_of result ≤ 100000000000000 }
     ensures ceiling { spec.KeepsCeiling room cost_room result }
+    ensures least { spec.BuysMils result }
 {
     let cash = cash_of(mils, rate);
     if cash.0 == 0 {

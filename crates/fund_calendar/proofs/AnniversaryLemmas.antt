@@ -22,11 +22,11 @@ lt_false : (m n : ℕ) → n ≤ m → nat_lt m n ≡ false
 lt_false m n h = grind (arith, nat_tests)
 
 -- the count by whether this year's anniversary has come
-counted : (b n : ℕ) (come : Bool) → b ≤ n → has_anniversary b ((date_of n).year - (date_of b).year) n ≡ come → anniversaries b n ≡ cond come ((date_of n).year - (date_of b).year) ((date_of n).year - (date_of b).year - 1)
+pub counted : (b n : ℕ) (come : Bool) → b ≤ n → has_anniversary b ((date_of n).year - (date_of b).year) n ≡ come → anniversaries b n ≡ cond come ((date_of n).year - (date_of b).year) ((date_of n).year - (date_of b).year - 1)
 unfolding anniversaries
 counted b n come h e = rw (lt_false n b h, e) refl
 
-none_before : (b n : ℕ) → n < b → anniversaries b n ≡ 0
+pub none_before : (b n : ℕ) → n < b → anniversaries b n ≡ 0
 unfolding anniversaries
 none_before b n h = rw (lt_true n b h) refl
 

@@ -77,13 +77,13 @@ pub record IsDayOf (d : Date) : Type 0 where
 all_true : (a b c d e f : Bool) → a ≡ true → b ≡ true → c ≡ true → d ≡ true → e ≡ true → f ≡ true → (a && b && c && d && e && f) ≡ true
 all_true a b c d e f ha hb hc hd he hf = rw (ha, hb, hc, hd, he, hf) refl
 
-le_true : (a b : ℕ) → a ≤ b → nat_le a b ≡ true
+pub le_true : (a b : ℕ) → a ≤ b → nat_le a b ≡ true
 le_true a b h = elim (leb_tells a b) [ inl (t, _) ↦ t | inr (_, gt) ↦ absurd (omega arith) ]
 
-le_false : (a b : ℕ) → b < a → nat_le a b ≡ false
+pub le_false : (a b : ℕ) → b < a → nat_le a b ≡ false
 le_false a b h = elim (leb_tells a b) [ inl (_, le) ↦ absurd (omega arith) | inr (t, _) ↦ t ]
 
-second_false : (a b c d e f : Bool) → b ≡ false → (a && b && c && d && e && f) ≡ false
+pub second_false : (a b c d e f : Bool) → b ≡ false → (a && b && c && d && e && f) ≡ false
 second_false true b c d e f h = rw h refl
 second_false false b c d e f h = refl
 
@@ -211,3 +211,17 @@ IsNone-day_of_date p is = elim (leb_tells p.year 2199) [
       (λ none. absurd (let clash = rw date at none in cc), λ past. absurd (omega arith))
   | inr (t, gt) ↦ (λ none. omega arith, λ past. rw (second_false (nat_le 1970 p.year) _ _ _ _ _ t) refl)
 ]
+
+-- the day number of a date up to 2199-12-31 is that of a day in its year
+pub record IsDayIn (d : YearMonthDay) : Type 0 where
+  pub is_day : day_of_date d ≡ Some (day_number d)
+  pub bound : day_number d ≤ 84005
+  pub year : (date_of (day_number d)).year ≡ d.year
+
+pub IsDayIn-day_number : (d : YearMonthDay) → IsJiffDate d → d.year ≤ 2199 → IsDayIn d
+unfolding jiff_date
+IsDayIn-day_number d h high =
+    let is = IsDayOf-of_date (jiff_date d h) (omega (arith, signed_arith, h.year_low)) (omega (arith, signed_arith, high)) in
+    let parts = HasParts-date_of (jiff_date d h) (day_number d) is.bound is.number in
+    let same : pos d.year ≡ pos (date_of (day_number d)).year = parts.year in
+    record { is_day = is.is_day; bound = is.bound; year = omega (arith, signed_arith, same) }

@@ -4,3 +4,4 @@ pub mod InstantLemmas
 pub mod ScheduleLemmas
 pub mod LookUpLemmas
 pub mod AnniversaryLemmas
+pub mod AnniversaryCounts

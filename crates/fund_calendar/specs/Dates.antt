@@ -42,7 +42,8 @@ day_number d = days_before_year d.year + days_of_months d.year (d.month - 1) + (
 
 -- the year of a day number: a year has at most 366 days, so that it is the year guessed so or the next one
 unfoldable pub year_of : ℕ → ℕ
-year_of n = let guess = 1970 + n / 366 in if nat_le (days_before_year (guess + 1)) n then guess + 1 else guess
+year_of n = let guess = 1970 + n / 366 in if nat_le (days_before_year (guess + 1)) n then guess + 1
+    else guess
 
 -- the date of the day with `left` days of the year y before it from the beginning of the month m on, when
 -- `later` months follow that month
@@ -59,7 +60,8 @@ date_of n = date_in_year (year_of n) 11 1 (n - days_before_year (year_of n))
 -- the calendar has this date, and it lies from 1970-01-01 to 2199-12-31
 abbrev pub is_date : YearMonthDay → Bool
 is_date d =
-    nat_le 1970 d.year && nat_le d.year 2199 && nat_le 1 d.month && nat_le d.month 12 && nat_le 1 d.day
+    nat_le 1970 d.year && nat_le d.year 2199 && nat_le 1 d.month && nat_le d.month 12
+    && nat_le 1 d.day
     && nat_le d.day (month_length d.year d.month)
 
 -- the day number of a date, where there is such a date

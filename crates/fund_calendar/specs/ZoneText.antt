@@ -12,7 +12,8 @@ use Rattle.fund_calendar.specs.DayText.{two_digits}
 
 -- the text before the first such byte, and the text behind it
 abbrev pub cut_at : ℕ → List ℕ → Option (List ℕ × List ℕ)
-cut_at byte text = option_map (λ i. (take i text, drop (i + 1) text)) (position (λ b. b == byte) text)
+cut_at byte text = option_map (λ i. (take i text, drop (i + 1) text))
+    (position (λ b. b == byte) text)
 
 -- the number, where it lies from low to high
 abbrev pub in_range : ℕ → ℕ → Option ℕ → Option ℕ
@@ -23,11 +24,13 @@ in_range low high (Some n) = if nat_le low n && nat_le n high then Some n else N
 abbrev pub read_digits : List ℕ → Option ℕ
 read_digits text =
     if length text == 2 then two_digits text 0
-    else (if (length text == 1) && is_ascii_digit (slice_index text 0) then Some (slice_index text 0 - 48) else None)
+    else (if (length text == 1) && is_ascii_digit (slice_index text 0)
+    then Some (slice_index text 0 - 48) else None)
 
 -- the same, without a leading zero
 abbrev pub read_small : List ℕ → Option ℕ
-read_small text = if (length text == 2) && (slice_index text 0 == 48) then None else read_digits text
+read_small text = if (length text == 2) && (slice_index text 0 == 48) then None
+    else read_digits text
 
 -- a name has 3 to 10 bytes
 abbrev pub is_name_length : ℕ → Bool
@@ -77,7 +80,8 @@ offset_minutes text = if length text == 2 then in_range 0 59 (two_digits text 0)
 -- the minutes of an offset without its sign, given its parts round a colon
 abbrev pub minutes_of : List ℕ → Option (List ℕ × List ℕ) → Option ℕ
 minutes_of text None = option_map (λ hours. 60 * hours) (offset_hours text)
-minutes_of text (Some (hours, minutes)) = both (λ h m. 60 * h + m) (offset_hours hours) (offset_minutes minutes)
+minutes_of text (Some (hours, minutes)) = both
+    (λ h m. 60 * h + m) (offset_hours hours) (offset_minutes minutes)
 
 -- the minutes of an offset without its sign; 58 is `:`
 abbrev pub unsigned_minutes : List ℕ → Option ℕ
@@ -86,13 +90,16 @@ unsigned_minutes text = minutes_of text (cut_at 58 text)
 -- how far standard time is behind UTC, or ahead of it where the offset begins with `-` (45)
 abbrev pub read_offset : List ℕ → Option Offset
 read_offset text =
-    if slice_index text 0 == 45 then option_map (λ minutes. record { behind = 0; ahead = minutes }) (unsigned_minutes (drop 1 text))
-    else (if slice_index text 0 == 43 then option_map (λ minutes. record { behind = minutes; ahead = 0 }) (unsigned_minutes (drop 1 text))
+    if slice_index text 0 == 45 then option_map
+    (λ minutes. record { behind = 0; ahead = minutes }) (unsigned_minutes (drop 1 text))
+    else (if slice_index text 0 == 43 then option_map
+    (λ minutes. record { behind = minutes; ahead = 0 }) (unsigned_minutes (drop 1 text))
     else option_map (λ minutes. record { behind = minutes; ahead = 0 }) (unsigned_minutes text))
 
 -- a yearly change, where its parts are there
 abbrev pub change_of : Option ℕ → Option ℕ → Option ℕ → Option ℕ → Option Change
-change_of (Some month) (Some week) (Some weekday) (Some hour) = Some (record { month = month; week = week; weekday = weekday; hour = hour })
+change_of (Some month) (Some week) (Some weekday) (Some hour) = Some
+    (record { month = month; week = week; weekday = weekday; hour = hour })
 change_of (Some month) (Some week) (Some weekday) None = None
 change_of (Some month) (Some week) None hour = None
 change_of (Some month) None weekday hour = None
@@ -102,7 +109,8 @@ change_of None week weekday hour = None
 abbrev pub change_from : List ℕ → Option (List ℕ × List ℕ) → Option ℕ → Option Change
 change_from month None hour = None
 change_from month (Some (week, weekday)) hour =
-    change_of (in_range 1 12 (read_small month)) (in_range 1 5 (read_small week)) (in_range 0 6 (read_small weekday)) hour
+    change_of (in_range 1 12 (read_small month)) (in_range 1 5 (read_small week))
+    (in_range 0 6 (read_small weekday)) hour
 
 -- a change given its date without the `M`, in parts round a point
 abbrev pub change_by_month : Option (List ℕ × List ℕ) → Option ℕ → Option Change
@@ -111,7 +119,8 @@ change_by_month (Some (month, rest)) hour = change_from month (cut_at 46 rest) h
 
 -- a change by its date, `Mm.w.d`, and its hour; 77 is `M` and 46 is `.`
 abbrev pub change_on : List ℕ → Option ℕ → Option Change
-change_on date hour = if slice_index date 0 == 77 then change_by_month (cut_at 46 (drop 1 date)) hour else None
+change_on date hour = if slice_index date 0 == 77
+    then change_by_month (cut_at 46 (drop 1 date)) hour else None
 
 -- a change given its parts round a slash
 abbrev pub change_at : List ℕ → Option (List ℕ × List ℕ) → Option Change
@@ -140,7 +149,8 @@ is_name text = option_map_or (λ rest. length rest == 0) (behind_name text) fals
 -- daylight time by its name and its changes; 44 is a comma
 abbrev pub daylight_named : Option (List ℕ × List ℕ) → Option Daylight
 daylight_named None = None
-daylight_named (Some (name, changes)) = if is_name name then daylight_from (cut_at 44 changes) else None
+daylight_named (Some (name, changes)) = if is_name name then daylight_from (cut_at 44 changes)
+    else None
 
 -- the rule of an offset and daylight time, where both are there
 abbrev pub rule_of : Option Offset → Option Daylight → Option ZoneRule
@@ -154,8 +164,10 @@ begins_name b = is_ascii_alphabetic b || (b == 60)
 
 -- the rule behind its first name: an offset alone, or one with daylight time from the place of the second name on
 abbrev pub rule_behind : List ℕ → Option ℕ → Option ZoneRule
-rule_behind text None = option_map (λ offset. record { offset = offset; daylight = None }) (read_offset text)
-rule_behind text (Some i) = rule_of (read_offset (take i text)) (daylight_named (cut_at 44 (drop i text)))
+rule_behind text None = option_map (λ offset. record { offset = offset; daylight = None })
+    (read_offset text)
+rule_behind text (Some i) = rule_of (read_offset (take i text))
+    (daylight_named (cut_at 44 (drop i text)))
 
 -- the rule behind its first name, where there is one
 abbrev pub rule_named : Option (List ℕ) → Option ZoneRule

@@ -1,3 +1,4 @@
+//! Dates from 1970 to 2199.
 ghost use Rattle.std.specs.Prelude.{◌≡◌, ◌↔◌, ◌+◌, ◌-◌, ◌<◌, ◌≤◌, pos, ◌≤ℤ◌, ◌<ℤ◌, ◌⊎◌, IsTrue, IfSome, IsNone, unsigned_abs};
 ghost use Rattle.jiff_core.specs.Date.{epoch_day};
 

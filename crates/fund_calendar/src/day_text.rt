@@ -1,3 +1,4 @@
+//! Reading the text of a date.
 ghost use Rattle.std.specs.Prelude.{◌≡◌, ◌+◌, ◌*◌, ◌<◌, length, IfSome};
 ghost use Rattle.fund_calendar.specs.Dates.{day_of_date};
 ghost use Rattle.fund_calendar.specs.DayText as texts;

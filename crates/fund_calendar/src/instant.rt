@@ -1,3 +1,4 @@
+//! The instant of a local time of day.
 ghost use Rattle.std.specs.Prelude.{◌≡◌, ◌+◌, ◌*◌, ◌≤◌, ◌<◌, unsigned_abs};
 ghost use Rattle.fund_calendar.specs.ZoneRules.{IsChange, IsDaylight, IsZoneRule};
 ghost use Rattle.fund_calendar.specs.ZoneRules as rules;

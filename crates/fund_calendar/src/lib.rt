@@ -11,8 +11,6 @@ mod look_up;
 mod months;
 mod pricing_day;
 mod schedule;
-#[cfg(test)]
-mod tests;
 pub mod worked;
 mod zone;
 mod zone_text;

@@ -1,3 +1,4 @@
+//! Look-ups among pricing days, which rise by day and by moment.
 ghost use Rattle.std.specs.Prelude.{◌≡◌, ◌≤◌, ◌<◌, length, nat_le, ◌==◌, slice_get, find, option_and_then, IfSome};
 ghost use Rattle.std.specs.List.Sorted.{IsPartitionPoint};
 ghost use Rattle.fund_calendar.specs.PricingDays as spec;
@@ -45,7 +46,8 @@ fn first_place_from(listed: &[PricingDay], least: u64) -> usize
 /// The place of a day.
 pub(crate) fn place_of_day(listed: &[PricingDay], day: Day) -> Option<usize>
     requires { spec.IsListing listed.now }
-    ensures value { option_and_then (slice_get listed.now) result ≡ find (λ e. e.day == day) listed.now }
+    ensures value { option_and_then (slice_get listed.now) result ≡ find
+        (λ e. e.day == day) listed.now }
     ensures bound { IfSome result (λ place. place < length listed.now) }
 {
     let place = first_place_on(listed, day);

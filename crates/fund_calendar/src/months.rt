@@ -1,3 +1,4 @@
+//! Months and anniversaries.
 ghost use Rattle.std.specs.Prelude.{◌≡◌, ◌<◌, ◌↔◌, IsNone};
 ghost use Rattle.fund_calendar.specs.Dates as dates;
 

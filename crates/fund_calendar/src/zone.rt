@@ -1,3 +1,4 @@
+//! The rule of a time zone, as it is read from its text.
 /// A yearly change of the clock: an hour on the `week`-th `weekday` of a month, or on the last one where the week
 /// is 5. Sunday is 0.
 #[derive(Clone, Copy, Debug, PartialEq, Eq)]

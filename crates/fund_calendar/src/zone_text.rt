@@ -1,3 +1,4 @@
+//! Reading the text of a zone rule.
 ghost use Rattle.std.specs.Prelude.{◌≡◌, ◌≤◌, ◌<◌, length, option_map, position, ◌==◌, IfSome};
 ghost use Rattle.std.specs.Option.{option_copied, ForSome};
 ghost use Rattle.fund_calendar.specs.ZoneRules.{IsChange, IsDaylight, IsOffset, IsZoneRule};

@@ -1,3 +1,4 @@
+//! What an exchange carries from one class to another.
 ghost use Rattle.std.specs.Prelude.{◌≡◌, ◌*◌, ◌≤◌, All, IfOk};
 ghost use Rattle.money_units.specs.Rounding.{half};
 ghost use Rattle.fund_exchange.specs.Exchange as spec;

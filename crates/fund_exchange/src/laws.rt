@@ -10,7 +10,8 @@ use share_lots::Piece;
 /// The new mils of all pieces sum to what their whole value buys, whatever the pieces are.
 pub fn new_mils_make_the_whole(pieces: &[Piece], from: Nav, to: Nav)
     requires { 1 ≤ to }
-    ensures all { mils_total (renewed_all from to pieces.now) ≡ half (1000 * value_at from (mils_total pieces.now)) to }
+    ensures all { mils_total (renewed_all from to pieces.now)
+        ≡ half (1000 * value_at from (mils_total pieces.now)) to }
     ensures carried { (carried from to pieces.now).mils ≡ half (1000 * value_at from (mils_total pieces.now)) to }
 {}
 
@@ -38,6 +39,8 @@ pub fn new_mils_are_a_difference(
 /// The shares that come in are worth what goes out, to half a mil: an exchange goes by the two net asset values alone.
 pub fn shares_are_worth_their_value(pieces: &[Piece], from: Nav, to: Nav)
     requires { 1 ≤ to }
-    ensures not_above { 2 * ((carried from to pieces.now).mils * to) ≤ 2 * (1000 * (carried from to pieces.now).value) + to }
-    ensures not_below { 2 * (1000 * (carried from to pieces.now).value) < 2 * ((carried from to pieces.now).mils * to) + to }
+    ensures not_above { 2 * ((carried from to pieces.now).mils * to)
+        ≤ 2 * (1000 * (carried from to pieces.now).value) + to }
+    ensures not_below { 2 * (1000 * (carried from to pieces.now).value)
+        < 2 * ((carried from to pieces.now).mils * to) + to }
 {}

@@ -4,8 +4,6 @@
 mod carrying;
 pub mod laws;
 mod renewing;
-#[cfg(test)]
-mod tests;
 pub mod worked;
 
 pub use crate::carrying::{Carried, carry};

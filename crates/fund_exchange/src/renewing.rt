@@ -1,3 +1,4 @@
+//! The pieces of an exchange with their new mils, rounded together.
 ghost use Rattle.std.specs.Prelude.{◌≡◌, [], ◌∷◌, ◌++◌, ◌+◌, ◌-◌, ◌*◌, ◌≤◌, filter, All, IfOk, OnOk, OnErr};
 ghost use Rattle.money_units.specs.Rounding.{half};
 ghost use Rattle.fund_exchange.specs.Exchange as spec;
@@ -17,7 +18,8 @@ pub(crate) fn carried_pieces(
     requires positive { 1 ≤ to }
     ensures pieces { IfOk result (λ carried. carried ≡ spec.carried_pieces from to pieces.now) }
     ensures with_mils { IfOk result (λ carried. All (λ piece. 1 ≤ piece.mils) carried) }
-    ensures mils { IfOk result (λ carried. spec.mils_total carried ≡ spec.mils_at from to (spec.mils_total pieces.now)) }
+    ensures mils { IfOk result
+        (λ carried. spec.mils_total carried ≡ spec.mils_at from to (spec.mils_total pieces.now)) }
     ensures cost { IfOk result (λ carried. spec.cost_total carried ≤ spec.cost_total pieces.now) }
 {
     let mut carried = Pieces::new(alloc);
@@ -38,7 +40,9 @@ fn push_renewed(
     before: u64,
 ) -> Result<(), NoMemory>
     requires { before + piece.now.mils ≤ 1000000000000 }
-    ensures ok { OnOk result (carried.new ≡ carried.old ++ filter spec.has_mils (spec.renewed from to before piece.now ∷ [])) }
+    ensures ok { OnOk result
+        (carried.new
+        ≡ carried.old ++ filter spec.has_mils (spec.renewed from to before piece.now ∷ [])) }
     ensures err { OnErr result (carried.new ≡ carried.old) }
 {
     let mils = new_mils(from, to, before, mils_of(piece));

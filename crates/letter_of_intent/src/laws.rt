@@ -18,31 +18,64 @@ use money_units::{Cents, Mils, Nav};
 /// What a letter has bought is what the purchases under it paid together. It stays within its limits while that is less
 /// than its amount, and its amount, day, credit and rate never change.
 pub fn a_letter_counts_its_purchases()
-    ensures from_its_beginning { (amount day start : ℕ) (front : List Bracket) (purchases : List Purchase) → (after_all (begun amount day start front) purchases).bought ≡ gross_total purchases }
-    ensures bought { (letter : Letter) (purchases : List Purchase) → (after_all letter purchases).bought ≡ letter.bought + gross_total purchases }
-    ensures stays { (letter : Letter) (purchases : List Purchase) → IsLetter letter → letter.bought + gross_total purchases < letter.amount → IsLetter (after_all letter purchases) }
-    ensures same { (letter : Letter) (purchases : List Purchase) → after_all letter purchases ≡ record letter { rest = (after_all letter purchases).rest; bought = (after_all letter purchases).bought } }
-    ensures held { (letter : Letter) (purchases : List Purchase) → held_total letter purchases ≤ mils_total purchases }
-    ensures rest_falls { (letter : Letter) (purchases : List Purchase) → (after_all letter purchases).rest ≤ letter.rest }
+    ensures from_its_beginning { (amount day start : ℕ) (front : List Bracket) (purchases : List Purchase)
+        → (after_all (begun amount day start front) purchases).bought ≡ gross_total purchases }
+    ensures bought { (letter : Letter) (purchases : List Purchase)
+        → (after_all letter purchases).bought ≡ letter.bought + gross_total purchases }
+    ensures stays { (letter : Letter) (purchases : List Purchase)
+        → IsLetter letter
+        → letter.bought + gross_total purchases < letter.amount
+        → IsLetter (after_all letter purchases) }
+    ensures same { (letter : Letter) (purchases : List Purchase)
+        → after_all letter purchases
+        ≡ record letter {
+          rest = (after_all letter purchases).rest;
+          bought = (after_all letter purchases).bought;
+        } }
+    ensures held { (letter : Letter) (purchases : List Purchase)
+        → held_total letter purchases ≤ mils_total purchases }
+    ensures rest_falls { (letter : Letter) (purchases : List Purchase)
+        → (after_all letter purchases).rest ≤ letter.rest }
 {}
 
 /// Over all purchases of its account and class and all sheets of its calendar, a letter that stands is the one that
 /// began with those purchases noted, within its limits. It ends reached only where they make its amount, and by date
 /// only short of it, at a sheet past its months.
 pub fn what_becomes_of_a_letter()
-    ensures bought { (amount day start : ℕ) (front : List Bracket) (events : List Event) (now : Letter) → fate (begun amount day start front) events ≡ Stands now → now.bought ≡ gross_total (purchases_of events) }
-    ensures stands { (letter : Letter) (events : List Event) (now : Letter) → fate letter events ≡ Stands now → now ≡ after_all letter (purchases_of events) }
-    ensures limits { (letter : Letter) (events : List Event) (now : Letter) → IsLetter letter → fate letter events ≡ Stands now → IsLetter now }
-    ensures reached { (letter : Letter) (events : List Event) (ended : Letter) → fate letter events ≡ Reached ended → ended.amount ≤ ended.bought }
-    ensures expired { (letter : Letter) (events : List Event) (ended : Letter) → fate letter events ≡ Expired ended → list_any (is_past letter) events ≡ true }
-    ensures short { (letter : Letter) (events : List Event) (ended : Letter) → IsLetter letter → fate letter events ≡ Expired ended → IsLetter ended }
+    ensures bought { (amount day start : ℕ) (front : List Bracket) (events : List Event) (now : Letter)
+        → fate (begun amount day start front) events ≡ Stands now
+        → now.bought ≡ gross_total (purchases_of events) }
+    ensures stands { (letter : Letter) (events : List Event) (now : Letter)
+        → fate letter events ≡ Stands now
+        → now ≡ after_all letter (purchases_of events) }
+    ensures limits { (letter : Letter) (events : List Event) (now : Letter)
+        → IsLetter letter
+        → fate letter events ≡ Stands now
+        → IsLetter now }
+    ensures reached { (letter : Letter) (events : List Event) (ended : Letter)
+        → fate letter events ≡ Reached ended
+        → ended.amount ≤ ended.bought }
+    ensures expired { (letter : Letter) (events : List Event) (ended : Letter)
+        → fate letter events ≡ Expired ended
+        → list_any (is_past letter) events ≡ true }
+    ensures short { (letter : Letter) (events : List Event) (ended : Letter)
+        → IsLetter letter
+        → fate letter events ≡ Expired ended
+        → IsLetter ended }
 {}
 
 /// Without a sheet past its months a letter stands while its purchases make less than its amount, and is reached once
 /// they make it.
 pub fn a_letter_ends_by_its_amount()
-    ensures stands { (letter : Letter) (events : List Event) → list_any (is_past letter) events ≡ false → letter.bought + gross_total (purchases_of events) < letter.amount → fate letter events ≡ Stands (after_all letter (purchases_of events)) }
-    ensures reached { (letter : Letter) (events : List Event) → list_any (is_past letter) events ≡ false → letter.bought < letter.amount → letter.amount ≤ letter.bought + gross_total (purchases_of events) → (ended : Letter) × (fate letter events ≡ Reached ended) }
+    ensures stands { (letter : Letter) (events : List Event)
+        → list_any (is_past letter) events ≡ false
+        → letter.bought + gross_total (purchases_of events) < letter.amount
+        → fate letter events ≡ Stands (after_all letter (purchases_of events)) }
+    ensures reached { (letter : Letter) (events : List Event)
+        → list_any (is_past letter) events ≡ false
+        → letter.bought < letter.amount
+        → letter.amount ≤ letter.bought + gross_total (purchases_of events)
+        → (ended : Letter) × (fate letter events ≡ Reached ended) }
 {}
 
 /// Shares are to be held for a twentieth of the amount, and for less than a cent more.
@@ -58,7 +91,8 @@ pub fn the_escrow_is_held_once(letter: Letter, gross: Cents, price: Cents, mils:
     requires price { 1 ≤ price }
     ensures within { mils_to_hold letter price mils ≤ mils }
     ensures falls { (after_purchase letter gross price mils).rest ≤ letter.rest }
-    ensures by_cost { 1000 * (letter.rest - (after_purchase letter gross price mils).rest) ≤ mils_to_hold letter price mils * price }
+    ensures by_cost { 1000 * (letter.rest - (after_purchase letter gross price mils).rest)
+        ≤ mils_to_hold letter price mils * price }
     ensures covers { mils_to_hold letter price mils < mils → (after_purchase letter gross price mils).rest ≡ 0 }
     ensures least { mils_to_hold letter price mils * price < 1000 * letter.rest + price }
     ensures nothing_left { letter.rest ≡ 0 → mils_to_hold letter price mils ≡ 0 }
@@ -75,10 +109,13 @@ pub fn what_has_expired_stays_so(letter: Letter, day: Day, later: Day)
 /// Where some are left nothing is waived, and no mil is paid beyond what is due.
 pub fn what_is_due_is_paid_or_waived(rows: &[Bracket], letter: Letter, nav: Nav, held: Mils)
     requires nav { 1 ≤ nav }
-    ensures whole { (settlement rows.now letter nav held).cash + (settlement rows.now letter nav held).waived ≡ load_due rows.now letter }
+    ensures whole { (settlement rows.now letter nav held).cash + (settlement rows.now letter nav held).waived
+        ≡ load_due rows.now letter }
     ensures within { (settlement rows.now letter nav held).paid ≤ held }
-    ensures worth { (settlement rows.now letter nav held).cash ≤ half ((settlement rows.now letter nav held).paid * nav) 1000 }
-    ensures covered { (settlement rows.now letter nav held).paid < held → (settlement rows.now letter nav held).waived ≡ 0 }
+    ensures worth { (settlement rows.now letter nav held).cash
+        ≤ half ((settlement rows.now letter nav held).paid * nav) 1000 }
+    ensures covered { (settlement rows.now letter nav held).paid < held
+        → (settlement rows.now letter nav held).waived ≡ 0 }
     ensures least { (settlement rows.now letter nav held).paid * nav < 1000 * load_due rows.now letter + nav }
 {}
 
@@ -99,6 +136,7 @@ pub fn a_reached_amount_leaves_nothing_due(rows: &[Bracket], letter: Letter, nav
     requires nav { 1 ≤ nav }
     ensures rate { letter.amount ≤ letter.start + letter.bought → rate_earned rows.now letter ≡ letter.rate }
     ensures due { letter.amount ≤ letter.start + letter.bought → load_due rows.now letter ≡ 0 }
-    ensures paid { letter.amount ≤ letter.start + letter.bought → (settlement rows.now letter nav held).paid ≡ 0 }
+    ensures paid { letter.amount ≤ letter.start + letter.bought
+        → (settlement rows.now letter nav held).paid ≡ 0 }
     ensures no_purchase { letter.bought ≡ 0 → load_due rows.now letter ≡ 0 }
 {}

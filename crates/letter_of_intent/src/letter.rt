@@ -1,3 +1,4 @@
+//! A letter of intent: its rate, its escrow, and how it ends.
 ghost use Rattle.std.specs.Prelude.{ℕ, ◌≡◌, ◌↔◌, ◌+◌, ◌-◌, min, ◌<◌, ◌≤◌, ◌^◌, Some, false, if◌then◌else◌, IsTrue};
 ghost use Rattle.money_units.specs.Rounding.{ceil_div};
 ghost use Rattle.fund_calendar.specs.Dates.{months_later, date_of};
@@ -67,7 +68,8 @@ impl Letter {
         requires price { 1 ≤ price }
         ensures noted { result ≡ spec.noted self.old gross price mils }
         ensures letter { self.new ≡ spec.after_purchase self.old gross price mils }
-        ensures case { becomes self.old (Bought (record { gross = gross; price = price; mils = mils })) ≡ (if result.reached then Reached self.new else Stands self.new) }
+        ensures case { becomes self.old (Bought (record { gross = gross; price = price; mils = mils }))
+            ≡ (if result.reached then Reached self.new else Stands self.new) }
         ensures bought { self.new.bought ≡ self.old.bought + gross }
         ensures reached { IsTrue result.reached ↔ (self.old.amount ≤ self.new.bought) }
         ensures held { result.hold ≤ mils }

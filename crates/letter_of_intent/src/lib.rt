@@ -4,8 +4,6 @@
 
 pub mod laws;
 mod letter;
-#[cfg(test)]
-mod tests;
 pub mod worked;
 
 pub use crate::letter::{Letter, Noted, Settlement};

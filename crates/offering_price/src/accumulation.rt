@@ -37,17 +37,19 @@ fn rate_of(rows: &[Bracket], amount: u128) -> Bps
 /// class has no net asset value yet.
 pub fn credit(holdings: &[Holding]) -> u128
     requires count { length holdings.now ≤ 64000 }
-    requires within { All (λ holding. (holding.mils ≤ 1000000000000) × (holding.cost ≤ 1000000000000000)) holdings.now }
+    requires within { All (λ holding. (holding.mils ≤ 1000000000000) × (holding.cost ≤ 1000000000000000))
+        holdings.now }
     ensures { result ≡ credit holdings.now }
 {
     let mut sum = 0;
     for holding in holdings {
-        sum += worth(*holding);
+        sum += credit_of_holding(*holding);
     }
     sum
 }
 
-fn worth(holding: Holding) -> u128
+/// What one position adds to the credit of its household, in cents.
+pub fn credit_of_holding(holding: Holding) -> u128
     requires mils { holding.mils ≤ 1000000000000 }
     requires cost { holding.cost ≤ 1000000000000000 }
     ensures value { result ≡ worth holding }

@@ -5,9 +5,7 @@
 mod accumulation;
 pub mod laws;
 mod purchase;
-#[cfg(test)]
-mod tests;
 pub mod worked;
 
-pub use crate::accumulation::{Holding, bracket, credit};
+pub use crate::accumulation::{Holding, bracket, credit, credit_of_holding};
 pub use crate::purchase::{Split, buy_split, price_of};

@@ -1,3 +1,4 @@
+//! The offering price and the split of a purchase.
 ghost use Rattle.std.specs.Prelude.{◌≡◌, ◌+◌, ◌≤◌, IfSome};
 ghost use Rattle.offering_price.specs.Purchase.{offering_price, mils_bought, proceeds_of, divided, split_of};
 
@@ -17,7 +18,8 @@ pub struct Split {
 /// The offering price of a share at this NAV and rate of load.
 pub fn price_of(nav: Nav, rate: Bps) -> Cents
     requires { rate ≤ 850 }
-    ensures { result ≡ offering_price nav rate }
+    ensures price { result ≡ offering_price nav rate }
+    ensures least { 1 ≤ result }
 {
     let cents = u128::from(nav.cents());
     let rest = 10_000 - u128::from(rate.0);
@@ -31,6 +33,9 @@ pub fn buy_split(gross: Cents, nav: Nav, rate: Bps) -> Option<Split>
     requires rate_within { rate ≤ 850 }
     ensures split { result ≡ split_of gross nav rate }
     ensures whole { IfSome result (λ split. split.proceeds + split.charge ≡ gross) }
+    ensures mils_least { IfSome result (λ split. 1 ≤ split.mils) }
+    ensures mils_most { IfSome result (λ split. split.mils ≤ 1000000000000000) }
+    ensures price_least { IfSome result (λ split. 1 ≤ split.price) }
 {
     let price = price_of(nav, rate);
     let mils = bought(gross, price);
@@ -50,7 +55,8 @@ pub fn buy_split(gross: Cents, nav: Nav, rate: Bps) -> Option<Split>
 fn bought(gross: Cents, price: Cents) -> Mils
     requires positive { 1 ≤ price }
     requires gross_within { gross ≤ 1000000000000 }
-    ensures { result ≡ mils_bought gross price }
+    ensures mils { result ≡ mils_bought gross price }
+    ensures most { result ≤ 1000000000000000 }
 {
     let mils = half(1000 * u128::from(gross.0), u128::from(price.0));
     Mils(mils as u64)

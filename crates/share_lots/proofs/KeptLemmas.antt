@@ -99,3 +99,10 @@ release-keeps_mils (x ∷ xs) = rw (sum_by-cons mils (release_lot x) (map releas
 pub release-keeps_cost : (lots : List Lot) → sum_by (λ l. l.cost) (map release_lot lots) ≡ sum_by (λ l. l.cost) lots
 release-keeps_cost [] = refl
 release-keeps_cost (x ∷ xs) = rw (sum_by-cons (λ (l : Lot). l.cost) (release_lot x) (map release_lot xs), sum_by-cons (λ (l : Lot). l.cost) x xs) (omega (arith, release-keeps_cost xs))
+
+-- the pieces have no more mils than the lots, and no more cost
+pub pieces-mils : (asked : ℕ) (lots : List Lot) → sum_by (λ p. p.mils) (pieces asked lots) ≤ sum_by mils lots
+pieces-mils asked lots = omega (arith, taking-keeps_mils asked lots)
+
+pub pieces-cost : (asked : ℕ) (lots : List Lot) → All (λ l. 1 ≤ mils l) lots → sum_by (λ p. p.cost) (pieces asked lots) ≤ sum_by (λ l. l.cost) lots
+pieces-cost asked lots some = omega (arith, taking-keeps_cost asked lots some)

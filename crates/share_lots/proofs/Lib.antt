@@ -6,3 +6,4 @@ pub mod KeptLemmas
 pub mod PaidLemmas
 pub mod RelationLemmas
 pub mod ValueLemmas
+pub mod AddedLemmas

@@ -363,7 +363,7 @@ lone_free lots true e f = all_owned lots (no_free (find (λ l. l.free) lots) e)
 lone_free lots false e f = cc
 
 -- the free lot joined by more
-number-join : (q c : ℕ) (lot : Lot) → (join_free q c lot).number ≡ lot.number
+pub number-join : (q c : ℕ) (lot : Lot) → (join_free q c lot).number ≡ lot.number
 number-join q c lot = elim lot.free as (λ b. (cond b (record lot { loose = lot.loose + q; cost = lot.cost + c }) lot).number ≡ lot.number) [ true ↦ refl | false ↦ refl ]
 
 day-join : (q c : ℕ) (lot : Lot) → (join_free q c lot).day ≡ lot.day
@@ -390,10 +390,10 @@ owned_behind x xs ranked k d short = ranks-owned x (get_or xs k d) (AllPairs-hea
 join-owned : (q c : ℕ) (lot : Lot) → lot.free ≡ false → join_free q c lot ≡ lot
 join-owned q c lot e = ap (λ b. cond b (record lot { loose = lot.loose + q; cost = lot.cost + c }) lot) e
 
-join-free : (q c : ℕ) (lot : Lot) → lot.free ≡ true → join_free q c lot ≡ record lot { loose = lot.loose + q; cost = lot.cost + c }
+pub join-free : (q c : ℕ) (lot : Lot) → lot.free ≡ true → join_free q c lot ≡ record lot { loose = lot.loose + q; cost = lot.cost + c }
 join-free q c lot e = ap (λ b. cond b (record lot { loose = lot.loose + q; cost = lot.cost + c }) lot) e
 
-map-join_none : (q c : ℕ) (lots : List Lot) → All (λ l. l.free ≡ false) lots → map (join_free q c) lots ≡ lots
+pub map-join_none : (q c : ℕ) (lots : List Lot) → All (λ l. l.free ≡ false) lots → map (join_free q c) lots ≡ lots
 map-join_none q c [] owned = refl
 map-join_none q c (x ∷ xs) owned =
     let here = join-owned q c x (All-head (λ l. l.free ≡ false) x xs owned) in

@@ -25,7 +25,8 @@ fn free_number(lots: &[Lot]) -> Option<u32>
 
 /// A new lot of loose mils.
 pub(crate) fn new_lot(number: u32, day: Day, mils: Mils, cost: Cents, free: bool) -> Lot
-    ensures { result ≡ record { number = number; day = day; loose = mils; held = 0; cost = cost; free = free } }
+    ensures { result
+        ≡ record { number = number; day = day; loose = mils; held = 0; cost = cost; free = free } }
 {
     Lot {
         number,
@@ -80,7 +81,8 @@ pub(crate) fn insert_lot(lots: &mut Vec<Lot>, lot: Lot) -> Result<(), NoMemory>
 /// The place of a lot by rank: the lots that come before it stand there.
 fn place_of(lots: &[Lot], lot: &Lot) -> usize
     requires { spec.AreRanked lots.now }
-    ensures point { IsPartitionPoint (λ other. spec.ranks_before other lot.now ≡ true) (λ other. spec.ranks_before other lot.now ≡ false) lots.now result }
+    ensures point { IsPartitionPoint (λ other. spec.ranks_before other lot.now ≡ true)
+        (λ other. spec.ranks_before other lot.now ≡ false) lots.now result }
     ensures bound { result ≤ length lots.now }
 {
     lots.partition_point(|other| ranks_before(other, lot))
@@ -97,4 +99,13 @@ pub(crate) fn ranked_lots(alloc: Global, lots: &[Lot], next_lot: u32) -> Result<
         insert_lot(&mut places, copy_of(lot))?;
     }
     Ok(places)
+}
+
+/// A copy of the lots.
+pub(crate) fn copied_lots(alloc: Global, lots: &[Lot]) -> Result<Vec<Lot>, NoMemory>
+    ensures { IfOk result (λ copy. copy.items ≡ lots.now) }
+{
+    let mut copy = Vec::with_capacity(alloc, lots.len())?;
+    copy.extend_from_slice(lots)?;
+    Ok(copy)
 }

@@ -11,8 +11,6 @@ mod paying;
 mod pieces;
 mod position;
 mod taking;
-#[cfg(test)]
-mod tests;
 mod value;
 pub mod worked;
 

@@ -1,7 +1,8 @@
+//! A position: the lots of one account and class, by rank.
 ghost use Rattle.std.specs.Prelude.{◌≡◌, [], ◌+◌, ◌≤◌, ◌<◌, ◌⊎◌, sum_by, IfOk, IfErr, OnOk, OnErr};
 ghost use Rattle.share_lots.specs.declared.position.TakeFault.TheVariants.{Short, NoMemory};
 
-use crate::adding::{insert_lot, join_free, lot_joined, new_lot, ranked_lots};
+use crate::adding::{copied_lots, insert_lot, join_free, lot_joined, new_lot, ranked_lots};
 use crate::escrow::{hold_back, release_lots};
 use crate::lot_list::{cost_total, held_total, loose_total};
 use crate::paying::pay_lots;
@@ -117,12 +118,40 @@ impl Position {
         Mils(held_total(&self.lots))
     }
 
+    /// The mils, loose and held together.
+    pub fn mils(&self) -> Mils
+        ensures total { result ≡ spec.loose_total self.now + spec.held_total self.now }
+        ensures bound { result ≤ spec.most_mils }
+    {
+        Mils(loose_total(&self.lots) + held_total(&self.lots))
+    }
+
     /// The cost of loose and held mils.
     pub fn cost(&self) -> Cents
         ensures total { result ≡ spec.cost_total self.now }
         ensures bound { result ≤ spec.most_cost }
     {
         Cents(cost_total(&self.lots))
+    }
+
+    /// A copy of the position.
+    pub fn copied(&self, alloc: Global) -> Result<Position, money_units::NoMemory>
+        ensures { IfOk result (λ copy. copy ≡ self.now) }
+    {
+        Ok(Position {
+            lots: copied_lots(alloc, &self.lots)?,
+            next_lot: self.next_lot,
+        })
+    }
+
+    /// The pieces that a taking of so many mils gives, while nothing is taken.
+    pub fn pieces(&self, alloc: Global, mils: Mils) -> Result<Pieces, money_units::NoMemory>
+        ensures pieces { IfOk result (λ pieces. pieces ≡ taking.pieces mils self.now.lots) }
+        ensures few_mils { IfOk result (λ pieces. sum_by (λ p. p.mils) pieces ≤ spec.most_mils) }
+        ensures low_cost { IfOk result (λ pieces. sum_by (λ p. p.cost) pieces ≤ spec.most_cost) }
+    {
+        let pieces = take_pieces(alloc, &self.lots, mils.0)?;
+        Ok(pieces)
     }
 
     /// Adds mils with their cost, and answers the number of their lot. Free ones join the free lot where there is one,
@@ -137,8 +166,17 @@ impl Position {
         requires positive { 1 ≤ mils }
         requires few_mils { spec.loose_total self.old + spec.held_total self.old + mils ≤ spec.most_mils }
         requires low_cost { spec.cost_total self.old + cost ≤ spec.most_cost }
-        requires next { self.old.next_lot < 4294967295 }
-        ensures added { IfOk result (λ number. record { number = number; holding = self.new } ≡ spec.added self.old day mils cost free) }
+        requires next { (spec.added self.old day mils cost free).holding.next_lot ≤ 4294967295 }
+        ensures added { IfOk result
+            (λ number.
+            record { number = number; holding = self.new }
+            ≡ spec.added self.old day mils cost free) }
+        ensures loose { IfOk result (λ number. spec.HasLoose self.new.lots number mils) }
+        ensures mils_grown { OnOk result
+            (spec.loose_total self.new + spec.held_total self.new
+            ≡ spec.loose_total self.old + spec.held_total self.old + mils) }
+        ensures cost_grown { OnOk result (spec.cost_total self.new ≡ spec.cost_total self.old + cost) }
+        ensures next_after { OnOk result (self.new.next_lot ≤ self.old.next_lot + 1) }
         ensures unchanged { OnErr result (self.new ≡ self.old) }
     {
         match lot_joined(&self.lots, free) {
@@ -180,9 +218,19 @@ impl Position {
         ensures rest { OnOk result (self.new ≡ taking.after_taking self.old mils) }
         ensures enough { OnOk result (mils ≤ spec.loose_total self.old) }
         ensures whole { IfOk result (λ pieces. sum_by (λ p. p.mils) pieces ≡ mils) }
-        ensures mils_kept { IfOk result (λ pieces. sum_by (λ p. p.mils) pieces + sum_by spec.mils self.new.lots ≡ sum_by spec.mils self.old.lots) }
-        ensures cost_kept { IfOk result (λ pieces. sum_by (λ p. p.cost) pieces + spec.cost_total self.new ≡ spec.cost_total self.old) }
-        ensures refused { IfErr result (λ fault. (fault ≡ NoMemory) ⊎ ((fault ≡ Short (spec.loose_total self.old)) × (spec.loose_total self.old < mils))) }
+        ensures mils_kept { IfOk result
+            (λ pieces.
+            sum_by (λ p. p.mils) pieces + sum_by spec.mils self.new.lots
+            ≡ sum_by spec.mils self.old.lots) }
+        ensures cost_kept { IfOk result
+            (λ pieces.
+            sum_by (λ p. p.cost) pieces + spec.cost_total self.new
+            ≡ spec.cost_total self.old) }
+        ensures refused { IfErr result
+            (λ fault.
+            (fault ≡ NoMemory)
+            ⊎ ((fault ≡ Short (spec.loose_total self.old))
+            × (spec.loose_total self.old < mils))) }
         ensures unchanged { OnErr result (self.new ≡ self.old) }
     {
         let loose = loose_total(&self.lots);
@@ -195,13 +243,23 @@ impl Position {
         Ok(pieces)
     }
 
+    /// Takes loose mils by rank whose pieces were looked at before.
+    pub fn remove(&mut self, mils: Mils)
+        requires enough { mils ≤ spec.loose_total self.old }
+        ensures rest { self.new ≡ taking.after_taking self.old mils }
+    {
+        reduce_lots(&mut self.lots, mils.0);
+        remove_empty(&mut self.lots);
+    }
+
     /// Pays held mils by date and number; each lot keeps the rest of its cost.
     pub fn pay_held(&mut self, mils: Mils)
         requires { mils ≤ spec.held_total self.old }
         ensures paid { self.new ≡ taking.after_paying self.old mils }
         ensures whole { spec.held_total self.new + mils ≡ spec.held_total self.old }
         ensures loose_kept { spec.loose_total self.new ≡ spec.loose_total self.old }
-        ensures cost_kept { sum_by (taking.cost_paid self.old.lots mils) self.old.lots + spec.cost_total self.new ≡ spec.cost_total self.old }
+        ensures cost_kept { sum_by (taking.cost_paid self.old.lots mils) self.old.lots + spec.cost_total self.new
+            ≡ spec.cost_total self.old }
     {
         pay_lots(&mut self.lots, mils.0);
         remove_empty(&mut self.lots);
