@@ -10,3 +10,4 @@ pub mod OrderlyFacts
 pub mod KeptFacts
 pub mod OrderFacts
 pub mod LawFacts
+pub mod RoomFacts

@@ -13,7 +13,7 @@ use Rattle.forward_price.specs.declared.price_sheet.Sheet.{Sheet}
 use Rattle.forward_price.specs.declared.price_sheet.Patch.{Patch}
 use Rattle.forward_price.specs.Sheets.{nav_on, lists_class}
 use Rattle.forward_price.specs.Choices.{considered, best}
-use Rattle.forward_price.specs.PriceTables.{is_sheet_at, corrected_price, with_prices, corrected_sheet, corrected, patched, patched_nav, sheet_numbered, sheet_before, is_before, is_later, price_on, price_before, prices_on}
+use Rattle.forward_price.specs.PriceTables.{is_sheet_at, corrected_price, with_prices, corrected_sheet, corrected, patched, patched_nav, sheet_numbered, sheet_before, is_before, is_later, price_on, price_before}
 
 tested : (b : Bool) → (b ≡ true) ⊎ (b ≡ false)
 tested true = inl refl
@@ -152,14 +152,6 @@ before-patched None sheets class moment = read_plain class (sheet_before sheets 
 before-patched (Some patch) sheets class moment =
     ap (option_and_then (λ s. nav_on s.prices class)) (before-corrected patch.class patch.sheet patch.nav class moment sheets)
     ∙ read_patched patch class (sheet_before sheets class moment)
-
-pub prices_on-kept : (class number nav : ℕ) (sheets : List Sheet) → prices_on (corrected class number nav sheets) ≡ prices_on sheets
-prices_on-kept class number nav [] = refl
-prices_on-kept class number nav (s ∷ ss) =
-    sum_by-cons (λ sheet. length sheet.prices) (corrected_sheet class number nav s) (corrected class number nav ss)
-    ∙ ap (λ n. n + prices_on (corrected class number nav ss)) (length-kept class number nav s)
-    ∙ ap (λ n. length s.prices + n) (prices_on-kept class number nav ss)
-    ∙ sym (sum_by-cons (λ sheet. length sheet.prices) s ss)
 
 at-kept : (class number nav calendar : ℕ) (moment : ℤ) (s : Sheet) → is_sheet_at calendar moment (corrected_sheet class number nav s) ≡ is_sheet_at calendar moment s
 at-kept class number nav calendar moment s =

@@ -2,7 +2,8 @@
 use Rattle.std.specs.Prelude.{◌≡◌, Bool, true, false, if◌then◌else◌, List, Option, Some, None, All, Contains, fold}
 
 -- it is among them and passes, and none that passes is better
-pub record IsBest {X : Type 0} (passes : X → Bool) (better : X → X → Bool) (xs : List X) (x : X) : Type 0 where
+pub record IsBest {X : Type 0} (passes : X → Bool) (better : X → X
+    → Bool) (xs : List X) (x : X) : Type 0 where
   pub among : Contains xs x
   pub here : passes x ≡ true
   pub best : All (λ other. passes other ≡ true → better other x ≡ false) xs

@@ -8,19 +8,37 @@ use Rattle.forward_price.specs.PriceTables.{Table}
 abbrev pub july : ℕ → Listing
 july number = record {
   number = number;
-  days = record { day = 19905; moment = 1719864000 } ∷ record { day = 19906; moment = 1719950400 } ∷ record { day = 19907; moment = 1720036800 } ∷ record { day = 19909; moment = 1720209600 } ∷ [];
+  days = record { day = 19905; moment = 1719864000 } ∷ record { day = 19906; moment = 1719950400 }
+      ∷ record { day = 19907; moment = 1720036800 } ∷ record { day = 19909; moment = 1720209600 }
+      ∷ [];
 }
 
 -- class 24 of calendar 2 and class 14 of calendar 1 were opened in the morning of the 1st, and class 13 at 16:00
 abbrev pub openings : List Opening
-openings = record { class = 24; calendar = 2; opened = pos 1719835200 } ∷ record { class = 14; calendar = 1; opened = pos 1719835200 } ∷ record { class = 13; calendar = 1; opened = pos 1719864000 } ∷ []
+openings = record { class = 24; calendar = 2; opened = pos 1719835200 }
+    ∷ record { class = 14; calendar = 1; opened = pos 1719835200 }
+    ∷ record { class = 13; calendar = 1; opened = pos 1719864000 } ∷ []
 
 -- the sheets of the 1st and the 2nd of calendar 1
 abbrev pub first_sheet : Sheet
-first_sheet = record { number = 1; calendar = 1; moment = pos 1719864000; day = 19905; prices = (14, 1000) ∷ [] }
+first_sheet = record {
+  number = 1;
+  calendar = 1;
+  moment = pos 1719864000;
+  day = 19905;
+  prices =
+      (14, 1000) ∷ [];
+}
 
 abbrev pub second_sheet : Sheet
-second_sheet = record { number = 3; calendar = 1; moment = pos 1719950400; day = 19906; prices = (13, 2000) ∷ (14, 1100) ∷ [] }
+second_sheet = record {
+  number = 3;
+  calendar = 1;
+  moment = pos 1719950400;
+  day = 19906;
+  prices =
+      (13, 2000) ∷ (14, 1100) ∷ [];
+}
 
 abbrev pub on_first : Table
 on_first = record { calendars = july 2 ∷ july 1 ∷ []; classes = openings; sheets = [] }

@@ -9,17 +9,20 @@ use Rattle.forward_price.specs.Turns.{pricing_pairs, must_list, is_awaited, expe
 
 -- each sheet is that of a pricing moment of its calendar
 abbrev pub AreOnPricingDays : List Listing → List Sheet → Type 0
-AreOnPricingDays calendars sheets = All (λ sheet. Contains (pricing_pairs calendars) (sheet.moment, sheet.calendar)) sheets
+AreOnPricingDays calendars sheets = All (λ sheet. Contains (pricing_pairs calendars)
+    (sheet.moment, sheet.calendar)) sheets
 
 -- each sheet lists every class of its calendar opened before its moment, and no other
 abbrev pub AreComplete : List Opening → List Sheet → Type 0
 AreComplete classes sheets =
-    All (λ sheet. (number : ℕ) → lists_class sheet.prices number ≡ must_list classes sheet.calendar sheet.moment number) sheets
+    All (λ sheet. (number : ℕ) → lists_class sheet.prices number
+    ≡ must_list classes sheet.calendar sheet.moment number) sheets
 
 -- no pricing moment of a calendar up to one of its sheets is awaited
 abbrev pub NonePassedOver : List Listing → List Opening → List Sheet → Type 0
 NonePassedOver calendars classes sheets =
-    All (λ sheet. All (λ pair. pair.1 ≡ sheet.calendar → pair.0 ≤ℤ sheet.moment → is_awaited classes sheets pair ≡ false) (pricing_pairs calendars)) sheets
+    All (λ sheet. All (λ pair. pair.1 ≡ sheet.calendar → pair.0 ≤ℤ sheet.moment
+    → is_awaited classes sheets pair ≡ false) (pricing_pairs calendars)) sheets
 
 pub record IsOrderly (t : Table) : Type 0 where
   pub calendars_differ : AllPairs (λ a b. a.number ≢ b.number) t.calendars
@@ -31,7 +34,8 @@ pub record IsOrderly (t : Table) : Type 0 where
 
 -- a class is opened no earlier than the sheets of its calendar
 abbrev pub OpensAfter : List Sheet → ℕ → ℤ → Type 0
-OpensAfter sheets calendar opened = All (λ sheet. sheet.calendar ≡ calendar → sheet.moment ≤ℤ opened) sheets
+OpensAfter sheets calendar opened = All (λ sheet. sheet.calendar ≡ calendar
+    → sheet.moment ≤ℤ opened) sheets
 
 -- the sheet is expected, and its list complete
 pub record IsInTurn (t : Table) (calendar : ℕ) (moment : ℤ) (prices : List (ℕ × ℕ)) : Type 0 where

@@ -1,8 +1,9 @@
 -- The price table: the calendars of the funds, the openings of their classes, and the published sheets in order. An
 -- order is executed only at a price based on the net asset value next computed after its receipt (17 CFR 270.22c-1(a)).
-use Rattle.std.specs.Prelude.{◌<◌, slice_index_or, ◌≡◌, ℕ, ℤ, ◌<ℤ◌, ◌≤ℤ◌, int_lt, Bool, true, ◌&&◌, ◌==◌, if◌then◌else◌, List, [], ◌∷◌, ◌++◌, length, ◌+◌, ◌-◌, take, map, sum_by, Option, Some, None, All, Contains, find, option_map, option_and_then, unwrap_or}
+use Rattle.std.specs.Prelude.{◌<◌, slice_index_or, ◌≡◌, ℕ, ℤ, ◌<ℤ◌, ◌≤ℤ◌, int_lt, Bool, true, ◌&&◌, ◌==◌, if◌then◌else◌, List, [], ◌∷◌, ◌++◌, length, ◌+◌, ◌-◌, take, map, max, slice_get, Option, Some, None, All, Contains, find, option_map, option_and_then, unwrap_or}
 use Rattle.fund_calendar.specs.PricingDays.{Listing, date_at, without_day, lists_day}
 use Rattle.std.specs.List.{list_any}
+use Rattle.std.specs.Option.{option_map_or}
 use Rattle.std.specs.Ordering.{int_eq}
 use Rattle.forward_price.specs.declared.price_sheet.Opening.{Opening}
 use Rattle.forward_price.specs.declared.price_sheet.Sheet.{Sheet}
@@ -15,10 +16,12 @@ pub record Table : Type 0 where
   pub classes : List Opening
   pub sheets : List Sheet
 
--- a price book: its table, and its spare room in prices of a sheet
+-- a price book: its table; how many calendars or classes more take no memory; and how many prices the list of the next
+-- sheet may have without any
 pub record Book : Type 0 where
   pub table : Table
   pub spare : ℕ
+  pub list : ℕ
 
 -- the sheet lists all the classes, and its moment is greater than the receipt
 abbrev pub prices_order : List ℕ → ℤ → Sheet → Bool
@@ -32,19 +35,23 @@ is_later sheet other = int_lt other.moment sheet.moment
 
 -- The next price: the sheet lists all the classes, its moment is greater than the receipt, and no sheet that lists them
 -- all lies between the two.
-pub record NextPrice (sheets : List Sheet) (asked : List ℕ) (receipt : ℤ) (sheet : Sheet) : Type 0 where
+pub record NextPrice (sheets : List Sheet) (asked : List ℕ) (receipt : ℤ)
+    (sheet : Sheet) : Type 0 where
   pub among : Contains sheets sheet
   pub lists : lists_all sheet.prices asked ≡ true
   pub after : receipt <ℤ sheet.moment
-  pub next : All (λ other. lists_all other.prices asked ≡ true → receipt <ℤ other.moment → sheet.moment ≤ℤ other.moment) sheets
+  pub next : All (λ other. lists_all other.prices asked ≡ true → receipt <ℤ other.moment
+      → sheet.moment ≤ℤ other.moment) sheets
 
 -- the sheet of this number has the next price
 abbrev pub IsPricedBy : List Sheet → List ℕ → ℤ → ℕ → Type 0
-IsPricedBy sheets asked receipt number = (sheet : Sheet) × (sheet.number ≡ number) × NextPrice sheets asked receipt sheet
+IsPricedBy sheets asked receipt number = (sheet : Sheet) × (sheet.number ≡ number)
+    × NextPrice sheets asked receipt sheet
 
 -- no sheet has the next price yet: none that lists all the classes is after the receipt
 abbrev pub IsPending : List Sheet → List ℕ → ℤ → Type 0
-IsPending sheets asked receipt = All (λ sheet. lists_all sheet.prices asked ≡ true → receipt <ℤ sheet.moment → ⊥) sheets
+IsPending sheets asked receipt = All (λ sheet. lists_all sheet.prices asked ≡ true
+    → receipt <ℤ sheet.moment → ⊥) sheets
 
 -- the sheet of the next price, computed
 abbrev pub next_sheet : List Sheet → List ℕ → ℤ → Option Sheet
@@ -59,7 +66,8 @@ pub record LastPrice (sheets : List Sheet) (class : ℕ) (moment : ℤ) (sheet :
   pub among : Contains sheets sheet
   pub lists : lists_class sheet.prices class ≡ true
   pub before : sheet.moment <ℤ moment
-  pub last : All (λ other. lists_class other.prices class ≡ true → other.moment <ℤ moment → other.moment ≤ℤ sheet.moment) sheets
+  pub last : All (λ other. lists_class other.prices class ≡ true → other.moment <ℤ moment
+      → other.moment ≤ℤ sheet.moment) sheets
 
 -- the last sheet before a moment, computed
 abbrev pub sheet_before : List Sheet → ℕ → ℤ → Option Sheet
@@ -67,7 +75,8 @@ sheet_before sheets class moment = best (is_before class moment) is_later sheets
 
 -- the sheets are numbered 1, 2, 3 in order of publication
 pub record AreNumbered (sheets : List Sheet) : Type 0 where
-  pub each : (place : ℕ) (d : Sheet) → place < length sheets → (slice_index_or sheets place d).number ≡ place + 1
+  pub each : (place : ℕ) (d : Sheet) → place < length sheets
+      → (slice_index_or sheets place d).number ≡ place + 1
 
 abbrev pub sheet_numbered : List Sheet → ℕ → Option Sheet
 sheet_numbered sheets number = find (λ sheet. sheet.number == number) sheets
@@ -78,15 +87,18 @@ is_sheet_at calendar moment sheet = sheet.calendar == calendar && int_eq sheet.m
 
 -- the number of the sheet of a pricing moment
 abbrev pub number_at : List Sheet → ℕ → ℤ → Option ℕ
-number_at sheets calendar moment = option_map (λ sheet. sheet.number) (find (is_sheet_at calendar moment) sheets)
+number_at sheets calendar moment = option_map (λ sheet. sheet.number)
+    (find (is_sheet_at calendar moment) sheets)
 
 -- the net asset value of a class on the sheet of this number
 abbrev pub price_on : List Sheet → ℕ → ℕ → Option ℕ
-price_on sheets number class = option_and_then (λ sheet. nav_on sheet.prices class) (sheet_numbered sheets number)
+price_on sheets number class = option_and_then
+    (λ sheet. nav_on sheet.prices class) (sheet_numbered sheets number)
 
 -- the net asset value of a class on its last sheet before a moment
 abbrev pub price_before : List Sheet → ℕ → ℤ → Option ℕ
-price_before sheets class moment = option_and_then (λ sheet. nav_on sheet.prices class) (sheet_before sheets class moment)
+price_before sheets class moment = option_and_then
+    (λ sheet. nav_on sheet.prices class) (sheet_before sheets class moment)
 
 -- a price, with another net asset value for one class
 abbrev pub corrected_price : ℕ → ℕ → ℕ × ℕ → ℕ × ℕ
@@ -103,7 +115,8 @@ with_prices sheet prices = record {
 
 abbrev pub corrected_sheet : ℕ → ℕ → ℕ → Sheet → Sheet
 corrected_sheet class number nav sheet =
-    if sheet.number == number then with_prices sheet (map (corrected_price class nav) sheet.prices) else sheet
+    if sheet.number == number then with_prices sheet (map (corrected_price class nav) sheet.prices)
+    else sheet
 
 -- the sheets with another net asset value of one class on the sheet of one number
 abbrev pub corrected : ℕ → ℕ → ℕ → List Sheet → List Sheet
@@ -117,7 +130,8 @@ patched (Some patch) sheets = corrected patch.class patch.sheet patch.nav sheets
 -- the net asset value of a class on one sheet under a correction on trial, which is read for its class and sheet alone
 abbrev pub trial_nav : Option Patch → Sheet → ℕ → ℕ → ℕ
 trial_nav None sheet class nav = nav
-trial_nav (Some patch) sheet class nav = if sheet.number == patch.sheet && class == patch.class then patch.nav else nav
+trial_nav (Some patch) sheet class nav = if sheet.number == patch.sheet && class == patch.class
+    then patch.nav else nav
 
 abbrev pub patched_nav : Option Patch → Sheet → ℕ → Option ℕ
 patched_nav patch sheet class = option_map (trial_nav patch sheet class) (nav_on sheet.prices class)
@@ -185,7 +199,8 @@ without_day_of t calendar day = with_calendars t (map (closed_in calendar day) t
 
 -- the table with one more sheet
 abbrev pub with_published : Table → ℕ → ℤ → List (ℕ × ℕ) → Table
-with_published t calendar moment prices = with_sheets t (t.sheets ++ published t calendar moment prices ∷ [])
+with_published t calendar moment prices = with_sheets t
+    (t.sheets ++ published t calendar moment prices ∷ [])
 
 -- the table without its last sheet
 abbrev pub without_last : Table → Table
@@ -195,6 +210,31 @@ without_last t = with_sheets t (but_last t.sheets)
 abbrev pub with_correction : Table → ℕ → ℕ → ℕ → Table
 with_correction t class number nav = with_sheets t (corrected class number nav t.sheets)
 
--- the prices on all sheets
-abbrev pub prices_on : List Sheet → ℕ
-prices_on sheets = sum_by (λ sheet. length sheet.prices) sheets
+-- nothing is known, published or reserved
+abbrev pub empty_book : Book
+empty_book = record { table = record { calendars = []; classes = []; sheets = [] }; spare = 0; list = 0 }
+
+-- the book with another table and its room as before
+abbrev pub with_table : Book → Table → Book
+with_table book t = record { table = t; spare = book.spare; list = book.list }
+
+-- the prices of the last sheet, and 0 without one
+abbrev pub last_length : List Sheet → ℕ
+last_length sheets = option_map_or (λ sheet. length sheet.prices)
+    (slice_get sheets (length sheets - 1)) 0
+
+-- the book with one more sheet, for whose list the room was taken
+abbrev pub published_book : Book → ℕ → ℤ → List (ℕ × ℕ) → Book
+published_book book calendar moment prices = record {
+  table = with_published book.table calendar moment prices;
+  spare = book.spare;
+  list = 0;
+}
+
+-- the book without its last sheet, whose list gives its room back
+abbrev pub withdrawn_book : Book → Book
+withdrawn_book book = record {
+  table = without_last book.table;
+  spare = book.spare;
+  list = max book.list (last_length book.table.sheets);
+}

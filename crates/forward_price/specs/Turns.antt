@@ -23,12 +23,14 @@ opened_by asked moment class = not (asks_for asked class) || int_lt class.opened
 
 -- the moment is greater than the receipt and than the opening of every class asked for
 abbrev pub is_due : List Opening → List ℕ → ℤ → ℤ → Bool
-is_due classes asked receipt moment = int_lt receipt moment && list_all (opened_by asked moment) classes
+is_due classes asked receipt moment = int_lt receipt moment
+    && list_all (opened_by asked moment) classes
 
 -- the calendar of the classes asked for
 abbrev pub calendar_in : List Listing → List Opening → List ℕ → Option Listing
 calendar_in calendars classes asked =
-    option_and_then (λ class. calendar_numbered calendars class.calendar) (find (asks_for asked) classes)
+    option_and_then (λ class. calendar_numbered calendars class.calendar)
+    (find (asks_for asked) classes)
 
 -- the moment of a pricing day
 abbrev pub moment_at : PricingDay → ℤ
@@ -39,14 +41,16 @@ moments_of c = map moment_at c.days
 
 -- The due moment is the least pricing moment of the calendar that is greater than the receipt and than every opening.
 abbrev pub IsDueOn : List Opening → List ℕ → ℤ → Listing → ℤ → Type 0
-IsDueOn classes asked receipt c moment = IsBest (is_due classes asked receipt) int_lt (moments_of c) moment
+IsDueOn classes asked receipt c moment = IsBest (is_due classes asked receipt) int_lt
+    (moments_of c) moment
 
 -- the due moment, computed
 abbrev pub due_on : List Opening → List ℕ → ℤ → Listing → Option ℤ
 due_on classes asked receipt c = best (is_due classes asked receipt) int_lt (moments_of c)
 
 abbrev pub due_in : List Listing → List Opening → List ℕ → ℤ → Option ℤ
-due_in calendars classes asked receipt = option_and_then (due_on classes asked receipt) (calendar_in calendars classes asked)
+due_in calendars classes asked receipt = option_and_then (due_on classes asked receipt)
+    (calendar_in calendars classes asked)
 
 -- the due moment of an order of these classes with this receipt
 abbrev pub due_of : Table → List ℕ → ℤ → Option ℤ
@@ -55,12 +59,14 @@ due_of t asked receipt = due_in t.calendars t.classes asked receipt
 -- the due moment of an order, on the calendar of its classes
 abbrev pub IsDue : Table → List ℕ → ℤ → ℤ → Type 0
 IsDue t asked receipt moment =
-    (c : Listing) × (calendar_in t.calendars t.classes asked ≡ Some c) × IsDueOn t.classes asked receipt c moment
+    (c : Listing) × (calendar_in t.calendars t.classes asked ≡ Some c)
+    × IsDueOn t.classes asked receipt c moment
 
 -- the calendar of the classes has no moment that is due
 abbrev pub NoneDue : Table → List ℕ → ℤ → Type 0
 NoneDue t asked receipt =
-    (c : Listing) → calendar_in t.calendars t.classes asked ≡ Some c → All (λ moment. is_due t.classes asked receipt moment ≡ false) (moments_of c)
+    (c : Listing) → calendar_in t.calendars t.classes asked ≡ Some c
+    → All (λ moment. is_due t.classes asked receipt moment ≡ false) (moments_of c)
 
 -- a pricing moment of a calendar
 abbrev pub pricing_pair : ℕ → PricingDay → ℤ × ℕ
@@ -84,7 +90,8 @@ is_offered_at calendar moment class = class.calendar == calendar && int_lt class
 -- a class of the calendar was opened earlier, and no sheet of the pricing moment is published
 abbrev pub is_awaited : List Opening → List Sheet → ℤ × ℕ → Bool
 is_awaited classes sheets pair =
-    list_any (is_offered_at pair.1 pair.0) classes && not (list_any (is_sheet_at pair.1 pair.0) sheets)
+    list_any (is_offered_at pair.1 pair.0) classes
+    && not (list_any (is_sheet_at pair.1 pair.0) sheets)
 
 -- the moment is smaller, or it is the same and the calendar has the smaller number
 abbrev pub is_sooner : ℤ × ℕ → ℤ × ℕ → Bool
@@ -92,19 +99,24 @@ is_sooner pair other = int_lt pair.0 other.0 || (int_eq pair.0 other.0 && nat_lt
 
 -- The expected sheet is that of the least pair of moment and calendar over all pricing moments that are awaited.
 abbrev pub IsExpected : Table → ℤ × ℕ → Type 0
-IsExpected t pair = IsBest (is_awaited t.classes t.sheets) is_sooner (pricing_pairs t.calendars) pair
+IsExpected t pair = IsBest (is_awaited t.classes t.sheets) is_sooner
+    (pricing_pairs t.calendars) pair
 
 -- none is expected
 abbrev pub NoneExpected : Table → Type 0
-NoneExpected t = All (λ pair. is_awaited t.classes t.sheets pair ≡ false) (pricing_pairs t.calendars)
+NoneExpected t = All (λ pair. is_awaited t.classes t.sheets pair ≡ false)
+    (pricing_pairs t.calendars)
 
 -- no pricing moment up to here is awaited
-pub record NoneAwaitedTo (calendars : List Listing) (classes : List Opening) (sheets : List Sheet) (passed : ℤ) : Type 0 where
-  pub later : All (λ pair. is_awaited classes sheets pair ≡ true → passed <ℤ pair.0) (pricing_pairs calendars)
+pub record NoneAwaitedTo (calendars : List Listing) (classes : List Opening) (sheets : List Sheet)
+    (passed : ℤ) : Type 0 where
+  pub later : All (λ pair. is_awaited classes sheets pair ≡ true
+      → passed <ℤ pair.0) (pricing_pairs calendars)
 
 -- the expected sheet, computed
 abbrev pub expected_in : List Listing → List Opening → List Sheet → Option (ℤ × ℕ)
-expected_in calendars classes sheets = best (is_awaited classes sheets) is_sooner (pricing_pairs calendars)
+expected_in calendars classes sheets = best (is_awaited classes sheets) is_sooner
+    (pricing_pairs calendars)
 
 abbrev pub expected_of : Table → Option (ℤ × ℕ)
 expected_of t = expected_in t.calendars t.classes t.sheets
@@ -129,14 +141,16 @@ price_numbers prices = map (λ price. price.0) prices
 -- the least class that is missing or too many
 abbrev pub wrong_class : List Opening → ℕ → ℤ → List (ℕ × ℕ) → Option ℕ
 wrong_class classes calendar moment prices =
-    best (is_wrong classes calendar moment prices) nat_lt (class_numbers classes ++ price_numbers prices)
+    best (is_wrong classes calendar moment prices) nat_lt
+    (class_numbers classes ++ price_numbers prices)
 
 -- the class numbers rise
 abbrev pub IsRising : List (ℕ × ℕ) → Type 0
 IsRising prices = AllPairs (λ a b. a.0 < b.0) prices
 
 -- A sheet lists every class of its calendar opened before its moment, and no other, by rising class number.
-pub record IsComplete (classes : List Opening) (calendar : ℕ) (moment : ℤ) (prices : List (ℕ × ℕ)) : Type 0 where
+pub record IsComplete (classes : List Opening) (calendar : ℕ) (moment : ℤ)
+    (prices : List (ℕ × ℕ)) : Type 0 where
   pub rises : IsRising prices
   pub lists : (number : ℕ) → lists_class prices number ≡ must_list classes calendar moment number
 
@@ -159,7 +173,8 @@ list_fault None moment now = if int_lt now moment then Some (TooSoon moment) els
 abbrev pub fault_of : Option (ℤ × ℕ) → Option ℕ → ℕ → ℤ → ℤ → Option PublishFault
 fault_of None wrong calendar moment now = Some (SheetOutOfTurn (pos 0) 0)
 fault_of (Some pair) wrong calendar moment now =
-    if is_pair calendar moment pair then list_fault wrong moment now else Some (SheetOutOfTurn pair.0 pair.1)
+    if is_pair calendar moment pair then list_fault wrong moment now
+    else Some (SheetOutOfTurn pair.0 pair.1)
 
 -- why a sheet can't be published: it isn't the expected one, its list isn't complete, or its moment is to come
 abbrev pub publish_fault : Table → ℕ → ℤ → List (ℕ × ℕ) → ℤ → Option PublishFault

@@ -120,8 +120,10 @@ fn first_awaited(
     sheets: &[Sheet],
     passed: i64,
 ) -> Option<(i64, u32)>
-    requires { All (λ pair. is_awaited classes.now sheets.now pair ≡ true → passed <ℤ pair.0) (pairs_of calendar.now) }
-    ensures choice { IsChoice (is_awaited classes.now sheets.now) is_sooner (pairs_of calendar.now) result }
+    requires { All (λ pair. is_awaited classes.now sheets.now pair ≡ true
+        → passed <ℤ pair.0) (pairs_of calendar.now) }
+    ensures choice { IsChoice (is_awaited classes.now sheets.now) is_sooner
+        (pairs_of calendar.now) result }
     ensures within { IfSome result IsMomentOf }
 {
     let number = calendar.number();
@@ -237,7 +239,9 @@ fn least_missing(
     moment: i64,
     prices: &[(u32, Nav)],
 ) -> Option<u32>
-    ensures { result ≡ fold (considered (is_wrong classes.now calendar moment prices.now) nat_lt) None (class_numbers classes.now) }
+    ensures { result ≡ fold
+        (considered (is_wrong classes.now calendar moment prices.now) nat_lt) None
+        (class_numbers classes.now) }
 {
     let mut found = None;
     for class in classes {
@@ -311,7 +315,8 @@ pub fn fault_of(
 }
 
 fn date_at(calendars: &[Calendar], number: u32, moment: i64) -> Option<Day>
-    ensures { result ≡ option_and_then (λ c. date_at c moment) (calendar_numbered calendars.now number) }
+    ensures { result ≡ option_and_then (λ c. date_at c moment)
+        (calendar_numbered calendars.now number) }
 {
     let calendar = calendar_numbered(calendars, number)?;
     calendar.date_of(moment)

@@ -10,8 +10,6 @@ mod price_book;
 mod price_sheet;
 mod room;
 mod sheet;
-#[cfg(test)]
-mod tests;
 pub mod worked;
 
 pub use crate::lookups::{lists_class, nav_on};

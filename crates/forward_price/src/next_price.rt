@@ -144,7 +144,8 @@ fn patched_nav(patch: Option<Patch>, sheet: &Sheet, class: u32) -> Option<Nav>
 /// The net asset value of a class on the sheet of this number, under a correction on trial.
 pub fn price(patch: Option<Patch>, sheets: &[Sheet], number: u32, class: u32) -> Option<Nav>
     requires { AreNumbered sheets.now }
-    ensures { result ≡ option_and_then (λ sheet. patched_nav patch sheet class) (sheet_numbered sheets.now number) }
+    ensures { result ≡ option_and_then (λ sheet. patched_nav patch sheet class)
+        (sheet_numbered sheets.now number) }
 {
     let sheet = sheet_numbered(sheets, number)?;
     patched_nav(patch, sheet, class)
@@ -152,7 +153,8 @@ pub fn price(patch: Option<Patch>, sheets: &[Sheet], number: u32, class: u32) ->
 
 /// The net asset value of a class on its last sheet before a moment, under a correction on trial.
 pub fn last_before(patch: Option<Patch>, sheets: &[Sheet], class: u32, moment: i64) -> Option<Nav>
-    ensures { result ≡ option_and_then (λ sheet. patched_nav patch sheet class) (sheet_before sheets.now class moment) }
+    ensures { result ≡ option_and_then (λ sheet. patched_nav patch sheet class)
+        (sheet_before sheets.now class moment) }
 {
     match sheet_before(sheets, class, moment) {
         Some(sheet) => patched_nav(patch, sheet, class),

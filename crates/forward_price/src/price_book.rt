@@ -1,8 +1,9 @@
+//! The price book: calendars, openings of classes and published sheets, with room for more.
 ghost use Rattle.std.specs.Prelude.{◌≡◌, ◌↔◌, ℕ, ◌+◌, ◌<◌, ◌≤◌, nat_lt, length, is_some, true, [], ◌∷◌, Some, None, option_map, pos, OnOk, OnErr, IfOk, IfErr, IfSome, IfNone};
 ghost use Rattle.std.specs.Option.{option_copied};
 ghost use Rattle.std.specs.Bool.{OnFalse};
 ghost use Rattle.fund_calendar.specs.PricingDays.{Listing, IsMoment};
-ghost use Rattle.forward_price.specs.PriceTables.{AreNumbered, Table, Book, next_sheet, IsPricedBy, IsPending, sheet_numbered, number_at, price_on, price_before, patched, calendar_numbered, class_opened, with_calendar, with_class, with_published, without_last, with_correction, without_day_of, is_priced, prices_on};
+ghost use Rattle.forward_price.specs.PriceTables.{AreNumbered, Table, Book, next_sheet, IsPricedBy, IsPending, sheet_numbered, number_at, price_on, price_before, patched, calendar_numbered, class_opened, with_calendar, with_class, with_published, with_correction, without_day_of, is_priced, empty_book, with_table, published_book, withdrawn_book};
 ghost use Rattle.forward_price.specs.Turns.{due_of, IsDue, NoneDue, expected_of, wrong_class, publish_fault, IsExpected, NoneExpected, IsMomentOf, NamesMoment, IsRising};
 
 use crate::price_sheet::{NoSheet, Opening, Patch, PublishFault, Sheet};
@@ -12,18 +13,18 @@ use money_units::{Nav, NoMemory};
 use std::alloc::Global;
 use std::marker::Model;
 
-/// The calendars of the funds, the openings of their classes, the published sheets, and spare room for more.
+/// The calendars of the funds, the openings of their classes, the published sheets, and room for more.
 ///
-/// Contracts see the table of these, and `spare`, the room that was reserved, counted in prices of a sheet: a calendar
-/// or a class takes 1 of it.
+/// Contracts see the table of these, `spare`, how many calendars or classes more take no memory, and `list`, how many
+/// prices the list of the next sheet may have without any.
 #[derive(Drop)]
 pub struct PriceBook {
     calendars: Vec<Calendar>,
     classes: Vec<Opening>,
     sheets: Vec<Sheet>,
+    // The memory of the next sheet's list, and how many prices of it were reserved.
     room: Vec<(u32, Nav)>,
-    // The prices on all sheets. Calendars and classes have room for them too, since a withdrawal gives it back.
-    listed: usize,
+    list: usize,
     spare: usize,
     // No pricing moment up to this one is awaited.
     passed: i64,
@@ -33,30 +34,37 @@ pub struct PriceBook {
 const NONE_PASSED: i64 = -1;
 
 impl Model for PriceBook {
-    ghost use Rattle.std.specs.Prelude.{◌≡◌, ◌+◌, ◌<◌, ◌≤◌, [], length};
-    ghost use Rattle.std.specs.Vec.{vec_len, vec_capacity};
-    ghost use Rattle.forward_price.specs.PriceTables.{AreNumbered, Book, prices_on};
-    ghost use Rattle.forward_price.specs.Turns.{NoneAwaitedTo};
+    ghost use Rattle.forward_price.specs.PriceTables.{Book};
 
     ghost Value = { Book };
 
-    ghost view = { λ book. record { table = record { calendars = book.calendars.items; classes = book.classes.items; sheets = book.sheets.items }; spare = book.spare } };
+    ghost use Rattle.forward_price.specs.Kept.{KeepsBook};
 
-    ghost invariant = { λ book. (vec_len book.calendars + (book.spare + book.listed) ≤ vec_capacity book.calendars) × (vec_len book.classes + (book.spare + book.listed) ≤ vec_capacity book.classes) × (book.room.items ≡ []) × (book.spare ≤ vec_capacity book.room) × (0 < book.spare → vec_len book.sheets < vec_capacity book.sheets) × (book.listed ≡ prices_on book.sheets.items) × NoneAwaitedTo book.calendars.items book.classes.items book.sheets.items book.passed × AreNumbered book.sheets.items };
+    ghost view = { λ book. record {
+      table = record {
+        calendars = book.calendars.items;
+        classes = book.classes.items;
+        sheets = book.sheets.items;
+      };
+      spare = book.spare;
+      list = book.list;
+    } };
+
+    ghost invariant = { KeepsBook };
 }
 
 impl PriceBook {
-    /// A book without calendars, classes and sheets, and without spare room.
+    /// A book without calendars, classes and sheets, and without room.
     #[tactic(auto, using(crate::proofs::TurnFacts::none_passed, crate::proofs::NumberFacts::none_numbered))]
     pub fn new(alloc: Global) -> Result<PriceBook, NoMemory>
-        ensures { IfOk result (λ book. book ≡ record { table = record { calendars = []; classes = []; sheets = [] }; spare = 0 }) }
+        ensures { IfOk result (λ book. book ≡ empty_book) }
     {
         Ok(PriceBook {
             calendars: Vec::new(alloc),
             classes: Vec::new(alloc),
             sheets: Vec::new(alloc),
             room: Vec::new(alloc),
-            listed: 0,
+            list: 0,
             spare: 0,
             passed: NONE_PASSED,
         })
@@ -94,10 +102,13 @@ impl PriceBook {
         prices: &[(u32, Nav)],
         now: i64,
     ) -> Result<(), PublishFault>
-        ensures ok { IfOk result (λ _. publish_fault self.now.table calendar moment prices.now now ≡ None) }
+        ensures ok { IfOk result (λ _. publish_fault self.now.table calendar moment prices.now now
+            ≡ None) }
         ensures in_turn { IfOk result (λ _. expected_of self.now.table ≡ Some (moment, calendar)) }
-        ensures complete { IfOk result (λ _. wrong_class self.now.table.classes calendar moment prices.now ≡ None) }
-        ensures refused { IfErr result (λ fault. publish_fault self.now.table calendar moment prices.now now ≡ Some fault) }
+        ensures complete { IfOk result
+            (λ _. wrong_class self.now.table.classes calendar moment prices.now ≡ None) }
+        ensures refused { IfErr result
+            (λ fault. publish_fault self.now.table calendar moment prices.now now ≡ Some fault) }
         ensures within { IfErr result NamesMoment }
     {
         let expected = self.expected();
@@ -147,7 +158,8 @@ impl PriceBook {
     /// The number of the sheet that prices an order of these classes with this receipt; `None` exactly while it is
     /// pending.
     pub fn first_after(&self, receipt: i64, classes: &[u32]) -> Option<u32>
-        ensures computed { result ≡ option_map (λ sheet. sheet.number) (next_sheet self.now.table.sheets classes.now receipt) }
+        ensures computed { result ≡ option_map
+            (λ sheet. sheet.number) (next_sheet self.now.table.sheets classes.now receipt) }
         ensures next { IfSome result (IsPricedBy self.now.table.sheets classes.now receipt) }
         ensures pending { IfNone result (IsPending self.now.table.sheets classes.now receipt) }
     {
@@ -175,22 +187,23 @@ impl PriceBook {
 }
 
 impl PriceBook {
-    /// Makes room: afterwards `spare` is at least `classes`.
+    /// Makes room for so many calendars or classes, and for a sheet of so many prices. Room that is there stays.
     pub fn reserve(&mut self, classes: u32) -> Result<(), NoMemory>
         ensures ok { OnOk result (classes ≤ self.new.spare) }
+        ensures list { OnOk result (classes ≤ self.new.list) }
         ensures kept { self.old.spare ≤ self.new.spare }
+        ensures list_kept { self.old.list ≤ self.new.list }
         ensures table { self.new.table ≡ self.old.table }
         ensures unchanged { OnErr result (self.new ≡ self.old) }
     {
-        let wanted = (classes as usize).max(self.spare);
-        let Some(kept) = wanted.checked_add(self.listed) else {
-            return Err(NoMemory);
-        };
-        self.calendars.reserve(kept)?;
-        self.classes.reserve(kept)?;
+        let spare = (classes as usize).max(self.spare);
+        let list = (classes as usize).max(self.list);
+        self.calendars.reserve(spare)?;
+        self.classes.reserve(spare)?;
         self.sheets.reserve(1)?;
-        self.room.reserve(wanted)?;
-        self.spare = wanted;
+        self.room.reserve(list)?;
+        self.spare = spare;
+        self.list = list;
         Ok(())
     }
 
@@ -200,6 +213,7 @@ impl PriceBook {
         requires room { 1 ≤ self.old.spare }
         ensures table { self.new.table ≡ with_calendar self.old.table calendar }
         ensures spare { self.new.spare + 1 ≡ self.old.spare }
+        ensures list { self.new.list ≡ self.old.list }
     {
         self.calendars.push_reserved(calendar);
         self.spare -= 1;
@@ -214,6 +228,7 @@ impl PriceBook {
         requires room { 1 ≤ self.old.spare }
         ensures table { self.new.table ≡ with_class self.old.table class calendar opened }
         ensures spare { self.new.spare + 1 ≡ self.old.spare }
+        ensures list { self.new.list ≡ self.old.list }
     {
         self.classes.push_reserved(Opening {
             class,
@@ -227,28 +242,29 @@ impl PriceBook {
     /// Takes a pricing day of a calendar away. False, and nothing changed, exactly where the day isn't listed.
     pub fn close_day(&mut self, calendar: u32, day: Day) -> bool
         ensures answer { result ≡ is_priced self.old.table.calendars calendar day }
-        ensures table { self.new.table ≡ without_day_of self.old.table calendar day }
-        ensures spare { self.new.spare ≡ self.old.spare }
+        ensures closed { self.new ≡ with_table self.old
+            (without_day_of self.old.table calendar day) }
         ensures unchanged { OnFalse result (self.new ≡ self.old) }
     {
         self.passed = NONE_PASSED;
         correcting::close_day(&mut self.calendars, calendar, day)
     }
 
-    /// Publishes the expected sheet with a complete list, and answers its number. It takes no memory.
+    /// Publishes the expected sheet with a complete list, and answers its number. It takes no memory but the room for
+    /// the list; what is spare for calendars and classes stays.
     pub fn publish(&mut self, calendar: u32, moment: i64, prices: &[(u32, Nav)]) -> u32
         requires expected { expected_of self.old.table ≡ Some (moment, calendar) }
         requires complete { wrong_class self.old.table.classes calendar moment prices.now ≡ None }
         requires rises { IsRising prices.now }
-        requires room { length prices.now ≤ self.old.spare }
+        requires room { length prices.now ≤ self.old.list }
         requires count { length self.old.table.sheets < 4294967295 }
         ensures number { result ≡ length self.old.table.sheets + 1 }
         ensures table { self.new.table ≡ with_published self.old.table calendar moment prices.now }
+        ensures room { self.new ≡ published_book self.old calendar moment prices.now }
     {
         let number = self.sheets.len() as u32 + 1;
         let day = expecting::date_priced(&self.calendars, calendar, moment);
         let prices = room::filled(&mut self.room, prices);
-        self.listed += prices.len();
         self.sheets.push_reserved(Sheet {
             number,
             calendar,
@@ -256,24 +272,22 @@ impl PriceBook {
             day,
             prices,
         });
-        self.spare = 0;
+        self.list = 0;
         self.passed = moment - 1;
         number
     }
 
-    /// Takes back the last sheet and gives back its room. False, and nothing changed, exactly where there is no sheet.
+    /// Takes back the last sheet and gives back the room of its list. False, and nothing changed, exactly where there
+    /// is no sheet.
     pub fn withdraw(&mut self) -> bool
         ensures answer { result ≡ nat_lt 0 (length self.old.table.sheets) }
-        ensures table { self.new.table ≡ without_last self.old.table }
-        ensures kept { self.old.spare ≤ self.new.spare }
-        ensures covers { prices_on self.old.table.sheets ≤ prices_on self.new.table.sheets + self.new.spare }
+        ensures withdrawn { self.new ≡ withdrawn_book self.old }
         ensures unchanged { OnFalse result (self.new ≡ self.old) }
     {
         self.passed = NONE_PASSED;
         match self.sheets.pop() {
             Some(sheet) => {
-                self.listed -= sheet.prices.len();
-                self.spare = room::given_back(&mut self.room, self.spare, sheet.prices);
+                self.list = room::given_back(&mut self.room, self.list, sheet.prices);
                 true
             }
             None => false,
@@ -283,10 +297,11 @@ impl PriceBook {
     /// Gives a class another net asset value on the sheet of this number. `NoSheet`, and nothing changed, exactly where
     /// that sheet doesn't list the class.
     pub fn correct(&mut self, class: u32, sheet: u32, nav: Nav) -> Result<(), NoSheet>
-        ensures ok { IfOk result (λ _. is_some (price_on self.old.table.sheets sheet class) ≡ true) }
+        ensures ok { IfOk result (λ _. is_some (price_on self.old.table.sheets sheet class)
+            ≡ true) }
         ensures refused { OnErr result (price_on self.old.table.sheets sheet class ≡ None) }
-        ensures corrected { OnOk result (self.new.table ≡ with_correction self.old.table class sheet nav) }
-        ensures spare { self.new.spare ≡ self.old.spare }
+        ensures corrected { OnOk result (self.new
+            ≡ with_table self.old (with_correction self.old.table class sheet nav)) }
         ensures unchanged { OnErr result (self.new ≡ self.old) }
     {
         if self.price(None, sheet, class).is_none() {

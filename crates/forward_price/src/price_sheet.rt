@@ -1,3 +1,4 @@
+//! Openings, sheets, corrections on trial, and why a sheet is refused.
 ghost use Rattle.std.specs.Prelude.{◌≡◌};
 
 use crate::sheet::Prices;

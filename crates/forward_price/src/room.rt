@@ -1,3 +1,4 @@
+//! The memory of a sheet's list: reserved before the sheet, moved into it, and given back by a withdrawal.
 ghost use Rattle.std.specs.Prelude.{◌≡◌, ◌≤◌, [], length, max, vec_capacity};
 
 use crate::sheet::Prices;

@@ -1,3 +1,4 @@
+//! The prices of a sheet.
 ghost use Rattle.std.specs.Prelude.{◌≡◌, ◌≤◌, [], ◌∷◌, ◌++◌, length, map, vec_capacity, OnOk, OnErr};
 ghost use Rattle.forward_price.specs.PriceTables.{corrected_price};
 

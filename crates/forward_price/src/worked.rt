@@ -12,23 +12,31 @@ pub fn orders_are_due_after_their_receipt()
     ensures at { due_of on_first (14 ∷ []) (pos 1719864000) ≡ Some (pos 1719950400) }
     ensures holiday { due_of on_first (14 ∷ []) (pos 1720036800) ≡ Some (pos 1720209600) }
     ensures opening { due_of on_first (13 ∷ 14 ∷ []) (pos 0) ≡ Some (pos 1719950400) }
-    ensures closed { due_of (without_day_of on_first 1 19906) (14 ∷ []) (pos 1719864000) ≡ Some (pos 1720036800) }
+    ensures closed { due_of (without_day_of on_first 1 19906) (14 ∷ []) (pos 1719864000)
+        ≡ Some (pos 1720036800) }
     ensures ended { due_of on_first (14 ∷ []) (pos 1720209600) ≡ None }
 {}
 
 /// Two calendars with one moment go by number, and a class opened at a pricing moment is listed on the next sheet.
 pub fn sheets_go_in_turn()
     ensures expected { expected_of on_first ≡ Some (pos 1719864000, 1) }
-    ensures next { expected_in (july 2 ∷ july 1 ∷ []) openings (first_sheet ∷ []) ≡ Some (pos 1719864000, 2) }
+    ensures next { expected_in (july 2 ∷ july 1 ∷ []) openings (first_sheet ∷ [])
+        ≡ Some (pos 1719864000, 2) }
     ensures then { expected_in (july 2 ∷ july 1 ∷ []) openings priced ≡ Some (pos 1719950400, 2) }
     ensures none { expected_in (july 1 ∷ []) [] [] ≡ None }
-    ensures too_many { wrong_class openings 1 (pos 1719864000) ((13, 2000) ∷ (14, 1000) ∷ []) ≡ Some 13 }
+    ensures too_many { wrong_class openings 1 (pos 1719864000) ((13, 2000) ∷ (14, 1000) ∷ [])
+        ≡ Some 13 }
     ensures missing { wrong_class openings 1 (pos 1719950400) ((14, 1000) ∷ []) ≡ Some 13 }
-    ensures complete { wrong_class openings 1 (pos 1719950400) ((13, 2000) ∷ (14, 1000) ∷ []) ≡ None }
-    ensures out_of_turn { publish_fault on_first 2 (pos 1719864000) ((24, 500) ∷ []) (pos 1719864000) ≡ Some (SheetOutOfTurn (pos 1719864000) 1) }
-    ensures incomplete { publish_fault on_first 1 (pos 1719864000) [] (pos 0) ≡ Some (SheetIncomplete 14) }
-    ensures too_soon { publish_fault on_first 1 (pos 1719864000) ((14, 1000) ∷ []) (pos 1719863999) ≡ Some (TooSoon (pos 1719864000)) }
-    ensures in_time { publish_fault on_first 1 (pos 1719864000) ((14, 1000) ∷ []) (pos 1719864000) ≡ None }
+    ensures complete { wrong_class openings 1 (pos 1719950400) ((13, 2000) ∷ (14, 1000) ∷ [])
+        ≡ None }
+    ensures out_of_turn { publish_fault on_first 2 (pos 1719864000) ((24, 500) ∷ [])
+        (pos 1719864000) ≡ Some (SheetOutOfTurn (pos 1719864000) 1) }
+    ensures incomplete { publish_fault on_first 1 (pos 1719864000) [] (pos 0)
+        ≡ Some (SheetIncomplete 14) }
+    ensures too_soon { publish_fault on_first 1 (pos 1719864000) ((14, 1000) ∷ []) (pos 1719863999)
+        ≡ Some (TooSoon (pos 1719864000)) }
+    ensures in_time { publish_fault on_first 1 (pos 1719864000) ((14, 1000) ∷ []) (pos 1719864000)
+        ≡ None }
 {}
 
 /// An order received at a pricing moment gets the next price, and one of two classes the first sheet that lists both.
@@ -48,5 +56,6 @@ pub fn corrections_change_one_price()
     ensures none { price_on (corrected 13 1 900 priced) 1 13 ≡ None }
     ensures last { price_before priced 14 (pos 1719950400) ≡ Some 1000 }
     ensures first { price_before priced 14 (pos 1719864000) ≡ None }
-    ensures trial { price_before (patched (Some (record { class = 14; sheet = 1; nav = 900 })) priced) 14 (pos 1719950400) ≡ Some 900 }
+    ensures trial { price_before (patched (Some
+        (record { class = 14; sheet = 1; nav = 900 })) priced) 14 (pos 1719950400) ≡ Some 900 }
 {}

@@ -4,13 +4,12 @@ use Rattle.forward_price.proofs.price_book.PriceBook.add_calendar.Goals as goal
 
 pub invariant_of-self : goal.invariant_of-self
 invariant_of-self c =
-    let room : 1 ≤ c.self.inside.spare = omega (arith, ap (λ b. b.spare) c.self.view_is, c.requires.room) in (
-      omega arith,
-      omega arith,
-      c.self.invariant.2,
-      omega arith,
-      λ some. c.self.invariant.4 (omega arith),
-      c.self.invariant.5,
-      none_passed _ _ _,
-      c.self.invariant.7,
-    )
+    let room : 1 ≤ c.self.inside.spare = omega (arith, ap (λ b. b.spare) c.self.view_is, c.requires.room) in record {
+      calendars_fit = omega arith;
+      classes_fit = omega arith;
+      room_empty = c.self.invariant.room_empty;
+      list_fits = c.self.invariant.list_fits;
+      sheet_fits = c.self.invariant.sheet_fits;
+      none_passed = none_passed _ _ _;
+      numbered = c.self.invariant.numbered;
+    }

@@ -16,13 +16,12 @@ returns-clause-unchanged c =
     rw whole c.self.view_is)
 
 pub invariant_of-self : goal.invariant_of-self
-invariant_of-self c = (
-  c.self.invariant.0,
-  c.self.invariant.1,
-  c.self.invariant.2,
-  c.self.invariant.3,
-  c.self.invariant.4,
-  c.self.invariant.5,
-  none_passed _ _ _,
-  c.self.invariant.7,
-)
+invariant_of-self c = record {
+  calendars_fit = c.self.invariant.calendars_fit;
+  classes_fit = c.self.invariant.classes_fit;
+  room_empty = c.self.invariant.room_empty;
+  list_fits = c.self.invariant.list_fits;
+  sheet_fits = c.self.invariant.sheet_fits;
+  none_passed = none_passed _ _ _;
+  numbered = c.self.invariant.numbered;
+}

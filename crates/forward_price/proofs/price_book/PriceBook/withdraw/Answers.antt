@@ -1,29 +1,28 @@
 use Rattle.std.proofs.Common.{arith}
 use Rattle.std.proofs.lemmas.Grind.{common_steps}
 use Rattle.forward_price.proofs.NumberFacts.{numbered_less}
+use Rattle.forward_price.proofs.RoomFacts.{last_length-append}
 use Rattle.forward_price.proofs.TurnFacts.{none_passed}
 use Rattle.forward_price.proofs.price_book.PriceBook.withdraw.Goals as goal
 
 pub invariant_of-self : goal.invariant_of-self
-invariant_of-self c = (
-  grind (arith, common_steps),
-  grind (arith, common_steps),
-  c.given_back-self-inside.ensures.emptied,
-  c.given_back-self-inside.ensures.fits,
-  λ some. grind (arith, common_steps),
-  grind (arith, common_steps),
-  none_passed _ _ _,
-  rw c.in-Some.ensures.rest (numbered_less c.self.inside.sheets.items _ c.self.invariant.7),
-)
+invariant_of-self c = record {
+  calendars_fit = c.self.invariant.calendars_fit;
+  classes_fit = c.self.invariant.classes_fit;
+  room_empty = c.given_back-self-inside.ensures.emptied;
+  list_fits = c.given_back-self-inside.ensures.fits;
+  sheet_fits = λ some. grind (arith, common_steps);
+  none_passed = none_passed _ _ _;
+  numbered = rw c.in-Some.ensures.rest (numbered_less c.self.inside.sheets.items _ c.self.invariant.numbered);
+}
 
 pub invariant_of-self-in-None : goal.invariant_of-self-in-None
-invariant_of-self-in-None c = (
-  c.self.invariant.0,
-  c.self.invariant.1,
-  c.self.invariant.2,
-  c.self.invariant.3,
-  λ some. omega arith,
-  grind (arith, common_steps),
-  none_passed _ _ _,
-  rw c.pop.ensures.rest (numbered_less c.self.inside.sheets.items _ c.self.invariant.7),
-)
+invariant_of-self-in-None c = record {
+  calendars_fit = c.self.invariant.calendars_fit;
+  classes_fit = c.self.invariant.classes_fit;
+  room_empty = c.self.invariant.room_empty;
+  list_fits = c.self.invariant.list_fits;
+  sheet_fits = λ some. omega arith;
+  none_passed = none_passed _ _ _;
+  numbered = rw c.pop.ensures.rest (numbered_less c.self.inside.sheets.items _ c.self.invariant.numbered);
+}
