@@ -47,7 +47,11 @@ write_count sink from = min sink.piece (min (length from) (room_left sink))
 
 -- a sink after a write that took this many of these bytes
 abbrev pub after_write : SinkState → List ℕ → ℕ → SinkState
-after_write sink from count = record sink { contents = sink.contents ++ take count from; calls = next_count sink.calls }
+after_write sink from count = record sink {
+  contents = sink.contents
+      ++ take count from;
+  calls = next_count sink.calls;
+}
 
 -- a sink after a write that failed
 abbrev pub after_write_fault : SinkState → SinkState
@@ -55,4 +59,5 @@ after_write_fault sink = record sink { calls = next_count sink.calls; faults = n
 
 -- the next write of these bytes fails: it is listed, or they aren't empty and no room is left
 abbrev pub FailsToWrite : SinkState → List ℕ → Type 0
-FailsToWrite sink from = Contains sink.fails (next_count sink.calls) ⊎ (0 < length from) × (room_left sink ≡ 0)
+FailsToWrite sink from = Contains sink.fails (next_count sink.calls) ⊎ (0 < length from)
+    × (room_left sink ≡ 0)

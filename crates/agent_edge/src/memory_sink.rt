@@ -20,10 +20,11 @@ pub struct MemorySink {
 }
 
 impl Model for MemorySink {
-    ghost use Rattle.std.specs.Prelude.{◌≤◌, vec_len, vec_capacity};
     ghost use Rattle.agent_edge.specs.Memory.{SinkState};
 
     ghost Value = { SinkState };
+
+    ghost use Rattle.agent_edge.specs.Room.{HasItsRoom};
 
     ghost view = { λ s. record {
       contents = s.contents.items;
@@ -34,7 +35,7 @@ impl Model for MemorySink {
       faults = s.faults;
     } };
 
-    ghost invariant = { λ s. (vec_len s.contents ≤ s.room) × (s.room ≤ vec_capacity s.contents) × (1 ≤ s.piece) };
+    ghost invariant = { HasItsRoom };
 }
 
 impl MemorySink {

@@ -86,7 +86,8 @@ impl Source for MemorySource {
         ensures count { IfOk result (λ count. count ≡ read_count self.old (length into.old)) }
         ensures bytes { IfOk result (λ count. take count into.new ≡ take count self.old.left) }
         ensures rest { IfOk result (λ count. self.new ≡ after_read self.old count) }
-        ensures only_at_end { IfOk result (λ count. count ≡ 0 → 0 < length into.new → self.old.left ≡ []) }
+        ensures only_at_end { IfOk result (λ count. count ≡ 0 → 0 < length into.new
+            → self.old.left ≡ []) }
         ensures never_falls { self.old.faults ≤ self.new.faults }
     {
         self.calls = self.calls.saturating_add(1);

@@ -30,7 +30,8 @@ pub trait Sink {
     fn write(&mut self, from: &[u8]) -> Result<usize, SinkFault>
         ensures within { IfOk result (λ count. count ≤ length from.now) }
         ensures some { IfOk result (λ count. 0 < length from.now → 0 < count) }
-        ensures bytes { IfOk result (λ count. Appends (contents self.old) (contents self.new) (take count from.now)) }
+        ensures bytes { IfOk result (λ count. Appends (contents self.old) (contents self.new)
+            (take count from.now)) }
         ensures kept { OnErr result (Keeps (contents self.old) (contents self.new)) }
 
         ensures fault { OnErr result (Rose (faults self.old) (faults self.new)) }

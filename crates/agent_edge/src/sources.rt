@@ -32,9 +32,11 @@ pub trait Source {
     /// isn't said.
     fn read(&mut self, into: &mut [u8]) -> Result<usize, SourceFault>
         ensures within { IfOk result (λ count. count ≤ length into.new) }
-        ensures bytes { IfOk result (λ count. Consumes (left self.old) (left self.new) (take count into.new)) }
+        ensures bytes { IfOk result (λ count. Consumes (left self.old) (left self.new)
+            (take count into.new)) }
         ensures end { IfOk result (λ count. left self.old ≡ Some [] → count ≡ 0) }
-        ensures only_at_end { IfOk result (λ count. count ≡ 0 → 0 < length into.new → IsAtEnd (left self.old)) }
+        ensures only_at_end { IfOk result (λ count. count ≡ 0 → 0 < length into.new
+            → IsAtEnd (left self.old)) }
         ensures kept { OnErr result (Keeps (left self.old) (left self.new)) }
 
         ensures fault { OnErr result (Rose (faults self.old) (faults self.new)) }

@@ -1,38 +1,35 @@
-//! Standard input and standard output. They tell no bytes: what the system gives and takes is trusted.
-ghost use Rattle.std.specs.Prelude.{◌≡◌, ℕ, None};
+//! Sources and sinks over std's readers and writers, standard input and output among them. What a reader or a writer
+//! tells of its bytes, its source or sink tells; the standard ones tell nothing: what the system gives and takes is
+//! trusted.
+ghost use Rattle.std.specs.Prelude.{◌≡◌};
 
 use super::{Sink, SinkFault, Source, SourceFault};
 use std::io::{Read, Stdin, Stdout, Write};
-use std::marker::Model;
 
-/// Standard input. Contracts see it as its count of faults.
+/// The bytes of a reader. It counts the reads that failed.
 #[derive(Drop)]
-pub struct StdinSource {
-    stdin: Stdin,
+pub struct ReaderSource<R> {
+    reader: R,
     faults: u64,
 }
 
-impl Model for StdinSource {
-    ghost Value = { ℕ };
-
-    ghost view = { λ s. s.faults };
-}
-
-impl StdinSource {
-    pub fn new(stdin: Stdin) -> StdinSource
-        ensures { result ≡ 0 }
+impl<R: Read> ReaderSource<R> {
+    /// The bytes that the reader has left.
+    pub fn new(reader: R) -> ReaderSource<R>
+        ensures left { ⟦<ReaderSource<R> as Source>⟧.left result ≡ R.remaining reader }
+        ensures faults { ⟦<ReaderSource<R> as Source>⟧.faults result ≡ 0 }
     {
-        StdinSource { stdin, faults: 0 }
+        ReaderSource { reader, faults: 0 }
     }
 }
 
-impl Source for StdinSource {
-    ghost left = { λ _. None };
+impl<R: Read> Source for ReaderSource<R> {
+    ghost left = { λ source. R.remaining source.reader };
 
-    ghost faults = { λ count. count };
+    ghost faults = { λ source. source.faults };
 
     fn read(&mut self, into: &mut [u8]) -> Result<usize, SourceFault> {
-        match self.stdin.read(into) {
+        match self.reader.read(into) {
             Ok(count) => Ok(count),
             Err(_) => {
                 self.faults = self.faults.saturating_add(1);
@@ -42,34 +39,30 @@ impl Source for StdinSource {
     }
 }
 
-/// Standard output. Contracts see it as its count of faults.
+/// Writes to a writer. It counts the writes that failed, and those that took nothing of a piece that isn't empty.
 #[derive(Drop)]
-pub struct StdoutSink {
-    stdout: Stdout,
+pub struct WriterSink<W> {
+    writer: W,
     faults: u64,
 }
 
-impl Model for StdoutSink {
-    ghost Value = { ℕ };
-
-    ghost view = { λ s. s.faults };
-}
-
-impl StdoutSink {
-    pub fn new(stdout: Stdout) -> StdoutSink
-        ensures { result ≡ 0 }
+impl<W: Write> WriterSink<W> {
+    /// What is written goes to the writer.
+    pub fn new(writer: W) -> WriterSink<W>
+        ensures contents { ⟦<WriterSink<W> as Sink>⟧.contents result ≡ W.contents writer }
+        ensures faults { ⟦<WriterSink<W> as Sink>⟧.faults result ≡ 0 }
     {
-        StdoutSink { stdout, faults: 0 }
+        WriterSink { writer, faults: 0 }
     }
 }
 
-impl Sink for StdoutSink {
-    ghost contents = { λ _. None };
+impl<W: Write> Sink for WriterSink<W> {
+    ghost contents = { λ sink. W.contents sink.writer };
 
-    ghost faults = { λ count. count };
+    ghost faults = { λ sink. sink.faults };
 
     fn write(&mut self, from: &[u8]) -> Result<usize, SinkFault> {
-        match self.stdout.write(from) {
+        match self.writer.write(from) {
             Ok(count) if count > 0 || from.is_empty() => Ok(count),
             _ => {
                 self.faults = self.faults.saturating_add(1);
@@ -78,3 +71,9 @@ impl Sink for StdoutSink {
         }
     }
 }
+
+/// Standard input.
+pub type StdinSource = ReaderSource<Stdin>;
+
+/// Standard output.
+pub type StdoutSink = WriterSink<Stdout>;

@@ -66,7 +66,8 @@ pub fn read_up_to<S: Source>(
     ensures within { IfOk result (λ bytes. vec_len bytes ≤ limit) }
 
     // Too long: only where more than the limit was left. The other way round is `all` with `within`.
-    ensures too_long { IsErrOf result ReadFault.TooLong → IfSome (S.left input.old) (λ left. limit < length left) }
+    ensures too_long { IsErrOf result ReadFault.TooLong
+        → IfSome (S.left input.old) (λ left. limit < length left) }
 
     // A fault comes only where the count of faults rose, and nothing else raises it.
     ensures fault { CountsFault result (S.faults input.old) (S.faults input.new) }

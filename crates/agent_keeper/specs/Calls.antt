@@ -22,7 +22,8 @@ pub record Counts {T : Type 0} (before now : ℕ) (result : Result T KeepFault) 
   pub same : result ≢ Err Failed → now ≡ before
 
 -- time goes on, and what was given stays given
-pub record GoesOn {K : Type 0} (moment : K → ℕ) (gave : K → ℕ → Answer → Type 0) (old new : K) : Type 0 where
+pub record GoesOn {K : Type 0} (moment : K → ℕ) (gave : K → ℕ → Answer → Type 0)
+    (old new : K) : Type 0 where
   pub later : moment old ≤ moment new
   pub kept : (since : ℕ) (answer : Answer) → gave old since answer → gave new since answer
 
@@ -31,7 +32,8 @@ abbrev pub Gives : {K : Type 0} → (K → ℕ) → (K → ℕ → Answer → Ty
 Gives moment gave old new answer = (since : ℕ) → since ≤ moment old → gave new since answer
 
 -- nothing that is kept was changed: no other content is told, and a stop leaves nothing else
-pub record OnlyReads {K : Type 0} (tells may_leave : K → Content → Type 0) (is_honest : K → Type 0) (old new : K) : Type 0 where
+pub record OnlyReads {K : Type 0} (tells may_leave : K → Content → Type 0)
+    (is_honest : K → Type 0) (old new : K) : Type 0 where
   pub told : (content : Content) → tells new content → tells old content
   pub stops : is_honest new → (content : Content) → may_leave new content → may_leave old content
   pub was_honest : is_honest new → is_honest old

@@ -17,15 +17,18 @@ empty = record { rows = []; checks = λ household sheet. None }
 -- what stands at a household and a sheet after the puts, made in turn
 abbrev pub after_puts : List CheckPut → Option (List ℕ) → ℕ → ℕ → Option (List ℕ)
 after_puts puts before household sheet =
-    fold (λ there put. if put.household == household && put.sheet == sheet then Some put.bytes else there) before puts
+    fold (λ there put. if put.household == household && put.sheet == sheet then Some put.bytes
+    else there) before puts
 
 -- the removals name that household and sheet
 abbrev pub is_removed : List CheckName → ℕ → ℕ → Bool
-is_removed removes household sheet = list_any (λ name. name.household == household && name.sheet == sheet) removes
+is_removed removes household sheet = list_any (λ name. name.household == household
+    && name.sheet == sheet) removes
 
 -- the content after a batch: its rows behind those kept, its checkpoint rows put, those that it names removed, all else the same
 abbrev pub after : Batch → Content → Content
 after batch kept = record {
   rows = kept.rows ++ batch.rows;
-  checks = λ household sheet. if is_removed batch.removes household sheet then None else after_puts batch.puts (kept.checks household sheet) household sheet;
+  checks = λ household sheet. if is_removed batch.removes household sheet then None
+      else after_puts batch.puts (kept.checks household sheet) household sheet;
 }

@@ -18,7 +18,8 @@ is_same a b = a.household == b.household && a.sheet == b.sheet
 
 -- the checkpoint row that is kept of a household at a sheet
 abbrev pub check_of : Kept → ℕ → ℕ → Option (List ℕ)
-check_of kept household sheet = get is_same kept.checks (record { household = household; sheet = sheet })
+check_of kept household sheet = get is_same kept.checks
+    (record { household = household; sheet = sheet })
 
 -- all that is kept
 abbrev pub content : Kept → Content
@@ -62,10 +63,12 @@ abbrev pub fails_next : MemoryKeeper → Bool
 fails_next keeper = list_any (λ call. call == next_call keeper) (listed keeper)
 
 -- one more call is counted, which failed exactly where it is listed
-pub record CountsCall {T : Type 0} (old new : MemoryKeeper) (result : Result T KeepFault) : Type 0 where
+pub record CountsCall {T : Type 0} (old new : MemoryKeeper)
+    (result : Result T KeepFault) : Type 0 where
   pub fails : IsErrOf result Failed ↔ IsTrue (fails_next old)
   pub calls : calls_made new ≡ next_call old
-  pub faults : faults_made new ≡ (if fails_next old then min (faults_made old + 1) (2 ^ 64 - 1) else faults_made old)
+  pub faults : faults_made new ≡ (if fails_next old then min (faults_made old + 1) (2 ^ 64 - 1)
+      else faults_made old)
   pub counted : Counts (faults_made old) (faults_made new) result
   pub list : listed new ≡ listed old
 

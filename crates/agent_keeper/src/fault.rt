@@ -1,3 +1,4 @@
+//! Why a keeper did not do what it was asked.
 ghost use Rattle.std.specs.Prelude.{◌≡◌};
 ghost use Rattle.agent_keeper.specs.declared.fault.KeepFault.TheVariants as fault;
 

@@ -39,13 +39,18 @@ pub trait Keeper {
         ensures stays { IsTrue (is_attached self.old) → IsTrue (is_attached self.new) }
 
         // What was told is told, or nothing is. A keeper that told nothing may tell what the store holds.
-        ensures told { (before now : Content) → tells self.old before → tells self.new now → now ≡ before }
-        ensures no_other { IsTrue (is_attached self.old) → (now : Content) → tells self.new now → tells self.old now }
-        ensures speaks { OnOk result (is_honest self.new → (before : Content) → tells self.old before → tells self.new before) }
+        ensures told { (before now : Content) → tells self.old before → tells self.new now
+            → now ≡ before }
+        ensures no_other { IsTrue (is_attached self.old) → (now : Content) → tells self.new now
+            → tells self.old now }
+        ensures speaks { OnOk result (is_honest self.new → (before : Content)
+            → tells self.old before → tells self.new before) }
 
         // A stop leaves no more than before, and of a store that was just opened what it tells.
-        ensures stops { is_honest self.new → (left : Content) → may_leave self.new left → may_leave self.old left }
-        ensures opened { OnOk result (is_attached self.old ≡ false → is_honest self.new → (left : Content) → may_leave self.new left → tells self.new left) }
+        ensures stops { is_honest self.new → (left : Content) → may_leave self.new left
+            → may_leave self.old left }
+        ensures opened { OnOk result (is_attached self.old ≡ false → is_honest self.new
+            → (left : Content) → may_leave self.new left → tells self.new left) }
         ensures was_honest { is_honest self.new → is_honest self.old }
         ensures counted { Counts (faults self.old) (faults self.new) result }
         ensures goes_on { GoesOn moment gave self.old self.new };
@@ -53,11 +58,13 @@ pub trait Keeper {
     /// The number of rows of the journal.
     fn len(&mut self) -> Result<u64, KeepFault>
         requires { IsTrue (is_attached self.old) }
-        ensures exact { IfOk result (λ n. (kept : Content) → tells self.new kept → n ≡ length kept.rows) }
+        ensures exact { IfOk result (λ n. (kept : Content) → tells self.new kept
+            → n ≡ length kept.rows) }
         ensures given { IfOk result (λ n. Gives moment gave self.old self.new (length_is n)) }
         ensures stays { IsTrue (is_attached self.new) }
         ensures reads { OnlyReads tells may_leave is_honest self.old self.new }
-        ensures speaks { OnOk result (is_honest self.new → (kept : Content) → tells self.old kept → tells self.new kept) }
+        ensures speaks { OnOk result (is_honest self.new → (kept : Content) → tells self.old kept
+            → tells self.new kept) }
         ensures counted { Counts (faults self.old) (faults self.new) result }
         ensures goes_on { GoesOn moment gave self.old self.new };
 
@@ -65,13 +72,16 @@ pub trait Keeper {
     /// else, and is empty after any other answer.
     fn row(&mut self, seq: u64, into: &mut Vec<u8>) -> Result<bool, KeepFault>
         requires { IsTrue (is_attached self.old) }
-        ensures exact { IfOk result (λ found. (kept : Content) → tells self.new kept → slice_get kept.rows seq ≡ (if found then Some into.new.items else None)) }
+        ensures exact { IfOk result (λ found. (kept : Content) → tells self.new kept
+            → slice_get kept.rows seq ≡ (if found then Some into.new.items else None)) }
         ensures missing { IfOk result (λ found. OnFalse found (into.new.items ≡ [])) }
         ensures refused { OnErr result (into.new.items ≡ []) }
-        ensures given { IfOk result (λ found. Gives moment gave self.old self.new (row_is seq (if found then Some into.new.items else None))) }
+        ensures given { IfOk result (λ found. Gives moment gave self.old self.new
+            (row_is seq (if found then Some into.new.items else None))) }
         ensures stays { IsTrue (is_attached self.new) }
         ensures reads { OnlyReads tells may_leave is_honest self.old self.new }
-        ensures speaks { OnOk result (is_honest self.new → (kept : Content) → tells self.old kept → tells self.new kept) }
+        ensures speaks { OnOk result (is_honest self.new → (kept : Content) → tells self.old kept
+            → tells self.new kept) }
         ensures counted { Counts (faults self.old) (faults self.new) result }
         ensures goes_on { GoesOn moment gave self.old self.new };
 
@@ -79,13 +89,16 @@ pub trait Keeper {
     /// bytes and nothing else, and is empty after any other answer.
     fn check(&mut self, household: u32, sheet: u32, into: &mut Vec<u8>) -> Result<bool, KeepFault>
         requires { IsTrue (is_attached self.old) }
-        ensures exact { IfOk result (λ found. (kept : Content) → tells self.new kept → kept.checks household sheet ≡ (if found then Some into.new.items else None)) }
+        ensures exact { IfOk result (λ found. (kept : Content) → tells self.new kept
+            → kept.checks household sheet ≡ (if found then Some into.new.items else None)) }
         ensures missing { IfOk result (λ found. OnFalse found (into.new.items ≡ [])) }
         ensures refused { OnErr result (into.new.items ≡ []) }
-        ensures given { IfOk result (λ found. Gives moment gave self.old self.new (check_is household sheet (if found then Some into.new.items else None))) }
+        ensures given { IfOk result (λ found. Gives moment gave self.old self.new
+            (check_is household sheet (if found then Some into.new.items else None))) }
         ensures stays { IsTrue (is_attached self.new) }
         ensures reads { OnlyReads tells may_leave is_honest self.old self.new }
-        ensures speaks { OnOk result (is_honest self.new → (kept : Content) → tells self.old kept → tells self.new kept) }
+        ensures speaks { OnOk result (is_honest self.new → (kept : Content) → tells self.old kept
+            → tells self.new kept) }
         ensures counted { Counts (faults self.old) (faults self.new) result }
         ensures goes_on { GoesOn moment gave self.old self.new };
 
@@ -93,13 +106,18 @@ pub trait Keeper {
     fn commit(&mut self, base: u64, batch: &Batch) -> Result<(), KeepFault>
         requires attached { IsTrue (is_attached self.old) }
         requires base { (kept : Content) → tells self.old kept → base ≡ length kept.rows }
-        ensures ok { OnOk result ((now : Content) → tells self.new now → (before : Content) × tells self.old before × (now ≡ after batch.now before)) }
+        ensures ok { OnOk result ((now : Content) → tells self.new now → (before : Content)
+            × tells self.old before × (now ≡ after batch.now before)) }
         ensures err { OnErr result ((now : Content) → tells self.new now → tells self.old now) }
-        ensures speaks { OnOk result (is_honest self.new → (before : Content) → tells self.old before → tells self.new (after batch.now before)) }
+        ensures speaks { OnOk result (is_honest self.new → (before : Content)
+            → tells self.old before → tells self.new (after batch.now before)) }
 
         // After Ok a stop leaves what is told, and after a failed commit perhaps what it was to make.
-        ensures stops { OnOk result (is_honest self.new → (left : Content) → may_leave self.new left → tells self.new left) }
-        ensures torn { OnErr result (is_honest self.new → (left : Content) → may_leave self.new left → may_leave self.old left ⊎ ((before : Content) × tells self.old before × (left ≡ after batch.now before))) }
+        ensures stops { OnOk result (is_honest self.new → (left : Content) → may_leave self.new left
+            → tells self.new left) }
+        ensures torn { OnErr result (is_honest self.new → (left : Content) → may_leave self.new left
+            → may_leave self.old left ⊎ ((before : Content) × tells self.old before
+            × (left ≡ after batch.now before))) }
         ensures was_honest { is_honest self.new → is_honest self.old }
 
         ensures stays { IsTrue (is_attached self.new) }
@@ -107,8 +125,13 @@ pub trait Keeper {
         ensures goes_on { GoesOn moment gave self.old self.new };
 
     /// A keeper never tells two contents.
-    ghost one_content: { (keeper : Self) (a b : Content) → tells keeper a → tells keeper b → a ≡ b };
+    ghost one_content: { (keeper : Self) (a b : Content) → tells keeper a → tells keeper b
+        → a ≡ b };
 
     /// A keeper that tells is one whose store is honest.
     ghost honest: { (keeper : Self) (kept : Content) → tells keeper kept → is_honest keeper };
+
+    /// What is told may be left by a stop.
+    ghost stop_leaves: { (keeper : Self) (kept : Content) → tells keeper kept
+        → may_leave keeper kept };
 }

@@ -7,7 +7,7 @@ ghost use Rattle.agent_keeper.specs.Content.{after_puts, is_removed, after, empt
 ghost use Rattle.agent_keeper.specs.Memory.{is_same, check_of, content, HasRoom};
 
 use crate::batch::{Batch, CheckName, CheckPut};
-use crate::copies::{copy_bytes, copy_rows};
+use crate::copies::copy_rows;
 use money_units::{Bytes, NoMemory};
 use std::alloc::{AllocError, Global};
 use std::collections::HashMap;
@@ -71,9 +71,9 @@ impl Kept {
             puts,
             removes,
         } = batch;
-        let appended: Result<(), AllocError> = self.rows.append(&mut rows.into_items());
+        let appended: Result<(), AllocError> = self.rows.append(&mut rows.into_vec());
         appended.unwrap();
-        put_all(&mut self.checks, puts.into_items());
+        put_all(&mut self.checks, puts.into_vec());
         remove_all(&mut self.checks, removes.as_slice());
     }
 
@@ -82,7 +82,7 @@ impl Kept {
         ensures { IfOk result (λ copy. content copy ≡ content self.now) }
     {
         Ok(Kept {
-            rows: copy_rows(alloc, &self.rows)?.into_items(),
+            rows: copy_rows(alloc, &self.rows)?.into_vec(),
             checks: copy_checks(alloc, &self.checks)?,
         })
     }
@@ -96,7 +96,7 @@ fn copy_checks(
 {
     let mut copy = HashMap::new(alloc);
     for (name, bytes) in checks {
-        copy.insert(*name, copy_bytes(alloc, bytes.as_slice())?)?;
+        copy.insert(*name, Bytes::from_slice(alloc, bytes.as_slice())?)?;
     }
     Ok(copy)
 }
@@ -104,7 +104,8 @@ fn copy_checks(
 // Puts each row in the place of the one of the same name, if there is one.
 fn put_all(checks: &mut HashMap<CheckName, Bytes>, puts: Vec<CheckPut>)
     requires { length puts.items ≤ spare checks.old }
-    ensures { (q : Name) → get is_same checks.new q ≡ after_puts puts.items (get is_same checks.old q) q.household q.sheet }
+    ensures { (q : Name) → get is_same checks.new q
+        ≡ after_puts puts.items (get is_same checks.old q) q.household q.sheet }
 {
     for put in puts {
         let CheckPut {
@@ -119,7 +120,8 @@ fn put_all(checks: &mut HashMap<CheckName, Bytes>, puts: Vec<CheckPut>)
 
 // Removes the rows of these names.
 fn remove_all(checks: &mut HashMap<CheckName, Bytes>, removes: &[CheckName])
-    ensures { (q : Name) → get is_same checks.new q ≡ (if is_removed removes.now q.household q.sheet then None else get is_same checks.old q) }
+    ensures { (q : Name) → get is_same checks.new q
+        ≡ (if is_removed removes.now q.household q.sheet then None else get is_same checks.old q) }
 {
     for name in removes {
         let _before = checks.remove(name);

@@ -18,6 +18,3 @@ pub use crate::fault::KeepFault;
 pub use crate::keeper::Keeper;
 pub use crate::memory::MemoryKeeper;
 pub use crate::sure::SureKeeper;
-
-#[cfg(test)]
-mod tests;

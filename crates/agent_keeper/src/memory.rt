@@ -3,7 +3,7 @@ ghost use Rattle.std.specs.Prelude.{◌≡◌, ◌⊎◌, ◌==◌, slice_get, [
 ghost use Rattle.std.specs.Option.{option_copied};
 ghost use Rattle.std.specs.Bool.{OnFalse};
 ghost use Rattle.std.specs.List.{list_any};
-ghost use Rattle.std.proofs.Common.{sym, ◌∙◌};
+ghost use Rattle.std.proofs.Common.{sym, ◌∙◌, inl};
 ghost use Rattle.agent_keeper.specs.Content.{after_puts, is_removed, after, empty};
 ghost use Rattle.agent_keeper.specs.Memory.{content, before_last, after_last, now_kept, listed, calls_made, faults_made, next_call, fails_next, CountsCall, KeepsAll};
 
@@ -35,6 +35,8 @@ impl MemoryKeeper {
     /// An empty keeper whose calls of these numbers fail, from 1, in the order in which they are made.
     pub fn new(alloc: Global, fails: &[u64]) -> Result<MemoryKeeper, NoMemory>
         ensures kept { IfOk result (λ keeper. now_kept keeper ≡ empty) }
+        ensures before { IfOk result (λ keeper. before_last keeper ≡ empty) }
+        ensures after { IfOk result (λ keeper. after_last keeper ≡ empty) }
         ensures fails { IfOk result (λ keeper. listed keeper ≡ fails.now) }
         ensures calls { IfOk result (λ keeper. calls_made keeper ≡ 0) }
         ensures faults { IfOk result (λ keeper. faults_made keeper ≡ 0) }
@@ -43,10 +45,16 @@ impl MemoryKeeper {
         Ok(MemoryKeeper::over(alloc, Kept::new(alloc), fails))
     }
 
-    /// A copy with no calls that fail, as a stop in the last commit leaves it: with what that commit made, or without.
+    /// A copy with no calls made and none that fail, as a stop in the last commit leaves it: with what that commit
+    /// made, or without. Until the copy's first commit a stop leaves the same.
     pub fn after_stop(&self, alloc: Global, with_last: bool) -> Result<MemoryKeeper, NoMemory>
-        ensures kept { IfOk result (λ copy. now_kept copy ≡ (if with_last then after_last self.now else before_last self.now)) }
+        ensures kept { IfOk result (λ copy.
+            now_kept copy ≡ (if with_last then after_last self.now else before_last self.now)) }
+        ensures before { IfOk result (λ copy. before_last copy ≡ now_kept copy) }
+        ensures after { IfOk result (λ copy. after_last copy ≡ now_kept copy) }
         ensures fails { IfOk result (λ copy. listed copy ≡ []) }
+        ensures calls { IfOk result (λ copy. calls_made copy ≡ 0) }
+        ensures faults { IfOk result (λ copy. faults_made copy ≡ 0) }
     {
         let left = self.left(alloc, with_last)?;
         Ok(MemoryKeeper::over(alloc, left, Vec::new(alloc)))
@@ -55,7 +63,8 @@ impl MemoryKeeper {
     // A keeper before its first commit.
     fn over(alloc: Global, settled: Kept, fails: Vec<u64>) -> MemoryKeeper
         ensures kept { now_kept result ≡ content settled }
-        ensures stops { before_last result ≡ content settled }
+        ensures before { before_last result ≡ content settled }
+        ensures after { after_last result ≡ content settled }
         ensures fails { listed result ≡ fails.items }
         ensures calls { calls_made result ≡ 0 }
         ensures faults { faults_made result ≡ 0 }
@@ -73,7 +82,8 @@ impl MemoryKeeper {
 
     // A copy of what was kept before the last commit, or of what that commit made of it.
     fn left(&self, alloc: Global, with_last: bool) -> Result<Kept, NoMemory>
-        ensures { IfOk result (λ left. content left ≡ (if with_last then after_last self.now else before_last self.now)) }
+        ensures { IfOk result (λ left. content left
+            ≡ (if with_last then after_last self.now else before_last self.now)) }
     {
         let mut left = self.settled.copy(alloc)?;
         if with_last {
@@ -89,7 +99,8 @@ impl MemoryKeeper {
     fn begin(&mut self) -> Result<(), KeepFault>
         ensures answer { result ≡ (if fails_next self.old then Err KeepFault.Failed else Ok tt) }
         ensures call { CountsCall self.old self.new result }
-        ensures kept { (self.new.settled ≡ self.old.settled) × (self.new.last ≡ self.old.last) × (self.new.is_kept ≡ self.old.is_kept) }
+        ensures kept { (self.new.settled ≡ self.old.settled) × (self.new.last ≡ self.old.last)
+            × (self.new.is_kept ≡ self.old.is_kept) }
     {
         let fails = self.is_listed_next();
         self.calls = self.calls.saturating_add(1);
@@ -109,9 +120,12 @@ impl MemoryKeeper {
 
     // Makes this batch the last commit's, over what was kept so far.
     fn note(&mut self, batch: &Batch, is_kept: bool) -> Result<(), NoMemory>
-        ensures ok { OnOk result ((before_last self.new ≡ now_kept self.old) × (self.new.last ≡ batch.now) × (self.new.is_kept ≡ is_kept)) }
-        ensures err { OnErr result ((before_last self.new ≡ before_last self.old) × (self.new.last ≡ self.old.last) × (self.new.is_kept ≡ self.old.is_kept)) }
-        ensures counts { (self.new.calls ≡ self.old.calls) × (self.new.faults ≡ self.old.faults) × (self.new.fails ≡ self.old.fails) }
+        ensures ok { OnOk result ((before_last self.new ≡ now_kept self.old)
+            × (self.new.last ≡ batch.now) × (self.new.is_kept ≡ is_kept)) }
+        ensures err { OnErr result ((before_last self.new ≡ before_last self.old)
+            × (self.new.last ≡ self.old.last) × (self.new.is_kept ≡ self.old.is_kept)) }
+        ensures counts { (self.new.calls ≡ self.old.calls) × (self.new.faults ≡ self.old.faults)
+            × (self.new.fails ≡ self.old.fails) }
     {
         let copy = copy_batch(self.alloc, batch)?;
         self.settled.make_room(&self.last)?;
@@ -177,6 +191,8 @@ impl Keeper for MemoryKeeper {
 
     ghost honest = { λ _ _ _. tt };
 
+    ghost stop_leaves = { λ keeper kept is. inl is };
+
     fn attach(&mut self, _path: &str) -> Result<(), KeepFault>
         ensures answer { result ≡ (if fails_next self.old then Err KeepFault.Failed else Ok tt) }
         ensures call { CountsCall self.old self.new result }
@@ -186,7 +202,8 @@ impl Keeper for MemoryKeeper {
     }
 
     fn len(&mut self) -> Result<u64, KeepFault>
-        ensures answer { result ≡ (if fails_next self.old then Err KeepFault.Failed else Ok (length (now_kept self.old).rows)) }
+        ensures answer { result ≡ (if fails_next self.old then Err KeepFault.Failed
+            else Ok (length (now_kept self.old).rows)) }
         ensures call { CountsCall self.old self.new result }
         ensures kept { KeepsAll self.old self.new }
     {
@@ -195,7 +212,8 @@ impl Keeper for MemoryKeeper {
     }
 
     fn row(&mut self, seq: u64, into: &mut Vec<u8>) -> Result<bool, KeepFault>
-        ensures exact { IfOk result (λ found. slice_get (now_kept self.old).rows seq ≡ (if found then Some into.new.items else None)) }
+        ensures exact { IfOk result (λ found. slice_get (now_kept self.old).rows seq
+            ≡ (if found then Some into.new.items else None)) }
         ensures missing { IfOk result (λ found. OnFalse found (into.new.items ≡ [])) }
         ensures refused { OnErr result (into.new.items ≡ []) }
         ensures call { CountsCall self.old self.new result }
@@ -207,7 +225,8 @@ impl Keeper for MemoryKeeper {
     }
 
     fn check(&mut self, household: u32, sheet: u32, into: &mut Vec<u8>) -> Result<bool, KeepFault>
-        ensures exact { IfOk result (λ found. (now_kept self.old).checks household sheet ≡ (if found then Some into.new.items else None)) }
+        ensures exact { IfOk result (λ found. (now_kept self.old).checks household sheet
+            ≡ (if found then Some into.new.items else None)) }
         ensures missing { IfOk result (λ found. OnFalse found (into.new.items ≡ [])) }
         ensures refused { OnErr result (into.new.items ≡ []) }
         ensures call { CountsCall self.old self.new result }
@@ -225,9 +244,12 @@ impl Keeper for MemoryKeeper {
 
         // A stop in this commit leaves what was kept before it, or what it makes of that. Where there is no memory to
         // note a commit that fails, a stop leaves what one in the commit before would.
-        ensures stops { OnOk result ((before_last self.new ≡ now_kept self.old) × (after_last self.new ≡ after batch.now (now_kept self.old))) }
-        ensures torn { OnErr result (((before_last self.new ≡ now_kept self.old) × (after_last self.new ≡ after batch.now (now_kept self.old)))
-            ⊎ ((before_last self.new ≡ before_last self.old) × (after_last self.new ≡ after_last self.old))) }
+        ensures stops { OnOk result ((before_last self.new ≡ now_kept self.old)
+            × (after_last self.new ≡ after batch.now (now_kept self.old))) }
+        ensures torn { OnErr result (((before_last self.new ≡ now_kept self.old)
+            × (after_last self.new ≡ after batch.now (now_kept self.old)))
+            ⊎ ((before_last self.new ≡ before_last self.old)
+            × (after_last self.new ≡ after_last self.old))) }
     {
         let begun = self.begin();
         // A commit that fails may still be found after a stop, so it is noted, if there is memory for it.
@@ -252,7 +274,8 @@ fn last_put<'a>(
     household: u32,
     sheet: u32,
 ) -> Option<&'a Bytes>
-    ensures { option_copied result ≡ after_puts puts.now (option_copied before.entry) household sheet }
+    ensures { option_copied result ≡ after_puts puts.now
+        (option_copied before.entry) household sheet }
 {
     let mut there = before;
     for put in puts {

@@ -7,7 +7,8 @@ use money_units::{Bytes, NoMemory};
 
 /// Leaves in `into` the bytes that were found, and nothing else, and answers whether there are any.
 pub fn hand_out(found: Option<&Bytes>, into: &mut Vec<u8>) -> Result<bool, NoMemory>
-    ensures exact { IfOk result (λ is_found. option_copied found.entry ≡ (if is_found then Some into.new.items else None)) }
+    ensures exact { IfOk result (λ is_found. option_copied found.entry
+        ≡ (if is_found then Some into.new.items else None)) }
     ensures missing { IfOk result (λ is_found. OnFalse is_found (into.new.items ≡ [])) }
     ensures refused { OnErr result (into.new.items ≡ []) }
 {

@@ -51,6 +51,8 @@ impl Keeper for SureKeeper {
 
     ghost honest = { λ _ _ _. tt };
 
+    ghost stop_leaves = { λ keeper kept is. is };
+
     fn attach(&mut self, _path: &str) -> Result<(), KeepFault>
         ensures answer { result ≡ Ok tt }
         ensures kept { surely_kept self.new ≡ surely_kept self.old }
@@ -66,7 +68,8 @@ impl Keeper for SureKeeper {
     }
 
     fn row(&mut self, seq: u64, into: &mut Vec<u8>) -> Result<bool, KeepFault>
-        ensures exact { IfOk result (λ found. slice_get (surely_kept self.old).rows seq ≡ (if found then Some into.new.items else None)) }
+        ensures exact { IfOk result (λ found. slice_get (surely_kept self.old).rows seq
+            ≡ (if found then Some into.new.items else None)) }
         ensures missing { IfOk result (λ found. OnFalse found (into.new.items ≡ [])) }
         ensures refused { OnErr result (into.new.items ≡ []) }
         ensures never_fails { IsOkUnless result KeepFault.NoMemory }
@@ -76,7 +79,8 @@ impl Keeper for SureKeeper {
     }
 
     fn check(&mut self, household: u32, sheet: u32, into: &mut Vec<u8>) -> Result<bool, KeepFault>
-        ensures exact { IfOk result (λ found. (surely_kept self.old).checks household sheet ≡ (if found then Some into.new.items else None)) }
+        ensures exact { IfOk result (λ found. (surely_kept self.old).checks household sheet
+            ≡ (if found then Some into.new.items else None)) }
         ensures missing { IfOk result (λ found. OnFalse found (into.new.items ≡ [])) }
         ensures refused { OnErr result (into.new.items ≡ []) }
         ensures never_fails { IsOkUnless result KeepFault.NoMemory }

@@ -96,6 +96,8 @@ impl Keeper for SqliteKeeper {
 
     ghost honest = { λ _ _ told. told };
 
+    ghost stop_leaves = { λ _ _ told. absurd told };
+
     fn attach(&mut self, path: &str) -> Result<(), KeepFault> {
         if self.store.is_some() {
             return Ok(());
@@ -141,6 +143,3 @@ impl Keeper for SqliteKeeper {
         self.counted(answer)
     }
 }
-
-#[cfg(test)]
-mod tests;

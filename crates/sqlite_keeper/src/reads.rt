@@ -15,7 +15,12 @@ use sqlite::{Alter, Connection, Row, params};
 
 /// How many rows the journal has.
 pub fn count_rows<S: Alter>(conn: &mut Connection<S>) -> Result<u64, KeepFault>
-    ensures shown { HasCleanDisk (state S.Store conn.new) → IfOk result (λ number. (rows : List SqlRow) × Shown COUNT_ROWS.now [] (state S.Store conn.old) (state S.Store conn.new) rows × (number_in rows ≡ Some number)) }
+    ensures shown { HasCleanDisk (state S.Store conn.new)
+        → IfOk result
+        (λ number.
+        (rows : List SqlRow)
+        × Shown COUNT_ROWS.now [] (state S.Store conn.old) (state S.Store conn.new) rows
+        × (number_in rows ≡ Some number)) }
 {
     let answer = conn.query_all(COUNT_ROWS, &[]).map_err(fault_of)?;
     number_of(&answer)
@@ -27,7 +32,14 @@ pub fn find_row<S: Alter>(
     seq: u64,
     into: &mut Vec<u8>,
 ) -> Result<bool, KeepFault>
-    ensures shown { HasCleanDisk (state S.Store conn.new) → seq < 2 ^ 63 → IfOk result (λ found. (rows : List SqlRow) × Shown READ_ROW.now (Int (pos seq) ∷ []) (state S.Store conn.old) (state S.Store conn.new) rows × (found_in rows ≡ Some (if found then Some into.new.items else None))) }
+    ensures shown { HasCleanDisk (state S.Store conn.new)
+        → seq < 2 ^ 63
+        → IfOk result
+        (λ found.
+        (rows : List SqlRow)
+        × Shown READ_ROW.now (Int (pos seq) ∷ []) (state S.Store conn.old)
+        (state S.Store conn.new) rows
+        × (found_in rows ≡ Some (if found then Some into.new.items else None))) }
     ensures beyond { 2 ^ 63 ≤ seq → result ≡ Ok false }
     ensures missing { IfOk result (λ found. OnFalse found (into.new.items ≡ [])) }
     ensures refused { OnErr result (into.new.items ≡ []) }
@@ -47,7 +59,13 @@ pub fn find_check<S: Alter>(
     sheet: u32,
     into: &mut Vec<u8>,
 ) -> Result<bool, KeepFault>
-    ensures shown { HasCleanDisk (state S.Store conn.new) → IfOk result (λ found. (rows : List SqlRow) × Shown READ_CHECK.now (Int (pos household) ∷ Int (pos sheet) ∷ []) (state S.Store conn.old) (state S.Store conn.new) rows × (found_in rows ≡ Some (if found then Some into.new.items else None))) }
+    ensures shown { HasCleanDisk (state S.Store conn.new)
+        → IfOk result
+        (λ found.
+        (rows : List SqlRow)
+        × Shown READ_CHECK.now (Int (pos household) ∷ Int (pos sheet) ∷ [])
+        (state S.Store conn.old) (state S.Store conn.new) rows
+        × (found_in rows ≡ Some (if found then Some into.new.items else None))) }
     ensures missing { IfOk result (λ found. OnFalse found (into.new.items ≡ [])) }
     ensures refused { OnErr result (into.new.items ≡ []) }
 {
@@ -76,7 +94,8 @@ fn number_of(answer: &[Row]) -> Result<u64, KeepFault>
 // Leaves in `into` the bytes of the one row, and nothing where there is no row. Any other answer is a fault of the
 // store.
 fn hand_out(answer: &[Row], into: &mut Vec<u8>) -> Result<bool, KeepFault>
-    ensures exact { IfOk result (λ found. found_in answer.now ≡ Some (if found then Some into.new.items else None)) }
+    ensures exact { IfOk result
+        (λ found. found_in answer.now ≡ Some (if found then Some into.new.items else None)) }
     ensures failed { IsErrOf result KeepFault.Failed → found_in answer.now ≡ None }
     ensures missing { IfOk result (λ found. OnFalse found (into.new.items ≡ [])) }
     ensures refused { OnErr result (into.new.items ≡ []) }

@@ -10,14 +10,14 @@ pub loop-name-preserved-in_ok-insert : goal.loop-name-preserved-in_ok-insert
 loop-name-preserved-in_ok-insert c = record {
   can_next = tt;
   is_finite = tt;
-  copied = λ q. put_copied _ _ c.loop-name.yielded c.in-Some.name c.in-Some.bytes _ q (c.in_ok-copy_bytes.ensures ∙ c.as_slice.ensures) (c.loop-name.invariant.copied q) (c.in_ok-insert.ensures.updates.0 q);
+  copied = λ q. put_copied _ _ c.loop-name.yielded c.in-Some.name c.in-Some.bytes _ q (c.in_ok-from_slice.ensures ∙ c.as_slice.ensures) (c.loop-name.invariant.copied q) (c.in_ok-insert.ensures.updates.0 q);
 }
 
 pub loop-name-preserved : goal.loop-name-preserved
 loop-name-preserved c = record {
   can_next = tt;
   is_finite = tt;
-  copied = λ q. put_copied _ _ c.loop-name.yielded c.in-Some.name c.in-Some.bytes _ q (c.in_ok-copy_bytes.ensures ∙ c.as_slice.ensures) (c.loop-name.invariant.copied q) (c.in_ok-insert.ensures.updates.0 q);
+  copied = λ q. put_copied _ _ c.loop-name.yielded c.in-Some.name c.in-Some.bytes _ q (c.in_ok-from_slice.ensures ∙ c.as_slice.ensures) (c.loop-name.invariant.copied q) (c.in_ok-insert.ensures.updates.0 q);
 }
 
 pub returns : goal.returns
