@@ -15,7 +15,7 @@ use Rattle.agent_events.specs.declared.request.Request.{Request}
 use Rattle.fund_calendar.specs.PricingDays.{days_from, is_priced}
 use Rattle.money_units.specs.Texts.{number_text}
 use Rattle.register_machine.specs.pricing.PublishedTable.{empty_table}
-use Rattle.register_machine.specs.rules.Callers.{Caller}
+use Rattle.agent_events.specs.declared.verdict.Caller.{Caller}
 use Rattle.register_machine.specs.rules.Situations.{Situation, situation_at}
 use Rattle.register_machine.specs.run.Scripts.{Run, all_verbs_built, batch_text, empty_run, run_from, script_items, script_text}
 

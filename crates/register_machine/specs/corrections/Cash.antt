@@ -2,7 +2,9 @@
 use Rattle.std.specs.Prelude.{Bool, List, [], ℕ, ℤ, ◌-ℤ◌, ◌-◌, ◌==◌, ◌∷◌, false, flat_map, if◌then◌else◌, pos, sum_by, true}
 use Rattle.agent_events.specs.declared.order.Party.{Party}
 use Rattle.register_machine.specs.replay.Positions.{Position, Register, mils_of}
-use Rattle.register_machine.specs.replay.Trades.{Outcome, Trade, TradeKind}
+use Rattle.agent_events.specs.declared.trade.Outcome.{Outcome}
+use Rattle.agent_events.specs.declared.trade.Trade.{Trade}
+use Rattle.agent_events.specs.declared.trade.TradeKind.{TradeKind}
 
 -- so many cents from one party to another
 pub record Movement : Type 0 where

@@ -11,7 +11,7 @@ use Rattle.agent_events.specs.declared.request.DealerForm.{DealerForm}
 use Rattle.register_machine.specs.journal.Journals.{Journal, last_moment, with_event}
 use Rattle.register_machine.specs.journal.Kinds.{account_numbered, accounts_of, dealer_numbered, dealers_of}
 use Rattle.register_machine.specs.pricing.PublishedTable.{table_of}
-use Rattle.register_machine.specs.rules.Callers.{Caller}
+use Rattle.agent_events.specs.declared.verdict.Caller.{Caller}
 use Rattle.register_machine.specs.rules.Situations.{situation_at}
 use Rattle.register_machine.specs.run.Answers.{Answer, answer}
 

@@ -15,7 +15,10 @@ use Rattle.register_machine.specs.queries.Show.{positions_of}
 use Rattle.register_machine.specs.queries.Trace.{state_by}
 use Rattle.register_machine.specs.replay.Positions.{Position, mils_of}
 use Rattle.register_machine.specs.replay.Replay.{replay}
-use Rattle.register_machine.specs.replay.Trades.{Day, Outcome, Trade, TradeKind}
+use Rattle.agent_events.specs.declared.trade.Outcome.{Outcome}
+use Rattle.agent_events.specs.declared.trade.Trade.{Trade}
+use Rattle.agent_events.specs.declared.trade.TradeKind.{TradeKind}
+use Rattle.register_machine.specs.replay.Trades.{Day}
 use Rattle.register_machine.specs.rules.Situations.{Situation}
 
 -- a line: its words with one space between them, and a line feed

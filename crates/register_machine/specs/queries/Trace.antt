@@ -11,7 +11,9 @@ use Rattle.agent_events.specs.declared.request.TraceForm.{TraceForm}
 use Rattle.register_machine.specs.pricing.CorrectedBook.{Book, due_moment}
 use Rattle.register_machine.specs.pricing.CorrectedOrders.{order_named}
 use Rattle.register_machine.specs.replay.Replay.{replay}
-use Rattle.register_machine.specs.replay.Trades.{Outcome, Trade, Why}
+use Rattle.agent_events.specs.declared.trade.Outcome.{Outcome}
+use Rattle.agent_events.specs.declared.trade.Trade.{Trade}
+use Rattle.agent_events.specs.declared.trade.Why.{Why}
 use Rattle.register_machine.specs.rules.Breaks.{is_trade_of}
 use Rattle.register_machine.specs.rules.Situations.{Situation}
 

@@ -14,7 +14,8 @@ use Rattle.register_machine.specs.replay.Letter.{day_after_letter, day_after_let
 use Rattle.register_machine.specs.replay.Positions.{position_of}
 use Rattle.register_machine.specs.replay.Purchase.{day_after_purchase}
 use Rattle.register_machine.specs.replay.Redemption.{day_after_redemption, day_after_redemption_for, loose_of}
-use Rattle.register_machine.specs.replay.Trades.{Day, TradeKind, day_after_trade, order_trade}
+use Rattle.agent_events.specs.declared.trade.TradeKind.{TradeKind}
+use Rattle.register_machine.specs.replay.Trades.{Day, day_after_trade, order_trade}
 
 abbrev pub day_after_election : Sheet → Day → Order → Bool → Day
 day_after_election sheet day order in_cash =

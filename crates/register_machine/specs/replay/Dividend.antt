@@ -8,7 +8,9 @@ use Rattle.register_machine.specs.pricing.CorrectedBook.{Book}
 use Rattle.register_machine.specs.pricing.DividendRates.{Rates, rate_at}
 use Rattle.register_machine.specs.pricing.PublishedTable.{moment_of}
 use Rattle.register_machine.specs.replay.Positions.{Position, PositionKey, Register, key_of, mils_of, position_at, with_holding}
-use Rattle.register_machine.specs.replay.Trades.{Day, Trade, TradeKind, day_after_trade, nav_of, plain_trade, with_trade}
+use Rattle.agent_events.specs.declared.trade.Trade.{Trade}
+use Rattle.agent_events.specs.declared.trade.TradeKind.{TradeKind}
+use Rattle.register_machine.specs.replay.Trades.{Day, day_after_trade, nav_of, plain_trade, with_trade}
 use Rattle.dividend_reinvest.specs.declared.payment.Payment.TheVariants as pays
 
 abbrev pub dividend_trade : Sheet → Position → ℕ → ℕ → Trade

@@ -11,7 +11,10 @@ use Rattle.register_machine.specs.journal.Choices.{when}
 use Rattle.register_machine.specs.pricing.OrderClasses.{class_of}
 use Rattle.register_machine.specs.replay.Positions.{Position, has_room, position_of, with_holding}
 use Rattle.register_machine.specs.replay.Redemption.{position_less, short_of}
-use Rattle.register_machine.specs.replay.Trades.{Day, Trade, TradeKind, Why, day_after_trade, day_unless_any, nav_of, order_trade, with_position}
+use Rattle.agent_events.specs.declared.trade.Trade.{Trade}
+use Rattle.agent_events.specs.declared.trade.TradeKind.{TradeKind}
+use Rattle.agent_events.specs.declared.trade.Why.{Why}
+use Rattle.register_machine.specs.replay.Trades.{Day, day_after_trade, day_unless_any, nav_of, order_trade, with_position}
 
 -- a piece comes into the target: as a lot with its own date and cost, or into the free lot
 abbrev pub holding_with_piece : Holding → Piece → Holding

@@ -13,7 +13,10 @@ use Rattle.register_machine.specs.pricing.CorrectedBook.{Book, front_of}
 use Rattle.register_machine.specs.pricing.OrderClasses.{class_of}
 use Rattle.register_machine.specs.replay.Positions.{Position, PositionKey, Register, key_of, position_at, position_of}
 use Rattle.register_machine.specs.replay.Purchase.{credit_of}
-use Rattle.register_machine.specs.replay.Trades.{Day, Trade, TradeKind, Why, day_after_trade, day_unless_any, nav_of, order_trade, plain_trade}
+use Rattle.agent_events.specs.declared.trade.Trade.{Trade}
+use Rattle.agent_events.specs.declared.trade.TradeKind.{TradeKind}
+use Rattle.agent_events.specs.declared.trade.Why.{Why}
+use Rattle.register_machine.specs.replay.Trades.{Day, day_after_trade, day_unless_any, nav_of, order_trade, plain_trade}
 
 abbrev pub letter_is_over : Sheet → Option Letter → Bool
 letter_is_over sheet None = false

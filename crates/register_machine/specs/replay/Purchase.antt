@@ -17,7 +17,10 @@ use Rattle.register_machine.specs.journal.Kinds.{household_of}
 use Rattle.register_machine.specs.pricing.CorrectedBook.{Book, counts, front_of}
 use Rattle.register_machine.specs.pricing.OrderClasses.{class_of}
 use Rattle.register_machine.specs.replay.Positions.{Position, Register, has_room, mils_of, position_of, with_holding}
-use Rattle.register_machine.specs.replay.Trades.{Day, Trade, TradeKind, Why, day_after_trade, day_unless_any, nav_of, order_trade, plain_trade}
+use Rattle.agent_events.specs.declared.trade.Trade.{Trade}
+use Rattle.agent_events.specs.declared.trade.TradeKind.{TradeKind}
+use Rattle.agent_events.specs.declared.trade.Why.{Why}
+use Rattle.register_machine.specs.replay.Trades.{Day, day_after_trade, day_unless_any, nav_of, order_trade, plain_trade}
 
 -- a position as its household's breakpoints see it: its mils, its cost, and the last net asset value before the sheet
 abbrev pub worth_on : Book → Sheet → Position → Worth

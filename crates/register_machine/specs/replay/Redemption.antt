@@ -12,7 +12,10 @@ use Rattle.register_machine.specs.journal.Choices.{when}
 use Rattle.register_machine.specs.pricing.CorrectedBook.{Book, schedule_of}
 use Rattle.register_machine.specs.pricing.OrderClasses.{class_of}
 use Rattle.register_machine.specs.replay.Positions.{Position, position_of, with_holding}
-use Rattle.register_machine.specs.replay.Trades.{Day, Trade, TradeKind, Why, day_after_trade, day_unless_any, nav_of, order_trade}
+use Rattle.agent_events.specs.declared.trade.Trade.{Trade}
+use Rattle.agent_events.specs.declared.trade.TradeKind.{TradeKind}
+use Rattle.agent_events.specs.declared.trade.Why.{Why}
+use Rattle.register_machine.specs.replay.Trades.{Day, day_after_trade, day_unless_any, nav_of, order_trade}
 
 -- more than the loose mils is asked for, or all of none
 abbrev pub short_of : Holding → ℕ → Option Why

@@ -2,59 +2,16 @@
 -- reasons that holds.
 use Rattle.std.specs.Prelude.{List, None, Option, Some, [], ℕ, ◌++◌, ◌∷◌, unwrap_or}
 use Rattle.agent_events.specs.declared.order.Order.{Order}
+use Rattle.agent_events.specs.declared.trade.Outcome.{Outcome}
+use Rattle.agent_events.specs.declared.trade.Trade.{Trade}
+use Rattle.agent_events.specs.declared.trade.TradeKind.{TradeKind}
+use Rattle.agent_events.specs.declared.trade.Why.{Why}
 use Rattle.forward_price.specs.Sheets.{nav_on}
 use Rattle.forward_price.specs.declared.price_sheet.Sheet.{Sheet}
 use Rattle.register_machine.specs.journal.Choices.{first_some}
 use Rattle.register_machine.specs.pricing.OrderClasses.{class_of, target_of}
 use Rattle.register_machine.specs.pricing.PublishedTable.{moment_of}
 use Rattle.register_machine.specs.replay.Positions.{Position, Register, put}
-
-pub data Why : Type 0 where
-  Short : (loose : ℕ) → Why
-  TooSmall : Why
-  Ceiling : Why
-  LetterOpen : Why
-
-pub data Outcome : Type 0 where
-  Filled : Outcome
-  Unfilled : Why → Outcome
-
-pub data TradeKind : Type 0 where
-  Buy : TradeKind
-  Sell : TradeKind
-  Exchange : TradeKind
-  Letter : TradeKind
-  LetterReached : TradeKind
-  LetterEnded : TradeKind
-  ElectCash : TradeKind
-  ElectShares : TradeKind
-  DividendShares : TradeKind
-  DividendCash : TradeKind
-
--- A trade on a sheet, with 0 where a field has no part: the reference of its order, the price in cents, the mils and the
--- new mils of an exchange, the cash and the charge in cents.
---   a purchase            its offering price, the shares bought, the gross, and the charge within it
---   a redemption          the net asset value, the shares sold, their value, and the deferred charge within it
---   an exchange           the net asset value of its class, the shares given and those got, and the value that goes over
---   a letter that begins  its amount as `cash`, though no cash moves
---   one ended by date     the net asset value, the shares paid, what they pay as `cash`, and the waived part as `charge`
---   a dividend            its cash; where it is reinvested, the net asset value and the shares got too
--- Elections, letters that are reached and unfilled orders have none of these numbers.
-pub record Trade : Type 0 where
-  pub sheet : ℕ
-  pub moment : ℕ
-  pub day : ℕ
-  pub account : ℕ
-  pub ref_no : ℕ
-  pub kind : TradeKind
-  pub outcome : Outcome
-  pub class : ℕ
-  pub to_class : ℕ
-  pub price : ℕ
-  pub mils : ℕ
-  pub to_mils : ℕ
-  pub cash : ℕ
-  pub charge : ℕ
 
 -- a trade of an account and class without an order
 abbrev pub plain_trade : Sheet → ℕ → ℕ → TradeKind → Trade

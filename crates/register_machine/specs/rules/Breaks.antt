@@ -11,7 +11,8 @@ use Rattle.register_machine.specs.corrections.Payments.{bearer_in}
 use Rattle.register_machine.specs.journal.Journals.{with_event}
 use Rattle.register_machine.specs.pricing.CorrectedBook.{book_of}
 use Rattle.register_machine.specs.replay.Replay.{replay}
-use Rattle.register_machine.specs.replay.Trades.{Outcome, Trade}
+use Rattle.agent_events.specs.declared.trade.Outcome.{Outcome}
+use Rattle.agent_events.specs.declared.trade.Trade.{Trade}
 use Rattle.register_machine.specs.rules.Situations.{Situation}
 
 abbrev pub is_filled : Outcome → Bool

@@ -5,14 +5,9 @@ use Rattle.std.specs.Option.{option_or}
 use Rattle.std.specs.Prelude.{Bool, List, Option, ℕ, ◌&&◌, ◌==◌, bytes_eq, false, find, if◌then◌else◌, option_map, true, unwrap_or}
 use Rattle.agent_events.specs.declared.request.AccountForm.{AccountForm}
 use Rattle.agent_events.specs.declared.request.Request.{Request}
+use Rattle.agent_events.specs.declared.verdict.Caller.{Caller}
 use Rattle.register_machine.specs.journal.Journals.{Journal}
 use Rattle.register_machine.specs.journal.Kinds.{dealers_of, households_of}
-
-pub data Caller : Type 0 where
-  Operator : Caller
-  Household : (household : ℕ) → Caller
-  Dealer : (dealer : ℕ) → Caller
-  Stranger : Caller
 
 -- the household and the dealer with this key
 abbrev pub household_with_key : Journal → List ℕ → Option ℕ

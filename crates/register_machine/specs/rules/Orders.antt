@@ -13,7 +13,7 @@ use Rattle.register_machine.specs.journal.Kinds.{class_numbered, dealer_numbered
 use Rattle.register_machine.specs.pricing.CorrectedBook.{Book, calendar_of, due_at, due_moment, front_of}
 use Rattle.register_machine.specs.pricing.CorrectedOrders.{order_named, row_as_sent, stands}
 use Rattle.register_machine.specs.pricing.OrderClasses.{class_of, classes_in}
-use Rattle.register_machine.specs.rules.Callers.{Caller}
+use Rattle.agent_events.specs.declared.verdict.Caller.{Caller}
 use Rattle.register_machine.specs.rules.Situations.{Situation}
 
 -- an order that is asked for, with its receipt and the place of its first event

@@ -8,7 +8,8 @@ use Rattle.forward_price.specs.PriceTables.{Table}
 use Rattle.register_machine.specs.journal.Choices.{when}
 use Rattle.register_machine.specs.journal.Journals.{Journal}
 use Rattle.register_machine.specs.pricing.CorrectedBook.{Book, book_of}
-use Rattle.register_machine.specs.rules.Callers.{Caller, may}
+use Rattle.agent_events.specs.declared.verdict.Caller.{Caller}
+use Rattle.register_machine.specs.rules.Callers.{may}
 
 -- the journal with its corrected book, now, and the caller
 pub record Situation : Type 0 where

@@ -17,7 +17,8 @@ use Rattle.register_machine.specs.rules.Breaks.{breaks}
 use Rattle.register_machine.specs.rules.Callers.{caller_of}
 use Rattle.register_machine.specs.rules.Situations.{Situation, situation_at}
 use Rattle.register_machine.specs.run.Replies.{first_reply, reply_of}
-use Rattle.register_machine.specs.run.Verdicts.{Verdict, verdict}
+use Rattle.agent_events.specs.declared.verdict.Verdict.{Verdict}
+use Rattle.register_machine.specs.run.Verdicts.{verdict}
 
 -- the answer: a reply, and the events to append
 pub record Answer : Type 0 where

@@ -6,7 +6,7 @@ use Rattle.agent_events.specs.VerbForms.{Asked}
 use Rattle.agent_events.specs.declared.reply.Refusal.{Refusal}
 use Rattle.agent_events.specs.declared.reply.Reply.{Reply}
 use Rattle.agent_events.specs.declared.request.Request.{Request}
-use Rattle.register_machine.specs.rules.Callers.{Caller}
+use Rattle.agent_events.specs.declared.verdict.Caller.{Caller}
 use Rattle.register_machine.specs.rules.Situations.{Situation, situation_at}
 use Rattle.register_machine.specs.run.Answers.{answer_asked}
 

@@ -6,17 +6,12 @@ use Rattle.agent_events.specs.Events.{Event, event_of, request_of}
 use Rattle.agent_events.specs.declared.event.EventKind.{EventKind}
 use Rattle.agent_events.specs.declared.reply.Refusal.{Refusal}
 use Rattle.agent_events.specs.declared.request.Request.{Request}
+use Rattle.agent_events.specs.declared.verdict.Verdict.{Verdict}
 use Rattle.register_machine.specs.journal.Choices.{first_some}
 use Rattle.register_machine.specs.pricing.CorrectedBook.{due_moment}
 use Rattle.register_machine.specs.rules.InOrder.{broken_rule, first_rules}
 use Rattle.register_machine.specs.rules.Orders.{row_asked}
 use Rattle.register_machine.specs.rules.Situations.{Situation, event_at}
-
-pub data Verdict : Type 0 where
-  Fresh : Event → Verdict
-  Again : (place : ℕ) → Verdict
-  Query : Verdict
-  Refused : Refusal → Verdict
 
 -- the event was brought by a request of this content
 abbrev pub repeats : Request → Event → Bool
