@@ -23,7 +23,8 @@ use Rattle.register_machine.specs.journal.Kinds.{accounts_of, dealer_in, dealer_
 use Rattle.register_machine.specs.journal.Lawful.{IsLawful}
 use Rattle.register_machine.specs.pricing.CorrectedBook.{Book, book_of}
 use Rattle.register_machine.specs.pricing.PublishedTable.{table_by, table_of}
-use Rattle.register_machine.specs.rules.Callers.{Caller, caller_of, dealer_may, serves}
+use Rattle.agent_events.specs.declared.verdict.Caller.{Caller}
+use Rattle.register_machine.specs.rules.Callers.{caller_of, dealer_may, serves}
 use Rattle.register_machine.specs.rules.InOrder.{first_rules}
 use Rattle.register_machine.specs.rules.Situations.{situation_at}
 use Rattle.register_machine.specs.run.Answers.{answer, answer_asked, refuses}

@@ -51,7 +51,7 @@ use Rattle.register_machine.specs.pricing.PublishedTable.{empty_table, table_aft
 use Rattle.register_machine.specs.queries.Books.{books_by, books_reply}
 use Rattle.register_machine.specs.replay.Replay.{replay}
 use Rattle.register_machine.specs.replay.Trades.{Day}
-use Rattle.register_machine.specs.rules.Callers.{Caller}
+use Rattle.agent_events.specs.declared.verdict.Caller.{Caller}
 use Rattle.register_machine.specs.rules.InOrder.{Rule, broken_rule, first_rules}
 use Rattle.register_machine.specs.rules.NamedThings.{has_account, has_bearer, has_class, named_in_order, none_such, things_named}
 use Rattle.register_machine.specs.rules.Situations.{Situation}

@@ -25,7 +25,7 @@ takes-once : (parties : List Party) (movement : Movement) → IsBetween parties 
 takes-once parties movement between =
     passing (same_party movement.giver) movement.cents parties ∙ (ap (λ n. movement.cents * n) between.giver_once ∙ omega arith)
 
-sum-where : {X : Type 0} (P : X → Type 0) (f g : X → ℕ) → ((x : X) → P x → f x ≡ g x) → (xs : List X) → All P xs → sum_by f xs ≡ sum_by g xs
+pub sum-where : {X : Type 0} (P : X → Type 0) (f g : X → ℕ) → ((x : X) → P x → f x ≡ g x) → (xs : List X) → All P xs → sum_by f xs ≡ sum_by g xs
 sum-where P f g same [] all = refl
 sum-where P f g same (x ∷ xs) all =
     omega (arith, sum_by-cons f x xs, sum_by-cons g x xs, same x (All-head P x xs all), sum-where P f g same xs (All-tail P x xs all))
@@ -46,7 +46,7 @@ regroup a b c d =
     ∙ (ap (λ x. a +ℤ x) (sym (+ℤ_assoc b c d) ∙ (ap (λ x. x +ℤ d) (+ℤ_comm b c) ∙ +ℤ_assoc c b d))
     ∙ sym (+ℤ_assoc a c (b +ℤ d)))
 
-differences : (a b c d : ℕ) → (pos a -ℤ pos b) +ℤ (pos c -ℤ pos d) ≡ pos (a + c) -ℤ pos (b + d)
+pub differences : (a b c d : ℕ) → (pos a -ℤ pos b) +ℤ (pos c -ℤ pos d) ≡ pos (a + c) -ℤ pos (b + d)
 differences a b c d =
     regroup (pos a) (neg_ℤ (pos b)) (pos c) (neg_ℤ (pos d))
     ∙ (ap (λ x. x +ℤ (neg_ℤ (pos b) +ℤ neg_ℤ (pos d))) (pos-+ℤ-pos a c)

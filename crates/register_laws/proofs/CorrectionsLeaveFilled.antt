@@ -21,7 +21,7 @@ use Rattle.register_machine.specs.journal.Lawful.{IsLawful}
 use Rattle.register_machine.specs.pricing.CorrectedBook.{Book, book_of}
 use Rattle.register_machine.specs.pricing.PublishedTable.{table_by, table_of}
 use Rattle.register_machine.specs.replay.Replay.{replay}
-use Rattle.register_machine.specs.replay.Trades.{Trade}
+use Rattle.agent_events.specs.declared.trade.Trade.{Trade}
 use Rattle.register_machine.specs.rules.Breaks.{breaks_by, is_broken, is_trade_of, order_corrected, was_filled}
 
 none-breaks : {X : Type 0} (p : X → Bool) (xs : List X) → find p xs ≡ None → All (λ x. p x ≡ false) xs

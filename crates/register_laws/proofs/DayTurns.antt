@@ -33,7 +33,11 @@ use Rattle.register_machine.specs.replay.Letter.{day_after_end_of, day_after_let
 use Rattle.register_machine.specs.replay.Positions.{Position, PositionKey, Register, has_room, mils_of, position_at, position_of, put, with_holding}
 use Rattle.register_machine.specs.replay.Purchase.{credit_of, day_at_split, day_if_reached, day_with_lot, position_after_note, purchase_rate, purchase_trade}
 use Rattle.register_machine.specs.replay.Redemption.{day_after_redemption, day_after_redemption_for, day_after_sale, loose_of, position_less, redemption_trade, short_of}
-use Rattle.register_machine.specs.replay.Trades.{Day, Outcome, Trade, TradeKind, Why, day_after_trade, day_unless, day_unless_any, nav_of, order_trade, plain_trade, with_position, with_trade}
+use Rattle.agent_events.specs.declared.trade.Outcome.{Outcome}
+use Rattle.agent_events.specs.declared.trade.Trade.{Trade}
+use Rattle.agent_events.specs.declared.trade.TradeKind.{TradeKind}
+use Rattle.agent_events.specs.declared.trade.Why.{Why}
+use Rattle.register_machine.specs.replay.Trades.{Day, day_after_trade, day_unless, day_unless_any, nav_of, order_trade, plain_trade, with_position, with_trade}
 use Rattle.share_lots.specs.Lots.{Holding, added, cost_total, held_total, loose_total, mils, most_cost, most_mils, release_all}
 use Rattle.share_lots.specs.Taking.{after_paying, pieces}
 use Rattle.dividend_reinvest.specs.declared.payment.Payment.TheVariants as pays

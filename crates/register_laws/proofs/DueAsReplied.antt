@@ -42,7 +42,7 @@ use Rattle.register_machine.specs.pricing.CorrectedBook.{Book, calendar_of, due_
 use Rattle.register_machine.specs.pricing.CorrectedOrders.{row_as_sent}
 use Rattle.register_machine.specs.pricing.OrderClasses.{class_of, classes_in, target_of}
 use Rattle.register_machine.specs.pricing.PublishedTable.{table_by, table_of}
-use Rattle.register_machine.specs.rules.Callers.{Caller}
+use Rattle.agent_events.specs.declared.verdict.Caller.{Caller}
 use Rattle.register_machine.specs.rules.InOrder.{Rule, broken_rule}
 use Rattle.register_machine.specs.rules.NamedThings.{has_account, has_class, named_in_order}
 use Rattle.register_machine.specs.rules.Orders.{calendar_ended, family_of, has_one_calendar, is_exchangeable, is_of_calendar, is_offered, not_offered}

@@ -25,7 +25,7 @@ use Rattle.register_machine.specs.journal.Kinds.{each_in, replacement_in}
 use Rattle.register_machine.specs.pricing.CorrectedBook.{Book, book_of}
 use Rattle.register_machine.specs.pricing.CorrectedOrders.{order_begun, orders_begun, orders_of, row_as_corrected, row_as_sent, stands, struck_in}
 use Rattle.register_machine.specs.replay.Replay.{Priced, all_in_turn, in_turn, is_priced_on, orders_on, priced_in, priced_orders, replay}
-use Rattle.register_machine.specs.replay.Trades.{Trade}
+use Rattle.agent_events.specs.declared.trade.Trade.{Trade}
 use Rattle.register_machine.specs.rules.Breaks.{breaks_by, is_broken, is_filled, order_corrected}
 use Rattle.register_machine.specs.rules.Situations.{Situation}
 

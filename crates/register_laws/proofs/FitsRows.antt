@@ -36,7 +36,7 @@ use Rattle.register_machine.specs.journal.Journals.{Journal}
 use Rattle.register_machine.specs.journal.Kinds.{class_in, classes_of}
 use Rattle.register_machine.specs.journal.Lawful.{IsLawful}
 use Rattle.register_machine.specs.pricing.PublishedTable.{table_of}
-use Rattle.register_machine.specs.rules.Callers.{Caller}
+use Rattle.agent_events.specs.declared.verdict.Caller.{Caller}
 use Rattle.register_machine.specs.rules.InOrder.{Rule, broken_rule, first_rules}
 use Rattle.register_machine.specs.rules.NamedThings.{things_named}
 use Rattle.register_machine.specs.rules.Situations.{Situation, situation_at}
@@ -174,6 +174,17 @@ fits-by classes (EventKind.Class form) most prices loads forms =
 fits-by classes (EventKind.Sheet form) most prices loads forms =
     fits form.prices (length classes) (prices form refl forms) (omega (arith, most))
 fits-by classes _ most prices loads forms = refl
+
+-- an event whose request is allowed and breaks no rule behind a lawful journal
+pub fits_allowed : (journal : Journal) (now : ℕ) (caller : Caller) (kind : EventKind) → IsLawful journal → first_some (first_rules (own_at journal now caller) (request_of kind)) ≡ None → broken_rule (own_at journal now caller) (request_of kind) ≡ None → has_list_forms kind ≡ true → fits_row kind ≡ true
+unfolding AllClear
+fits_allowed journal now caller kind lawful allowed clear forms =
+    fits-by (classes_of journal) kind (keeps_its_limits journal lawful).classes
+    (λ form is rises. listed-classes journal now caller form lawful (subst (λ k. broken_rule (own_at journal now caller) (request_of k) ≡ None) is clear) rises)
+    (λ form is.
+    let good = good-loads (own_at journal now caller) form (all_clear (first_rules (own_at journal now caller) (Request.Class form)) (subst (λ k. first_some (first_rules (own_at journal now caller) (request_of k)) ≡ None) is allowed)).1.0 in
+    (few-rows form.front good.0, few-rates form.deferred good.1))
+    forms
 
 pub fits-brought : (journal : Journal) (event : Event) → IsLawful journal → IsBrought journal event → has_list_forms event.kind ≡ true → fits_row event.kind ≡ true
 fits-brought journal event lawful brought forms =

@@ -35,7 +35,7 @@ use Rattle.register_machine.specs.rules.NamedThings.{lists_at, things_named}
 
 -- ---- places
 
-any-place : {X : Type 0} (test : X → Bool) (xs : List X) → list_any test xs ≡ true → (k : ℕ) × (k < length xs) × ((d : X) → test (get_or xs k d) ≡ true)
+pub any-place : {X : Type 0} (test : X → Bool) (xs : List X) → list_any test xs ≡ true → (k : ℕ) × (k < length xs) × ((d : X) → test (get_or xs k d) ≡ true)
 any-place test [] e = absurd (true≢false (sym e))
 any-place {X = X} test (x ∷ xs) e = by_test (test x) refl e (any-place test xs)
   where
@@ -98,7 +98,7 @@ same-moment (pos a) (pos b) one other same = ap pos same
 same-moment (pos a) (negsuc b) one other same = absurd (omega (arith, ints, other))
 same-moment (negsuc a) b one other same = absurd (omega (arith, ints, one))
 
-one-sheet : (t : Table) (class : ℕ) (i j : ℕ) (d : Sheet) → IsOrderly t → i < j → j < length t.sheets → lists_class (get_or t.sheets i d).prices class ≡ true → lists_class (get_or t.sheets j d).prices class ≡ true → moment_of (get_or t.sheets i d) ≡ moment_of (get_or t.sheets j d) → ⊥
+pub one-sheet : (t : Table) (class : ℕ) (i j : ℕ) (d : Sheet) → IsOrderly t → i < j → j < length t.sheets → lists_class (get_or t.sheets i d).prices class ≡ true → lists_class (get_or t.sheets j d).prices class ≡ true → moment_of (get_or t.sheets i d) ≡ moment_of (get_or t.sheets j d) → ⊥
 one-sheet t class i j d orderly less within first second same =
     irreflexive
     (subst (λ moment. moment <ℤ (get_or t.sheets j d).moment) moments

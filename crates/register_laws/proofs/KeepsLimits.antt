@@ -152,9 +152,9 @@ none-yet : length (table_of []).calendars ≡ 0
 unfolding table_behind
 none-yet = refl
 
-pub keeps_its_limits : (journal : Journal) → IsLawful journal → KeepsItsLimits journal
-keeps_its_limits journal lawful =
-    (lawful-keeps (λ known. KeepsItsLimits known × (length (table_of known).calendars ≡ length (calendars_of known))) limits-more (
+limits-kept : (journal : Journal) → IsLawful journal → KeepsItsLimits journal × (length (table_of journal).calendars ≡ length (calendars_of journal))
+limits-kept journal lawful =
+    lawful-keeps (λ known. KeepsItsLimits known × (length (table_of known).calendars ≡ length (calendars_of known))) limits-more (
       record {
         calendars = omega arith;
         classes = omega arith;
@@ -165,4 +165,11 @@ keeps_its_limits journal lawful =
         events = omega arith;
       },
       none-yet,
-    ) journal lawful).0
+    ) journal lawful
+
+pub keeps_its_limits : (journal : Journal) → IsLawful journal → KeepsItsLimits journal
+keeps_its_limits journal lawful = (limits-kept journal lawful).0
+
+-- its price table has as many calendars as were brought
+pub calendars_counted : (journal : Journal) → IsLawful journal → length (table_of journal).calendars ≡ length (calendars_of journal)
+calendars_counted journal lawful = (limits-kept journal lawful).1

@@ -21,7 +21,10 @@ use Rattle.register_machine.specs.replay.Letter.{letter_end_trade}
 use Rattle.register_machine.specs.replay.Positions.{Position, Register, fresh_position, is_fresh, is_position, position_at, position_of, put, stands_before, unless_fresh}
 use Rattle.register_machine.specs.replay.Redemption.{position_less}
 use Rattle.register_machine.specs.replay.Replay.{orders_on, priced_orders}
-use Rattle.register_machine.specs.replay.Trades.{Day, Outcome, Trade, TradeKind, order_trade}
+use Rattle.agent_events.specs.declared.trade.Outcome.{Outcome}
+use Rattle.agent_events.specs.declared.trade.Trade.{Trade}
+use Rattle.agent_events.specs.declared.trade.TradeKind.{TradeKind}
+use Rattle.register_machine.specs.replay.Trades.{Day, order_trade}
 use Rattle.share_lots.specs.Lots.{added, mils}
 
 -- the trades of a turn are quiet for a place: no gross of it, and no letter of it begins or ends

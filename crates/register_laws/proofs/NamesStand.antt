@@ -30,7 +30,7 @@ use Rattle.register_machine.specs.journal.Lawful.{IsLawful}
 use Rattle.register_machine.specs.pricing.CorrectedOrders.{orders_of, replaces, row_as_sent}
 use Rattle.register_machine.specs.pricing.OrderClasses.{class_of, classes_in, target_of}
 use Rattle.register_machine.specs.pricing.PublishedTable.{table_of}
-use Rattle.register_machine.specs.rules.Callers.{Caller}
+use Rattle.agent_events.specs.declared.verdict.Caller.{Caller}
 use Rattle.register_machine.specs.rules.InOrder.{Rule, broken_by}
 use Rattle.register_machine.specs.rules.NamedThings.{has_account, has_class, none_such, things_named}
 use Rattle.register_machine.specs.rules.Sheets.{sheet_fault}

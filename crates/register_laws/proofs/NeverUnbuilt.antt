@@ -27,7 +27,7 @@ use Rattle.register_machine.specs.pricing.CorrectedBook.{Book, book_of, due_at, 
 use Rattle.register_machine.specs.pricing.CorrectedOrders.{stands}
 use Rattle.register_machine.specs.pricing.PublishedTable.{calendar_checked}
 use Rattle.register_machine.specs.replay.Replay.{replay}
-use Rattle.register_machine.specs.replay.Trades.{Trade}
+use Rattle.agent_events.specs.declared.trade.Trade.{Trade}
 use Rattle.register_machine.specs.rules.Breaks.{breaks, breaks_by, is_broken, order_corrected}
 use Rattle.register_machine.specs.rules.Callers.{may}
 use Rattle.register_machine.specs.rules.Identities.{fix_of, has_fix, has_reference, reference_of}

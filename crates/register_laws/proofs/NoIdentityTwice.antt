@@ -23,7 +23,8 @@ use Rattle.register_machine.specs.journal.Journals.{Journal, with_event}
 use Rattle.register_machine.specs.journal.Kinds.{account_in, accounts_of, class_in, classes_of, dealer_in, dealers_of, dividend_in, each_in, household_in, households_of}
 use Rattle.register_machine.specs.journal.Lawful.{IsLawful}
 use Rattle.register_machine.specs.pricing.DividendRates.{declares}
-use Rattle.register_machine.specs.rules.Callers.{Caller, dealer_with_key, household_with_key}
+use Rattle.agent_events.specs.declared.verdict.Caller.{Caller}
+use Rattle.register_machine.specs.rules.Callers.{dealer_with_key, household_with_key}
 use Rattle.register_machine.specs.rules.Identities.{brings_fix, brings_reference, fix_of, has_fix, has_reference, reference_of}
 use Rattle.register_machine.specs.rules.InOrder.{Rule, broken_rule}
 use Rattle.register_machine.specs.rules.Orders.{is_published_at}

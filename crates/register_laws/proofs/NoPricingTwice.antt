@@ -40,7 +40,7 @@ use Rattle.register_machine.specs.journal.Kinds.{calendar_in, calendars_of, clos
 use Rattle.register_machine.specs.journal.Lawful.{IsLawful}
 use Rattle.register_machine.specs.pricing.CorrectedPrices.{sheet_as_corrected}
 use Rattle.register_machine.specs.pricing.PublishedTable.{calendar_terms, empty_table, listing_by, listing_of, table_after, table_behind, table_by, table_of}
-use Rattle.register_machine.specs.rules.Callers.{Caller}
+use Rattle.agent_events.specs.declared.verdict.Caller.{Caller}
 use Rattle.register_machine.specs.rules.InOrder.{Rule, broken_rule}
 use Rattle.register_machine.specs.rules.NamedThings.{has_calendar, has_day, none_such, things_named}
 use Rattle.register_machine.specs.rules.Sheets.{out_of_turn, sheet_fault}

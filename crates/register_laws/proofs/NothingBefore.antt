@@ -27,7 +27,7 @@ use Rattle.register_machine.specs.journal.Journals.{Journal, with_event}
 use Rattle.register_machine.specs.journal.Kinds.{account_in, account_numbered, accounts_of, each_in, replacement_in}
 use Rattle.register_machine.specs.journal.Lawful.{AllFollow, Follows, IsLawful}
 use Rattle.register_machine.specs.pricing.CorrectedOrders.{is_struck, order_begun, order_named, orders_begun, orders_of, replaces, row_as_corrected, row_as_sent, struck_in}
-use Rattle.register_machine.specs.rules.Callers.{Caller}
+use Rattle.agent_events.specs.declared.verdict.Caller.{Caller}
 use Rattle.register_machine.specs.rules.Identities.{brings_reference, fix_of, has_fix, has_reference, ref_used, reference_of}
 use Rattle.register_machine.specs.rules.InOrder.{Rule}
 use Rattle.register_machine.specs.rules.NamedThings.{has_account, has_order, none_such, things_named}

@@ -3,7 +3,7 @@ use Rattle.register_laws.proofs.OrdersInTurn.{NumberedFrom, numbered-first, numb
 use Rattle.std.proofs.Common.{All, Bool, Contains, List, None, Option, Some, [], ap, append-nil, append_assoc, arith, cond, count_by, false, filter, find, flat_map, fold, get_or, inl, inr, is_some, length, map, not, option_map, option_to_list, pos, position, refl, suc, sym, true, zero, ℕ, ◌&&◌, ◌*◌, ◌++◌, ◌+◌, ◌<◌, ◌==◌, ◌∙◌, ◌∷◌, ◌≡◌, ◌≤◌}
 use Rattle.std.proofs.lemmas.Bool.{and_from, and_parts, and_right, cases_lt, eqb-true, false_from_ne_true, true≢false}
 use Rattle.std.proofs.lemmas.Bool.Decides.{Decides-eqb}
-use Rattle.std.proofs.lemmas.List.{map-append}
+use Rattle.std.proofs.lemmas.List.{length-map, map-append}
 use Rattle.std.proofs.lemmas.List.Elements.{All-cons, All-nil, Contains-get_or, filter-append}
 use Rattle.std.proofs.lemmas.List.Sums.{length-filter, sum_by-append, sum_by-cons}
 use Rattle.std.specs.Option.{option_map_or}
@@ -48,7 +48,11 @@ use Rattle.register_machine.specs.replay.Positions.{Position, has_room, position
 use Rattle.register_machine.specs.replay.Purchase.{credit_of, day_at_split, day_if_reached, day_with_lot, position_after_note, purchase_rate, purchase_trade}
 use Rattle.register_machine.specs.replay.Redemption.{day_after_redemption, day_after_redemption_for, day_after_sale, loose_of, position_less, redemption_trade, short_of}
 use Rattle.register_machine.specs.replay.Replay.{Priced, day_after_sheet, first_day, is_priced_on, orders_on, priced_in, priced_orders, replay}
-use Rattle.register_machine.specs.replay.Trades.{Day, Outcome, Trade, TradeKind, Why, day_after_trade, day_unless, nav_of, order_trade, plain_trade, with_position}
+use Rattle.agent_events.specs.declared.trade.Outcome.{Outcome}
+use Rattle.agent_events.specs.declared.trade.Trade.{Trade}
+use Rattle.agent_events.specs.declared.trade.TradeKind.{TradeKind}
+use Rattle.agent_events.specs.declared.trade.Why.{Why}
+use Rattle.register_machine.specs.replay.Trades.{Day, day_after_trade, day_unless, nav_of, order_trade, plain_trade, with_position}
 use Rattle.register_machine.specs.rules.Breaks.{is_filled, is_trade_of}
 use Rattle.register_machine.specs.rules.Identities.{brings_reference, reference_of}
 use Rattle.dividend_reinvest.specs.declared.payment.Payment.TheVariants as pays
@@ -521,7 +525,7 @@ passing-left q (y ∷ ys) x (suc k, l, e) h =
     ]
 
 -- where at most one passes and this one does, it is all that passes
-only-one : {X : Type 0} (q : X → Bool) (xs : List X) (x : X) → length (filter q xs) ≤ 1 → Contains xs x → q x ≡ true → filter q xs ≡ x ∷ []
+pub only-one : {X : Type 0} (q : X → Bool) (xs : List X) (x : X) → length (filter q xs) ≤ 1 → Contains xs x → q x ≡ true → filter q xs ≡ x ∷ []
 only-one q [] x few (k, l, e) h = absurd (omega arith)
 only-one {X = X} q (y ∷ ys) x few (zero, l, e) h = by_first (q y) refl (ap q e ∙ h) few
   where
@@ -678,3 +682,15 @@ all-found journal lawful k d short some =
 
 pub traded_once : (journal : Journal) → IsLawful journal → TradesOrdersOnce (book_behind journal)
 traded_once journal lawful = record { traded = all-traded journal lawful; found = all-found journal lawful }
+
+-- a reference above 0 names one trade at most
+pub named-once : (journal : Journal) → IsLawful journal → (row : OrderRow) → Contains (book_behind journal).orders row → 0 < row.order.ref_no → length (filter (is_trade_of row.order.account row.order.ref_no) (replay (book_behind journal)).trades) ≤ 1
+named-once journal lawful row there some =
+    let book = book_behind journal in
+    let named = filter (is_trade_of row.order.account row.order.ref_no) (replay book).trades in
+    let sheets = traded book row (is_trade_of row.order.account row.order.ref_no) (numbered journal lawful).corrected (one-named journal lawful row.order.account row.order.ref_no) there (reference-tells row.order.account row.order.ref_no some) in
+    omega (arith, few (number_due book row), ap length sheets, length-map named (λ (trade : Trade). trade.sheet))
+  where
+    few : (found : Option ℕ) → length (option_to_list found) ≤ 1
+    few None = omega arith
+    few (Some n) = omega arith

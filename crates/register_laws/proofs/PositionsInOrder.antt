@@ -130,7 +130,7 @@ put-own f p register none =
 
 -- ---- the order by account and then class
 
-abbrev Before : Position → Position → Type 0
+abbrev pub Before : Position → Position → Type 0
 Before p q = (p.account < q.account) ⊎ ((p.account ≡ q.account) × (p.class < q.class))
 
 before-tells : (p q : Position) → Decides (stands_before p q) (Before p q)
@@ -144,7 +144,7 @@ Before-next p q r (inl h) (inr k) = inl (omega (arith, k.0))
 Before-next p q r (inr h) (inl k) = inl (omega (arith, h.0))
 Before-next p q r (inr h) (inr k) = inr (omega (arith, h.0, k.0), omega (arith, h.1, k.1))
 
-before-next : (p q r : Position) → stands_before p q ≡ true → stands_before q r ≡ true → stands_before p r ≡ true
+pub before-next : (p q r : Position) → stands_before p q ≡ true → stands_before q r ≡ true → stands_before p r ≡ true
 before-next p q r h k =
     (before-tells p r).1 (Before-next p q r ((before-tells p q).0 h) ((before-tells q r).0 k))
 
@@ -156,19 +156,19 @@ not-before p q account class =
     (and-false (p.account == q.account) (nat_lt p.class q.class) (lt-no p.class q.class (omega (arith, class))))
 
 -- of two places one is before the other, or they are the same
-data Order (p q : Position) : Type 0 where
+pub data Order (p q : Position) : Type 0 where
   First : stands_before p q ≡ true → stands_before q p ≡ false → Order p q
   Same : p.account ≡ q.account → p.class ≡ q.class → Order p q
   Later : stands_before p q ≡ false → stands_before q p ≡ true → Order p q
 
-not-both : (p q : Position) → stands_before p q ≡ true → stands_before q p ≡ false
+pub not-both : (p q : Position) → stands_before p q ≡ true → stands_before q p ≡ false
 not-both p q h =
     elim (stands_before q p) as (λ b. stands_before q p ≡ b → b ≡ false) [
       | true ↦ λ k. absurd (true≢false (sym (before-next p q p h k) ∙ not-before p p refl refl))
       | false ↦ λ k. refl
     ] refl
 
-order-of : (p q : Position) → Order p q
+pub order-of : (p q : Position) → Order p q
 order-of p q = elim (cases_lt p.account q.account) [
   | inl low ↦ first (inl low)
   | inr high ↦ elim (cases_lt q.account p.account) [

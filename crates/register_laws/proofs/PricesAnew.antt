@@ -40,7 +40,7 @@ use Rattle.register_machine.specs.journal.Kinds.{class_in, classes_of, each_in, 
 use Rattle.register_machine.specs.journal.Lawful.{IsLawful}
 use Rattle.register_machine.specs.pricing.CorrectedPrices.{fixes_price, price_as_corrected, sheet_as_corrected}
 use Rattle.register_machine.specs.pricing.PublishedTable.{empty_table, moment_of, table_behind, table_by, table_of}
-use Rattle.register_machine.specs.rules.Callers.{Caller}
+use Rattle.agent_events.specs.declared.verdict.Caller.{Caller}
 use Rattle.register_machine.specs.rules.InOrder.{Rule, broken_rule}
 use Rattle.register_machine.specs.rules.NamedThings.{has_price, lists_at, things_named}
 use Rattle.register_machine.specs.rules.Sheets.{incomplete, out_of_turn, sheet_fault, too_soon}

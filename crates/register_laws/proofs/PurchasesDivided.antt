@@ -26,7 +26,11 @@ use Rattle.register_machine.specs.replay.Letter.{letter_end_trade}
 use Rattle.register_machine.specs.replay.Positions.{Register, position_at}
 use Rattle.register_machine.specs.replay.Purchase.{amount_rated, credit_of, purchase_trade}
 use Rattle.register_machine.specs.replay.Replay.{Priced, is_priced_on, orders_on, priced_in, priced_orders, replay}
-use Rattle.register_machine.specs.replay.Trades.{Outcome, Trade, TradeKind, Why, nav_of, order_trade}
+use Rattle.agent_events.specs.declared.trade.Outcome.{Outcome}
+use Rattle.agent_events.specs.declared.trade.Trade.{Trade}
+use Rattle.agent_events.specs.declared.trade.TradeKind.{TradeKind}
+use Rattle.agent_events.specs.declared.trade.Why.{Why}
+use Rattle.register_machine.specs.replay.Trades.{nav_of, order_trade}
 use Rattle.share_lots.specs.Lots.{mils}
 
 -- ---- the orders of a sheet

@@ -23,7 +23,10 @@ use Rattle.register_machine.specs.replay.Letter.{day_after_letter_ends, letter_e
 use Rattle.register_machine.specs.replay.Positions.{PositionKey, Register, position_at, position_of}
 use Rattle.register_machine.specs.replay.Purchase.{amount_rated, credit_of}
 use Rattle.register_machine.specs.replay.Replay.{day_after_sheet, first_day, orders_on, priced_orders, replay, replay_over}
-use Rattle.register_machine.specs.replay.Trades.{Day, Outcome, Trade, TradeKind, nav_of, order_trade}
+use Rattle.agent_events.specs.declared.trade.Outcome.{Outcome}
+use Rattle.agent_events.specs.declared.trade.Trade.{Trade}
+use Rattle.agent_events.specs.declared.trade.TradeKind.{TradeKind}
+use Rattle.register_machine.specs.replay.Trades.{Day, nav_of, order_trade}
 use Rattle.share_lots.specs.Lots.{mils}
 
 -- ---- what each element of a fold keeps, with those before it

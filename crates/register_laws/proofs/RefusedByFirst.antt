@@ -265,7 +265,7 @@ not-books (EventKind.Order placed) = by_source placed.source
     by_source Source.Dealer = refl
 not-books _ = refl
 
-not-repeated : (request : Request) (event : Event) → is_query request ≡ true → repeats request event ≡ false
+pub not-repeated : (request : Request) (event : Event) → is_query request ≡ true → repeats request event ≡ false
 not-repeated (Request.Show account) event asks = not-show event.kind account
 not-repeated (Request.Trace form) event asks = not-trace event.kind form
 not-repeated (Request.Statement form) event asks = not-statement event.kind form
@@ -273,7 +273,7 @@ not-repeated Request.Books event asks = not-books event.kind
 not-repeated _ event asks = absurd (true≢false (sym asks))
 
 -- so its content isn't known
-query-new : (situation : Situation) (request : Request) → is_query request ≡ true → position (repeats request) situation.journal ≡ None
+pub query-new : (situation : Situation) (request : Request) → is_query request ≡ true → position (repeats request) situation.journal ≡ None
 query-new situation request asks = by_place (position (repeats request) situation.journal) refl
   where
     by_place : (place : Option ℕ) → position (repeats request) situation.journal ≡ place → place ≡ None

@@ -32,7 +32,8 @@ use Rattle.register_machine.specs.journal.Kinds.{account_numbered, accounts_of, 
 use Rattle.register_machine.specs.journal.Lawful.{Follows, IsLawful, answer_again, asker_by, asker_of, dealer_of}
 use Rattle.register_machine.specs.pricing.PublishedTable.{table_of}
 use Rattle.register_machine.specs.rules.Breaks.{breaks, breaks_by}
-use Rattle.register_machine.specs.rules.Callers.{Caller, caller_of, dealer_with_key, known_caller, may, operator_may, serves}
+use Rattle.agent_events.specs.declared.verdict.Caller.{Caller}
+use Rattle.register_machine.specs.rules.Callers.{caller_of, dealer_with_key, known_caller, may, operator_may, serves}
 use Rattle.register_machine.specs.rules.InOrder.{broken_rule, first_rules}
 use Rattle.register_machine.specs.rules.Situations.{Situation, event_at, no_right, situation_at}
 use Rattle.register_machine.specs.rules.Terms.{bad_terms}

@@ -25,7 +25,10 @@ use Rattle.register_machine.specs.replay.Dividend.{cash_dividend_trade, dividend
 use Rattle.register_machine.specs.replay.Letter.{letter_end_trade}
 use Rattle.register_machine.specs.replay.Positions.{Position, Register, is_position, mils_of, position_at, position_of, put}
 use Rattle.register_machine.specs.replay.Redemption.{position_less}
-use Rattle.register_machine.specs.replay.Trades.{Outcome, Trade, TradeKind, order_trade}
+use Rattle.agent_events.specs.declared.trade.Outcome.{Outcome}
+use Rattle.agent_events.specs.declared.trade.Trade.{Trade}
+use Rattle.agent_events.specs.declared.trade.TradeKind.{TradeKind}
+use Rattle.register_machine.specs.replay.Trades.{order_trade}
 use Rattle.share_lots.specs.Lots.{added, held_total, mils}
 
 -- of a class, a position brings its own mils in the stead of those in its place

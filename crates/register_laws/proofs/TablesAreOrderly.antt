@@ -54,7 +54,7 @@ use Rattle.register_machine.specs.journal.Lawful.{IsLawful}
 use Rattle.register_machine.specs.pricing.CorrectedPrices.{price_as_corrected, sheet_as_corrected, table_as_corrected}
 use Rattle.register_machine.specs.pricing.OrderClasses.{classes_in}
 use Rattle.register_machine.specs.pricing.PublishedTable.{calendar_terms, empty_table, listing_by, listing_of, moment_of, table_behind, table_by, table_of}
-use Rattle.register_machine.specs.rules.Callers.{Caller}
+use Rattle.agent_events.specs.declared.verdict.Caller.{Caller}
 use Rattle.register_machine.specs.rules.InOrder.{Rule, broken_rule}
 use Rattle.register_machine.specs.rules.Sheets.{incomplete, out_of_turn, too_soon}
 use Rattle.register_machine.specs.rules.Standing.{day_used, is_declared_in, is_used_moment}
@@ -106,7 +106,7 @@ considered-same p q same (pair ∷ pairs) found =
     ap (λ b. fold (considered p is_sooner) (cond b (preferred is_sooner found pair) found) pairs) (same pair)
     ∙ considered-same p q same pairs (cond (q pair) (preferred is_sooner found pair) found)
 
-expected-corrected : (journal : Journal) (t : Table) → expected_of (table_as_corrected journal t) ≡ expected_of t
+pub expected-corrected : (journal : Journal) (t : Table) → expected_of (table_as_corrected journal t) ≡ expected_of t
 expected-corrected journal t =
     considered-same (is_awaited t.classes (map (sheet_as_corrected (each_in price_fix_in journal)) t.sheets)) (is_awaited t.classes t.sheets)
     (awaited-corrected (each_in price_fix_in journal) t.classes t.sheets) (pricing_pairs t.calendars) None
@@ -114,7 +114,7 @@ expected-corrected journal t =
 -- ---- what an event of a lawful journal keeps
 
 -- the days of a calendar are a listing of ten years at most
-record IsCalendar (c : Listing) : Type 0 where
+pub record IsCalendar (c : Listing) : Type 0 where
   pub listing : IsListing c.days
   pub span : length c.days ≤ longest_span
 
@@ -196,7 +196,7 @@ class-free journal number free =
     none-found (λ (class : Opening). class.class == number) (table_of journal).classes
     (classes-seen number journal ∙ (list_any-find (is_class number) (classes_of journal) ∙ not_when (is_some (class_numbered (classes_of journal) number)) number free))
 
-calendar-unknown : (table : Table) (number : ℕ) → when (is_some (calendar_numbered table.calendars number)) number ≡ None → calendar_numbered table.calendars number ≡ None
+pub calendar-unknown : (table : Table) (number : ℕ) → when (is_some (calendar_numbered table.calendars number)) number ≡ None → calendar_numbered table.calendars number ≡ None
 calendar-unknown table number free =
     none-found (λ (c : Listing). c.number == number) table.calendars
     (list_any-find (λ (c : Listing). c.number == number) table.calendars ∙ not_when (is_some (calendar_numbered table.calendars number)) number free)
@@ -308,7 +308,7 @@ closed-keeps journal now caller form free o are k d short = here (get_or t.sheet
 -- ---- a sheet in its turn
 
 -- without a fault it is the expected one, its list is complete, and its moment has come
-without-fault : (expected : Option (ℤ × ℕ)) (wrong : Option ℕ) (calendar : ℕ) (moment now : ℤ) → out_of_turn (fault_of expected wrong calendar moment now) ≡ None → incomplete (fault_of expected wrong calendar moment now) ≡ None → too_soon (fault_of expected wrong calendar moment now) ≡ None → (expected ≡ Some (moment, calendar)) × (wrong ≡ None) × (int_lt now moment ≡ false)
+pub without-fault : (expected : Option (ℤ × ℕ)) (wrong : Option ℕ) (calendar : ℕ) (moment now : ℤ) → out_of_turn (fault_of expected wrong calendar moment now) ≡ None → incomplete (fault_of expected wrong calendar moment now) ≡ None → too_soon (fault_of expected wrong calendar moment now) ≡ None → (expected ≡ Some (moment, calendar)) × (wrong ≡ None) × (int_lt now moment ≡ false)
 without-fault None wrong calendar moment now turn complete soon = absurd (none turn)
   where
     none : out_of_turn (Some (publish_fault.SheetOutOfTurn (pos 0) 0)) ≡ None → ⊥
@@ -341,7 +341,7 @@ without-fault (Some pair) wrong calendar moment now turn complete soon = by_pair
 
 -- ---- one event more
 
-record IsKeptAt (t : Table) (now : ℕ) : Type 0 where
+pub record IsKeptAt (t : Table) (now : ℕ) : Type 0 where
   pub orderly : IsOrderly t
   pub calendars : All IsCalendar t.calendars
   pub few : length t.calendars ≤ most_calendars
@@ -429,7 +429,7 @@ kept-at-first = record {
   past = All-nil (λ (s : Sheet). s.moment ≤ℤ pos 0);
 }
 
-kept : (journal : Journal) → IsLawful journal → IsKeptAt (table_of journal) (last_moment journal)
+pub kept : (journal : Journal) → IsLawful journal → IsKeptAt (table_of journal) (last_moment journal)
 kept = lawful-keeps (λ journal. IsKeptAt (table_of journal) (last_moment journal)) kept-more kept-at-first
 
 pub orderly_tables : (journal : Journal) → IsLawful journal → HasOrderlyTables journal

@@ -21,7 +21,10 @@ use Rattle.register_machine.specs.replay.Letter.{letter_end_trade}
 use Rattle.register_machine.specs.replay.Positions.{Position, PositionKey, Register, key_of, position_at, position_of}
 use Rattle.register_machine.specs.replay.Redemption.{position_less}
 use Rattle.register_machine.specs.replay.Replay.{first_day, replay}
-use Rattle.register_machine.specs.replay.Trades.{Day, Outcome, Trade, TradeKind, order_trade}
+use Rattle.agent_events.specs.declared.trade.Outcome.{Outcome}
+use Rattle.agent_events.specs.declared.trade.Trade.{Trade}
+use Rattle.agent_events.specs.declared.trade.TradeKind.{TradeKind}
+use Rattle.register_machine.specs.replay.Trades.{Day, order_trade}
 use Rattle.share_lots.specs.Lots.{mils}
 
 -- ---- what is known of orders, positions, trades and movements

@@ -25,7 +25,9 @@ use Rattle.register_machine.specs.replay.Letter.{letter_end_trade}
 use Rattle.register_machine.specs.replay.Positions.{Register, position_at}
 use Rattle.register_machine.specs.replay.Purchase.{purchase_rate}
 use Rattle.register_machine.specs.replay.Replay.{orders_on, priced_orders}
-use Rattle.register_machine.specs.replay.Trades.{Outcome, TradeKind, nav_of, order_trade}
+use Rattle.agent_events.specs.declared.trade.Outcome.{Outcome}
+use Rattle.agent_events.specs.declared.trade.TradeKind.{TradeKind}
+use Rattle.register_machine.specs.replay.Trades.{nav_of, order_trade}
 use Rattle.share_lots.specs.Lots.{mils}
 use Rattle.share_lots.specs.Taking.{pieces}
 

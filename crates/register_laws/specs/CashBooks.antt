@@ -14,7 +14,7 @@ use Rattle.register_machine.specs.corrections.Payments.{booked_movements}
 use Rattle.register_machine.specs.journal.Journals.{Journal}
 use Rattle.register_machine.specs.pricing.CorrectedBook.{Book, book_of}
 use Rattle.register_machine.specs.replay.Replay.{replay}
-use Rattle.register_machine.specs.rules.Callers.{Caller}
+use Rattle.agent_events.specs.declared.verdict.Caller.{Caller}
 use Rattle.register_machine.specs.run.Answers.{answer}
 
 -- A party stands so often among parties; a movement is between parties that stand among them once.

@@ -6,7 +6,7 @@ use Rattle.register_machine.specs.journal.Journals.{Journal, last_moment}
 use Rattle.register_machine.specs.pricing.CorrectedBook.{Book, book_of}
 use Rattle.register_machine.specs.pricing.PublishedTable.{table_of}
 use Rattle.register_machine.specs.rules.Breaks.{breaks}
-use Rattle.register_machine.specs.rules.Callers.{Caller}
+use Rattle.agent_events.specs.declared.verdict.Caller.{Caller}
 use Rattle.register_machine.specs.rules.InOrder.{broken_rule, first_rules}
 use Rattle.register_machine.specs.rules.Situations.{Situation, situation_at}
 use Rattle.register_machine.specs.run.Verdicts.{due_now, repeats}

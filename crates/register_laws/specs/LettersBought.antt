@@ -5,7 +5,10 @@ use Rattle.letter_of_intent.specs.declared.letter.Letter.{Letter}
 use Rattle.register_machine.specs.pricing.CorrectedBook.{Book}
 use Rattle.register_machine.specs.replay.Positions.{Position}
 use Rattle.register_machine.specs.replay.Replay.{replay, replay_to}
-use Rattle.register_machine.specs.replay.Trades.{Day, Outcome, Trade, TradeKind}
+use Rattle.agent_events.specs.declared.trade.Outcome.{Outcome}
+use Rattle.agent_events.specs.declared.trade.Trade.{Trade}
+use Rattle.agent_events.specs.declared.trade.TradeKind.{TradeKind}
+use Rattle.register_machine.specs.replay.Trades.{Day}
 
 abbrev pub is_trade_of : ℕ → ℕ → Trade → Bool
 is_trade_of account class trade = trade.account == account && trade.class == class

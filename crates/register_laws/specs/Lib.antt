@@ -34,3 +34,16 @@ pub mod CashBooks
 pub mod RowForms
 -- what a lawful journal names stands in it
 pub mod NamesStand
+-- a household's part of the register and its own book, and books that agree
+pub mod Households
+pub mod AlikeBooks
+-- what a sheet does to a part, and a part from a checkpoint on
+pub mod HouseholdSheets
+-- totals over all as sums over the households
+pub mod HouseholdSums
+-- how far a correction reaches
+pub mod CorrectionReach
+-- what a holder asks is answered from the view alone
+pub mod Isolation
+-- the first broken trade, by households
+pub mod BrokenByParts

@@ -23,7 +23,8 @@ use Rattle.register_machine.specs.pricing.CorrectedBook.{Book, book_of, due_mome
 use Rattle.register_machine.specs.pricing.CorrectedOrders.{row_as_sent}
 use Rattle.register_machine.specs.pricing.PublishedTable.{moment_of, table_of}
 use Rattle.register_machine.specs.replay.Replay.{orders_on, priced_in, priced_orders, replay}
-use Rattle.register_machine.specs.replay.Trades.{Trade, TradeKind}
+use Rattle.agent_events.specs.declared.trade.Trade.{Trade}
+use Rattle.agent_events.specs.declared.trade.TradeKind.{TradeKind}
 use Rattle.register_machine.specs.rules.Breaks.{breaks, is_broken, is_filled, is_trade_of, order_corrected, was_filled}
 use Rattle.register_machine.specs.run.Replies.{first_reply, order_reply}
 

@@ -10,7 +10,10 @@ use Rattle.register_machine.specs.pricing.CorrectedBook.{Book, front_of}
 use Rattle.register_machine.specs.replay.Positions.{PositionKey, Register, position_at}
 use Rattle.register_machine.specs.replay.Purchase.{amount_rated, credit_of}
 use Rattle.register_machine.specs.replay.Replay.{replay}
-use Rattle.register_machine.specs.replay.Trades.{Outcome, Trade, TradeKind, nav_of}
+use Rattle.agent_events.specs.declared.trade.Outcome.{Outcome}
+use Rattle.agent_events.specs.declared.trade.Trade.{Trade}
+use Rattle.agent_events.specs.declared.trade.TradeKind.{TradeKind}
+use Rattle.register_machine.specs.replay.Trades.{nav_of}
 
 -- the amount whose breakpoint gives the rate of a purchase of this gross, for this account and class
 abbrev pub amount_at : Book → Sheet → Register → PositionKey → ℕ → ℕ

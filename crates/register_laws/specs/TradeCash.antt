@@ -5,7 +5,9 @@ use Rattle.register_laws.specs.ReplayKeeps.{IsWithinLimits}
 use Rattle.register_machine.specs.corrections.Cash.{Movement, movement, movements_in}
 use Rattle.register_machine.specs.pricing.CorrectedBook.{Book}
 use Rattle.register_machine.specs.replay.Replay.{replay}
-use Rattle.register_machine.specs.replay.Trades.{Outcome, Trade, TradeKind}
+use Rattle.agent_events.specs.declared.trade.Outcome.{Outcome}
+use Rattle.agent_events.specs.declared.trade.Trade.{Trade}
+use Rattle.agent_events.specs.declared.trade.TradeKind.{TradeKind}
 
 -- one movement of so many cents
 abbrev pub moves_one : Party → Party → ℕ → List Movement

@@ -15,7 +15,10 @@ use Rattle.register_machine.specs.pricing.CorrectedBook.{Book, front_of}
 use Rattle.register_machine.specs.pricing.CorrectedOrders.{stands}
 use Rattle.register_machine.specs.pricing.OrderClasses.{class_of, target_of}
 use Rattle.register_machine.specs.replay.Replay.{priced_in, replay}
-use Rattle.register_machine.specs.replay.Trades.{Day, Outcome, Trade, TradeKind, nav_of}
+use Rattle.agent_events.specs.declared.trade.Outcome.{Outcome}
+use Rattle.agent_events.specs.declared.trade.Trade.{Trade}
+use Rattle.agent_events.specs.declared.trade.TradeKind.{TradeKind}
+use Rattle.register_machine.specs.replay.Trades.{Day, nav_of}
 use Rattle.register_machine.specs.rules.Limits.{most_orders}
 
 -- ---- Purchases.

@@ -5,6 +5,7 @@
 pub mod answer_laws;
 pub mod batch_laws;
 pub mod cash_laws;
+pub mod household_laws;
 pub mod identity_laws;
 pub mod journal_laws;
 pub mod machine_laws;
