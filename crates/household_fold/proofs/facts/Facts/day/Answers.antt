@@ -1,0 +1,6 @@
+use Rattle.std.proofs.Common.{refl}
+use Rattle.household_fold.proofs.SheetFacts.{read_at_hand}
+use Rattle.household_fold.proofs.facts.Facts.day.Goals as goal
+
+pub returns : goal.returns
+returns c = read_at_hand (λ s. s.day) (λ s prices. refl) c.args.self.now c.published.result.now c.published.ensures

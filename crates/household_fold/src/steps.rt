@@ -1,0 +1,29 @@
+//! The counter of steps, which `advance` alone counts on.
+ghost use Rattle.std.specs.Prelude.{◌≡◌, ◌+◌, ◌<◌, ℕ};
+
+use std::marker::Model;
+use std::sync::ledger::{Blank, Book, Ledger, Share};
+
+/// How many times a household was taken over a sheet. It takes no bytes, and one step alone counts.
+#[derive(Drop)]
+pub struct Steps<L: Ledger> {
+    book: Book<L>,
+    share: Share<L>,
+}
+
+impl<L: Ledger> Model for Steps<L> {
+    ghost Value = { ℕ };
+
+    ghost view = { λ steps. steps.book.total };
+
+    ghost invariant = { λ steps. 0 < steps.share.parts };
+}
+
+impl<L: Ledger> Steps<L> {
+    // One step more.
+    pub(crate) fn tick(&mut self)
+        ensures { self.new ≡ self.old + 1 }
+    {
+        self.book.add(&mut self.share, 1);
+    }
+}
