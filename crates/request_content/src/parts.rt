@@ -10,13 +10,6 @@ use class_terms::Bracket;
 use fund_calendar::Day;
 use money_units::{Bps, Nav};
 
-/// A text.
-pub(crate) fn same_text(first: &[u8], second: &[u8]) -> bool
-    ensures { result ≡ bytes_eq first.now second.now }
-{
-    first == second
-}
-
 /// A list of dates.
 pub(crate) fn same_days(first: &[Day], second: &[Day]) -> bool
     ensures { result ≡ bytes_eq first.now second.now }
@@ -126,7 +119,8 @@ pub(crate) fn same_body(first: &Body, second: &Body) -> bool
 
 /// An order.
 pub(crate) fn same_order(first: &Order, second: &Order) -> bool
-    ensures { result ≡ pointwise bytes_eq (content.order_content first.now) (content.order_content second.now) }
+    ensures { result
+        ≡ pointwise bytes_eq (content.order_content first.now) (content.order_content second.now) }
 {
     first.account.number() == second.account.number()
         && first.ref_no.number() == second.ref_no.number()

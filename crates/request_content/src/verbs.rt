@@ -6,16 +6,18 @@ ghost use Rattle.agent_events.specs.declared.request.Request.TheVariants as aske
 
 use crate::parts::{
     same_bearer, same_brackets, same_days, same_flag, same_order, same_prices, same_rates,
-    same_text,
 };
 use agent_events::{
     AccountForm, CalendarForm, CancelForm, ClassForm, CloseForm, DealerForm, DividendForm,
     EntryForm, FixPriceForm, FixRateForm, HouseholdForm, Identifier, LineForm, Order, SheetForm,
     StatementForm, TraceForm, VoidForm,
 };
+use money_units::same_bytes;
 
 fn same_calendar_numbers(first: &CalendarForm, second: &CalendarForm) -> bool
-    ensures { result ≡ bytes_eq (first.now.calendar ∷ first.now.minute ∷ first.now.first ∷ first.now.last ∷ []) (second.now.calendar ∷ second.now.minute ∷ second.now.first ∷ second.now.last ∷ []) }
+    ensures { result
+        ≡ bytes_eq (first.now.calendar ∷ first.now.minute ∷ first.now.first ∷ first.now.last ∷ [])
+        (second.now.calendar ∷ second.now.minute ∷ second.now.first ∷ second.now.last ∷ []) }
 {
     first.calendar.number() == second.calendar.number()
         && first.minute.minutes() == second.minute.minutes()
@@ -33,7 +35,9 @@ fn same_entry(first: &EntryForm, second: &EntryForm) -> bool
 }
 
 fn same_class_numbers(first: &ClassForm, second: &ClassForm) -> bool
-    ensures { result ≡ bytes_eq (first.now.class ∷ first.now.calendar ∷ first.now.fund ∷ []) (second.now.class ∷ second.now.calendar ∷ second.now.fund ∷ []) }
+    ensures { result
+        ≡ bytes_eq (first.now.class ∷ first.now.calendar ∷ first.now.fund ∷ [])
+        (second.now.class ∷ second.now.calendar ∷ second.now.fund ∷ []) }
 {
     first.class.number() == second.class.number()
         && first.calendar.number() == second.calendar.number()
@@ -41,20 +45,26 @@ fn same_class_numbers(first: &ClassForm, second: &ClassForm) -> bool
 }
 
 fn same_standing(first: &ClassForm, second: &ClassForm) -> bool
-    ensures { result ≡ bytes_eq (first.now.family ∷ flag_number first.now.counts ∷ []) (second.now.family ∷ flag_number second.now.counts ∷ []) }
+    ensures { result
+        ≡ bytes_eq (first.now.family ∷ flag_number first.now.counts ∷ [])
+        (second.now.family ∷ flag_number second.now.counts ∷ []) }
 {
     first.family == second.family && same_flag(first.counts, second.counts)
 }
 
 fn same_minimums(first: &ClassForm, second: &ClassForm) -> bool
-    ensures { result ≡ bytes_eq (first.now.first_min ∷ first.now.later_min ∷ []) (second.now.first_min ∷ second.now.later_min ∷ []) }
+    ensures { result
+        ≡ bytes_eq (first.now.first_min ∷ first.now.later_min ∷ [])
+        (second.now.first_min ∷ second.now.later_min ∷ []) }
 {
     first.first_min.cents() == second.first_min.cents()
         && first.later_min.cents() == second.later_min.cents()
 }
 
 fn same_loads(first: &ClassForm, second: &ClassForm) -> bool
-    ensures { result ≡ (bytes_eq (brackets_content first.now.front) (brackets_content second.now.front) && bytes_eq first.now.deferred second.now.deferred) }
+    ensures { result
+        ≡ (bytes_eq (brackets_content first.now.front) (brackets_content second.now.front) &&
+        bytes_eq first.now.deferred second.now.deferred) }
 {
     same_brackets(first.front.as_slice(), second.front.as_slice())
         && same_rates(first.deferred.as_slice(), second.deferred.as_slice())
@@ -64,7 +74,7 @@ pub(crate) fn same_calendar(first: &CalendarForm, second: &CalendarForm) -> bool
     ensures { result ≡ same_request (asked.Calendar first.now) (asked.Calendar second.now) }
 {
     same_calendar_numbers(first, second)
-        && same_text(first.zone.as_slice(), second.zone.as_slice())
+        && same_bytes(first.zone.as_slice(), second.zone.as_slice())
         && same_days(first.holidays.as_slice(), second.holidays.as_slice())
 }
 
@@ -78,7 +88,7 @@ pub fn same_class(first: &ClassForm, second: &ClassForm) -> bool
     ensures { result ≡ same_request (asked.Class first.now) (asked.Class second.now) }
 {
     same_class_numbers(first, second)
-        && same_text(first.name.as_slice(), second.name.as_slice())
+        && same_bytes(first.name.as_slice(), second.name.as_slice())
         && same_standing(first, second)
         && same_minimums(first, second)
         && same_loads(first, second)
@@ -89,14 +99,14 @@ pub(crate) fn same_dealer(first: &DealerForm, second: &DealerForm) -> bool
 {
     first.dealer.number() == second.dealer.number()
         && first.window.seconds() == second.window.seconds()
-        && same_text(first.key.as_slice(), second.key.as_slice())
+        && same_bytes(first.key.as_slice(), second.key.as_slice())
 }
 
 pub(crate) fn same_household(first: &HouseholdForm, second: &HouseholdForm) -> bool
     ensures { result ≡ same_request (asked.Household first.now) (asked.Household second.now) }
 {
     first.household.number() == second.household.number()
-        && same_text(first.key.as_slice(), second.key.as_slice())
+        && same_bytes(first.key.as_slice(), second.key.as_slice())
 }
 
 pub(crate) fn same_account(first: &AccountForm, second: &AccountForm) -> bool
@@ -105,7 +115,7 @@ pub(crate) fn same_account(first: &AccountForm, second: &AccountForm) -> bool
     first.account.number() == second.account.number()
         && first.household.number() == second.household.number()
         && first.dealer == second.dealer
-        && same_text(first.name.as_slice(), second.name.as_slice())
+        && same_bytes(first.name.as_slice(), second.name.as_slice())
 }
 
 pub(crate) fn same_sheet(first: &SheetForm, second: &SheetForm) -> bool

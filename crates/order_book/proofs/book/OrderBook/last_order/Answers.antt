@@ -1,0 +1,8 @@
+use Rattle.std.proofs.Common.{ap}
+use Rattle.order_book.proofs.BookFound.{got-last}
+use Rattle.order_book.specs.Books.{NotedJournal}
+use Rattle.order_book.proofs.book.OrderBook.last_order.Goals as goal
+
+pub returns : goal.returns
+returns c = got-last c.self.inside.indexes.orders c.self.inside.events.items c.args.self.now.journal c.args.account c.last.result
+    (ap (λ (book : NotedJournal). book.journal) c.self.view_is) c.self.invariant.indexes.orders c.last.ensures

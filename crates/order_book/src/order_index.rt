@@ -1,0 +1,110 @@
+//! The orders by name, and those of an account one after the other.
+ghost use Rattle.std.specs.Prelude.{◌≡◌, ◌≤◌, ◌<◌, ◌+◌, ◌++◌, ◌∷◌, [], ℕ, List, None, Some, OnOk, length, nat_eq, option_and_then, slice_get, if◌then◌else◌, vec_len, vec_capacity};
+ghost use Rattle.std.specs.HashMap.{get, spare};
+ghost use Rattle.std.specs.Option.{option_or};
+ghost use Rattle.order_book.specs.Orders.{same_name, KeepsNames, HasNameRoom};
+ghost use Rattle.order_book.specs.declared.order_index.OrderName.{OrderName as Name};
+
+use crate::room::push_within;
+use money_units::NoMemory;
+use std::alloc::Global;
+use std::collections::HashMap;
+
+/// What an account calls one of its orders.
+#[derive(Clone, Copy, PartialEq, Eq, Hash)]
+pub struct OrderName {
+    pub account: u32,
+    pub ref_no: u64,
+}
+
+/// The place of each order by its name, the place of the last order of an account, and for each order the place of the one of
+/// the same account before it.
+#[derive(Drop)]
+pub struct OrderIndex {
+    places: HashMap<OrderName, usize>,
+    last: HashMap<u32, usize>,
+    earlier: Vec<Option<usize>>,
+}
+
+impl OrderIndex {
+    pub fn new(alloc: Global) -> OrderIndex
+        ensures { KeepsNames result [] }
+    {
+        OrderIndex {
+            places: HashMap::new(alloc),
+            last: HashMap::new(alloc),
+            earlier: Vec::new(alloc),
+        }
+    }
+
+    /// The place of the order of this name.
+    pub fn place(&self, name: OrderName) -> Option<usize>
+        ensures { result ≡ get same_name self.now.places name }
+    {
+        self.places.get(&name).copied()
+    }
+
+    /// The place of the last order of an account.
+    pub fn last(&self, account: u32) -> Option<usize>
+        ensures { result ≡ get nat_eq self.now.last account }
+    {
+        self.last.get(&account).copied()
+    }
+
+    /// The place of the order of the same account before the one at a place.
+    pub fn earlier(&self, place: usize) -> Option<usize>
+        ensures { result ≡ option_and_then (λ found. found) (slice_get self.now.earlier.items place) }
+    {
+        self.earlier.get(place).copied().flatten()
+    }
+
+    /// Takes the memory for so many orders.
+    pub fn reserve(&mut self, orders: usize) -> Result<(), NoMemory>
+        ensures same { (names : List Name) → KeepsNames self.old names → KeepsNames self.new names }
+        ensures room { OnOk result (HasNameRoom self.new orders) }
+        ensures kept { (n : ℕ) → HasNameRoom self.old n → HasNameRoom self.new n }
+    {
+        self.places.reserve(orders)?;
+        self.last.reserve(orders)?;
+        self.earlier.reserve(orders)?;
+        Ok(())
+    }
+
+    /// Takes in a name behind the others.
+    pub fn push(&mut self, name: OrderName, place: usize)
+        requires { HasNameRoom self.old 1 }
+        ensures kept { (names : List Name) → place ≡ length names → KeepsNames self.old names
+            → KeepsNames self.new (names ++ name ∷ []) }
+        ensures room { (n : ℕ) → HasNameRoom self.old (n + 1) → HasNameRoom self.new n }
+    {
+        let before = self.last.get(&name.account).copied();
+        push_within(&mut self.earlier, &before);
+        put_last(&mut self.last, name.account, place);
+        put_first(&mut self.places, name, place);
+    }
+}
+
+fn put_last(last: &mut HashMap<u32, usize>, account: u32, place: usize)
+    requires { 1 ≤ spare last.old }
+    ensures places { (q : ℕ) → get nat_eq last.new q ≡ (if nat_eq account q then Some place else get nat_eq last.old q) }
+    ensures room { spare last.old ≤ spare last.new + 1 }
+{
+    let put: Result<_, _> = last.insert(account, place);
+    let _before = put.unwrap();
+}
+
+// Keeps the place, unless one is kept already.
+fn put_first(places: &mut HashMap<OrderName, usize>, name: OrderName, place: usize)
+    requires { 1 ≤ spare places.old }
+    ensures places { (q : Name) → get same_name places.new q
+        ≡ option_or (get same_name places.old q) (if same_name name q then Some place else None) }
+    ensures room { spare places.old ≤ spare places.new + 1 }
+{
+    match places.get(&name).copied() {
+        Some(_) => {}
+        None => {
+            let put: Result<_, _> = places.insert(name, place);
+            let _before = put.unwrap();
+        }
+    }
+}

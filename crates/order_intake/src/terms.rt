@@ -1,0 +1,99 @@
+//! Refusal 2, behind the form: a calendar's zone, dates and moments, and the loads of a class.
+ghost use Rattle.std.specs.Prelude.{◌≡◌, IfOk};
+ghost use Rattle.order_intake.specs.TermPlaces.{loads_place, place_checked};
+ghost use Rattle.register_machine.specs.pricing.PublishedTable.{calendar_checked};
+ghost use Rattle.register_machine.specs.rules.Situations.{Situation};
+ghost use Rattle.register_machine.specs.rules.Terms.{bad_terms, calendar_place};
+
+use agent_events::{CalendarForm, ClassForm, Refusal, Request};
+use class_terms::{Bracket, Brackets, TermFault, Terms, TermsForm, check};
+use event_copies::Copied;
+use fund_calendar::{Calendar, CalendarFault};
+use money_units::{Cents, List, NoMemory};
+use std::alloc::Global;
+
+/// The text of a calendar's zone.
+fn zone_text(form: &CalendarForm) -> &str
+    ensures { result.now ≡ form.now.zone }
+{
+    match str::from_utf8(form.zone.as_slice()) {
+        Ok(text) => text,
+        Err(_) => unreachable!(),
+    }
+}
+
+/// The place of what makes no calendar.
+fn calendar_place(alloc: Global, form: &CalendarForm) -> Result<Option<Refusal>, NoMemory>
+    ensures { IfOk result (λ place. place ≡ calendar_place (calendar_checked form.now)) }
+{
+    let made = Calendar::new(
+        alloc,
+        form.calendar.number(),
+        zone_text(form),
+        form.minute.minutes(),
+        form.first,
+        form.last,
+        form.holidays.as_slice(),
+    );
+    match made {
+        Ok(_) => Ok(None),
+        Err(CalendarFault::BadZone) => Ok(Some(Refusal::BadForm(2))),
+        Err(CalendarFault::BadSpan) => Ok(Some(Refusal::BadForm(5))),
+        Err(CalendarFault::NotRising(_)) => Ok(Some(Refusal::BadForm(3))),
+        Err(CalendarFault::NoMemory) => Err(NoMemory),
+    }
+}
+
+/// The table of these rows.
+fn brackets_of(alloc: Global, rows: &[Bracket]) -> Result<Brackets, NoMemory>
+    ensures { IfOk result (λ copy. copy ≡ rows.now) }
+{
+    let mut copy = List::new(alloc);
+    for row in rows {
+        copy.push_copy(row)?;
+    }
+    Ok(copy)
+}
+
+/// The place of the loads that aren't good; a family that differs is passed over.
+fn place_checked(checked: &Result<Terms, TermFault>) -> Option<Refusal>
+    ensures { result ≡ place_checked checked.now }
+{
+    match checked {
+        Ok(_) => None,
+        Err(TermFault::BadFront(_)) => Some(Refusal::BadForm(9)),
+        Err(TermFault::BadDeferred(_)) => Some(Refusal::BadForm(10)),
+        Err(TermFault::FamilyDiffers(_)) => None,
+    }
+}
+
+/// The place of the loads that aren't good.
+fn loads_place(alloc: Global, form: &ClassForm) -> Result<Option<Refusal>, NoMemory>
+    ensures { IfOk result (λ place. place ≡ loads_place form.now) }
+{
+    let terms = TermsForm {
+        class: form.class.number(),
+        calendar: form.calendar.number(),
+        fund: form.fund.number(),
+        name: List::new(alloc),
+        family: form.family,
+        counts: form.counts,
+        first_min: Cents(form.first_min.cents()),
+        later_min: Cents(form.later_min.cents()),
+        front: brackets_of(alloc, form.front.as_slice())?,
+        deferred: form.deferred.copy(alloc)?,
+    };
+    Ok(place_checked(&check(terms, &[])))
+}
+
+/// Refusal 2. The terms of a calendar or a class aren't good.
+pub(crate) fn bad_terms(alloc: Global, request: &Request) -> Result<Option<Refusal>, NoMemory>
+    ensures { IfOk result (λ place. (situation : Situation) → place
+        ≡ bad_terms situation request.now) }
+{
+    match request {
+        Request::Calendar(form) => calendar_place(alloc, form),
+        Request::Class(form) => loads_place(alloc, form),
+        _ => Ok(None),
+    }
+}

@@ -1,0 +1,5 @@
+pub mod RulesByVerb
+pub mod LookUps
+pub mod Named
+pub mod Classes
+pub mod Declared

@@ -1,0 +1,20 @@
+//! The rules of the register: who may ask what, and the first rule that a request breaks, each rule over look-ups that don't grow
+//! slow.
+#![tactic(auto)]
+
+mod cancels;
+mod corrections;
+mod days;
+mod first_rule;
+mod inquiry;
+pub mod laws;
+mod limits;
+mod looks;
+mod orders;
+mod rights;
+mod rules;
+mod set_up;
+
+pub use crate::first_rule::{broken_rule, due_now};
+pub use crate::inquiry::Inquiry;
+pub use crate::rights::no_right;

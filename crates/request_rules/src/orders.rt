@@ -1,0 +1,225 @@
+//! The rules on orders, dealers' lines and entered orders.
+ghost use Rattle.std.specs.Prelude.{◌≡◌, ◌≤◌, length, nat_lt};
+ghost use Rattle.agent_events.specs.declared.request.Request.{Request};
+ghost use Rattle.request_rules.specs.VerbRules.{absent_among, has_breakpoints, rules_of};
+ghost use Rattle.register_machine.specs.journal.Choices.{first_some, when};
+ghost use Rattle.register_machine.specs.pricing.CorrectedBook.{calendar_of, due_at, due_moment};
+ghost use Rattle.register_machine.specs.pricing.CorrectedOrders.{row_as_sent};
+ghost use Rattle.register_machine.specs.rules.NamedThings.{named_in_order};
+ghost use Rattle.register_machine.specs.rules.Orders.{below_minimum, calendar_ended, family_of, has_one_calendar, is_exchangeable, is_of_calendar, is_offered, late_by, not_offered, window_of};
+
+use crate::inquiry::{Inquiry, class_of, target_of};
+use crate::limits::{journal_full, orders_full, reference_used};
+use crate::rules::{first_absent, first_broken, refused_when};
+use agent_events::{Body, Caller, Identifier, LineForm, Order, OrderRow, Refusal};
+use money_units::Moment;
+
+/// An order as it is sent, behind all events.
+pub(crate) fn row_as_sent(inquiry: &Inquiry, receipt: Moment, order: &Order) -> OrderRow
+    ensures { result ≡ row_as_sent (length inquiry.now.journal) receipt order.now }
+{
+    OrderRow {
+        place: inquiry.len(),
+        receipt,
+        struck: false,
+        order: *order,
+    }
+}
+
+/// The due moment of an order.
+pub(crate) fn due_moment(inquiry: &Inquiry, row: &OrderRow) -> Option<Moment>
+    ensures { result ≡ due_moment inquiry.now.book row.now }
+{
+    inquiry.due_at(&row.order.body, row.receipt)
+}
+
+/// Whether a class is of the calendar of another.
+fn is_of_one_calendar(inquiry: &Inquiry, first: Identifier, class: Identifier) -> bool
+    ensures { result ≡ is_of_calendar inquiry.now.book (calendar_of inquiry.now.book first) class }
+{
+    match inquiry.calendar_of(class) {
+        Some(own) => match inquiry.calendar_of(first) {
+            Some(other) => other.number() == own.number(),
+            None => false,
+        },
+        None => false,
+    }
+}
+
+/// Whether all classes of an order are of one calendar.
+fn has_one_calendar(inquiry: &Inquiry, body: &Body) -> bool
+    ensures { result ≡ has_one_calendar inquiry.now.book body.now }
+{
+    let class = class_of(body);
+    match target_of(body) {
+        Some(to) => {
+            is_of_one_calendar(inquiry, class, class) && is_of_one_calendar(inquiry, class, to)
+        }
+        None => is_of_one_calendar(inquiry, class, class),
+    }
+}
+
+/// Refusal 5. The classes have one calendar, and no due moment is left in it.
+pub(crate) fn calendar_ended(inquiry: &Inquiry, row: &OrderRow) -> Option<Refusal>
+    ensures { result ≡ calendar_ended inquiry.now.book row.now }
+{
+    refused_when(
+        has_one_calendar(inquiry, &row.order.body) && due_moment(inquiry, row).is_none(),
+        Refusal::CalendarEnded,
+    )
+}
+
+/// Refusal 6. The gross of a purchase is below its minimum: the later one behind another order to buy the class that stands,
+/// else the first one.
+pub(crate) fn below_minimum(inquiry: &Inquiry, row: &OrderRow) -> Option<Refusal>
+    ensures { result ≡ below_minimum inquiry.now.book row.now }
+{
+    match row.order.body {
+        Body::Buy { class, gross } => match inquiry.class(class) {
+            Some(terms) => {
+                let least = if inquiry.has_bought(row, class) {
+                    terms.later_min
+                } else {
+                    terms.first_min
+                };
+                refused_when(gross.cents() < least.cents(), Refusal::BelowMinimum(least))
+            }
+            None => None,
+        },
+        _ => None,
+    }
+}
+
+/// The family of a class, 0 for none.
+fn family_of(inquiry: &Inquiry, class: Identifier) -> u32
+    ensures { result ≡ family_of inquiry.now.book class }
+{
+    match inquiry.class(class) {
+        Some(terms) => terms.family,
+        None => 0,
+    }
+}
+
+/// Whether the classes are two of one family.
+fn is_exchangeable(inquiry: &Inquiry, class: Identifier, to: Identifier) -> bool
+    ensures { result ≡ is_exchangeable inquiry.now.book class to }
+{
+    class.number() != to.number()
+        && family_of(inquiry, class) != 0
+        && family_of(inquiry, class) == family_of(inquiry, to)
+}
+
+/// Whether the class has breakpoints.
+fn has_breakpoints(inquiry: &Inquiry, class: Identifier) -> bool
+    ensures { result ≡ has_breakpoints inquiry.now.book class }
+{
+    match inquiry.class(class) {
+        Some(terms) => terms.front.as_slice().len() != 1,
+        None => true,
+    }
+}
+
+fn is_offered(inquiry: &Inquiry, body: &Body) -> bool
+    ensures { result ≡ is_offered inquiry.now.book body.now }
+{
+    match body {
+        Body::Exchange { class, to, mils: _ } => is_exchangeable(inquiry, *class, *to),
+        Body::ExchangeAll { class, to } => is_exchangeable(inquiry, *class, *to),
+        Body::Letter { class, amount: _ } => has_breakpoints(inquiry, *class),
+        _ => true,
+    }
+}
+
+/// Refusal 7. The exchange or the letter isn't offered.
+pub(crate) fn not_offered(inquiry: &Inquiry, row: &OrderRow) -> Option<Refusal>
+    ensures { result ≡ not_offered inquiry.now.book row.now }
+{
+    refused_when(!is_offered(inquiry, &row.order.body), Refusal::NotOffered)
+}
+
+/// Refusal 9. The receipt is ahead of now.
+pub(crate) fn receipt_ahead(inquiry: &Inquiry, receipt: Moment) -> Option<Refusal>
+    ensures { result
+        ≡ when (nat_lt inquiry.now.now receipt) (Refusal.ReceiptAhead inquiry.now.now) }
+{
+    refused_when(
+        inquiry.moment().number() < receipt.number(),
+        Refusal::ReceiptAhead(inquiry.moment()),
+    )
+}
+
+/// Refusal 3 on an order whose account stands at this place, with its classes behind.
+fn named_absent(inquiry: &Inquiry, first: u8, order: &Order) -> Option<Refusal>
+    requires { first ≤ 100 }
+    ensures { result ≡ absent_among (named_in_order inquiry.now first order.now) }
+{
+    let account = (first, inquiry.has_account(order.account));
+    let class = (first + 2, inquiry.has_class(class_of(&order.body)));
+    match target_of(&order.body) {
+        Some(to) => first_absent(&[account, class, (first + 3, inquiry.has_class(to))]),
+        None => first_absent(&[account, class]),
+    }
+}
+
+/// The first rule behind the repeat that an order breaks.
+pub(crate) fn broken_by_order(inquiry: &Inquiry, order: &Order) -> Option<Refusal>
+    ensures { result ≡ first_some (rules_of inquiry.now (Request.Order order.now)) }
+{
+    let row = row_as_sent(inquiry, inquiry.moment(), order);
+    first_broken(&[
+        named_absent(inquiry, 1, order),
+        reference_used(inquiry, order.account, order.ref_no),
+        calendar_ended(inquiry, &row),
+        below_minimum(inquiry, &row),
+        not_offered(inquiry, &row),
+        orders_full(inquiry, order.account),
+        journal_full(inquiry),
+    ])
+}
+
+/// The seconds behind the due moment in which the caller's lines may come; 0 for all but a dealer.
+fn window_of(inquiry: &Inquiry) -> u64
+    ensures window { result ≡ window_of inquiry.now inquiry.now.caller }
+    ensures day { result ≤ 86400 }
+{
+    match inquiry.caller() {
+        Caller::Dealer(dealer) => match inquiry.dealer(dealer) {
+            Some(form) => form.window.seconds() as u64,
+            None => 0,
+        },
+        _ => 0,
+    }
+}
+
+/// Refusal 8. The line's sheet is published, or its due moment is past by more than the window.
+fn late_for_dealer(inquiry: &Inquiry, line: &LineForm) -> Option<Refusal>
+    ensures { result ≡ late_by inquiry.now line.now (due_at inquiry.now.book line.now.order.body
+        line.now.receipt) }
+{
+    match inquiry.due_at(&line.order.body, line.receipt) {
+        Some(due) => refused_when(
+            inquiry.is_published_at(class_of(&line.order.body), due)
+                || due.number() + window_of(inquiry) < inquiry.moment().number(),
+            Refusal::LateForDealer(due),
+        ),
+        None => None,
+    }
+}
+
+/// The first rule behind the repeat that a dealer's line breaks.
+pub(crate) fn broken_by_line(inquiry: &Inquiry, line: &LineForm) -> Option<Refusal>
+    ensures { result ≡ first_some (rules_of inquiry.now (Request.Line line.now)) }
+{
+    let row = row_as_sent(inquiry, line.receipt, &line.order);
+    first_broken(&[
+        named_absent(inquiry, 3, &line.order),
+        reference_used(inquiry, line.order.account, line.order.ref_no),
+        calendar_ended(inquiry, &row),
+        below_minimum(inquiry, &row),
+        not_offered(inquiry, &row),
+        late_for_dealer(inquiry, line),
+        receipt_ahead(inquiry, line.receipt),
+        orders_full(inquiry, line.order.account),
+        journal_full(inquiry),
+    ])
+}
