@@ -1,0 +1,31 @@
+//! Who holds how much cash, what a correction gains or loses each class, and who pays a loss.
+#![tactic(auto)]
+
+mod cash_book;
+mod change_rows;
+mod class_flows;
+mod class_gains;
+mod flows;
+mod latest_price;
+pub mod laws;
+mod limits;
+mod movements;
+mod party_accounts;
+mod posting;
+mod tally;
+mod trade_changes;
+
+pub use crate::cash_book::CashBook;
+pub use crate::class_flows::ClassFlows;
+pub use crate::class_gains::gains;
+pub use crate::flows::{Flow, FlowRows};
+pub use crate::limits::{
+    cash_within, classes_are_numbered, correction_within, gains_within, shares_within,
+};
+pub use crate::movements::{
+    CashMoved, CashMovement, SharesMoved, moved_cash, shares_brought, shares_taken,
+};
+pub use crate::party_accounts::Accounts;
+pub use crate::posting::Correction;
+pub use crate::tally::Tally;
+pub use crate::trade_changes::{changes_between, changes_of};
