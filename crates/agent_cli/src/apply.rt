@@ -97,8 +97,12 @@ fn answer_one<O: Sink>(
     out: &mut O,
 ) -> Result<(), AnswerFault>
     ensures journal { OnOk result (desk.new ≡ (item_answer operator.now desk.old item.now).journal) }
-    ensures line { OnOk result (Appends (O.contents out.old) (O.contents out.new) (line_of (item_answer operator.now desk.old item.now).reply)) }
-    ensures front { OnErr result (AppendsFront (O.contents out.old) (O.contents out.new) (line_of (item_answer operator.now desk.old item.now).reply)) }
+    ensures line { OnOk result
+        (Appends (O.contents out.old) (O.contents out.new)
+        (line_of (item_answer operator.now desk.old item.now).reply)) }
+    ensures front { OnErr result
+        (AppendsFront (O.contents out.old) (O.contents out.new)
+        (line_of (item_answer operator.now desk.old item.now).reply)) }
     ensures counts { CountsWrite result (O.faults out.old) (O.faults out.new) }
     ensures never_falls { O.faults out.old ≤ O.faults out.new }
 {
@@ -115,8 +119,12 @@ fn answer_items<O: Sink>(
     items: &[Item],
     out: &mut O,
 ) -> Result<(), AnswerFault>
-    ensures lines { OnOk result (Appends (O.contents out.old) (O.contents out.new) (run_of operator.now items.now).lines) }
-    ensures front { OnErr result (AppendsFront (O.contents out.old) (O.contents out.new) (run_of operator.now items.now).lines) }
+    ensures lines { OnOk result
+        (Appends (O.contents out.old) (O.contents out.new)
+        (run_of operator.now items.now).lines) }
+    ensures front { OnErr result
+        (AppendsFront (O.contents out.old) (O.contents out.new)
+        (run_of operator.now items.now).lines) }
     ensures counts { CountsWrite result (O.faults out.old) (O.faults out.new) }
     ensures never_falls { O.faults out.old ≤ O.faults out.new }
 {
@@ -134,8 +142,11 @@ pub fn answer_script<O: Sink>(
     script: &[u8],
     out: &mut O,
 ) -> Result<(), AnswerFault>
-    ensures lines { OnOk result (Appends (O.contents out.old) (O.contents out.new) (lines_of operator.now script.now)) }
-    ensures front { OnErr result (AppendsFront (O.contents out.old) (O.contents out.new) (lines_of operator.now script.now)) }
+    ensures lines { OnOk result
+        (Appends (O.contents out.old) (O.contents out.new) (lines_of operator.now script.now)) }
+    ensures front { OnErr result
+        (AppendsFront (O.contents out.old) (O.contents out.new)
+        (lines_of operator.now script.now)) }
     ensures counts { CountsWrite result (O.faults out.old) (O.faults out.new) }
     ensures never_falls { O.faults out.old ≤ O.faults out.new }
 {

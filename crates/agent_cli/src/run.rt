@@ -42,10 +42,12 @@ pub fn no_memory<O: Sink>(out: &mut O) -> Status
 // Answers a script that was read to its end.
 fn answered<O: Sink>(alloc: Global, operator: &[u8], script: &[u8], out: &mut O) -> Status
     ensures known { IsTrue (list_any (λ known. result.0 == known) (0 ∷ 4 ∷ 7 ∷ [])) }
-    ensures done { result.0 ≡ 0 → Appends (O.contents out.old) (O.contents out.new) (lines_of operator.now script.now) }
+    ensures done { result.0 ≡ 0
+        → Appends (O.contents out.old) (O.contents out.new) (lines_of operator.now script.now) }
     ensures no_fault { result.0 ≡ 0 → O.faults out.new ≡ O.faults out.old }
     ensures write_fault { result.0 ≡ 4 → Rose (O.faults out.old) (O.faults out.new) }
-    ensures front { result.0 ≡ 4 → AppendsFront (O.contents out.old) (O.contents out.new) (lines_of operator.now script.now) }
+    ensures front { result.0 ≡ 4
+        → AppendsFront (O.contents out.old) (O.contents out.new) (lines_of operator.now script.now) }
     ensures never_falls { O.faults out.old ≤ O.faults out.new }
 {
     match answer_script(alloc, operator, script, out) {
@@ -63,14 +65,23 @@ fn apply<S: Source, O: Sink>(
     out: &mut O,
 ) -> Status
     ensures known { IsTrue (list_any (λ known. result.0 == known) (0 ∷ 2 ∷ 3 ∷ 4 ∷ 7 ∷ [])) }
-    ensures done { result.0 ≡ 0 → Answers (S.left input.old) (S.left input.new) (O.contents out.old) (O.contents out.new) options.now.key.now }
+    ensures done { result.0 ≡ 0
+        → Answers (S.left input.old) (S.left input.new) (O.contents out.old) (O.contents out.new)
+        options.now.key.now }
     ensures no_write_fault { result.0 ≡ 0 → O.faults out.new ≡ O.faults out.old }
     ensures too_long { result.0 ≡ 2 → IfSome (S.left input.old) (λ script. MAX_SCRIPT < length script) }
-    ensures not_long { IfSome (S.left input.old) (λ script. MAX_SCRIPT < length script → IsTrue (list_any (λ known. result.0 == known) (2 ∷ 3 ∷ 7 ∷ []))) }
+    ensures not_long { IfSome (S.left input.old)
+        (λ script.
+        MAX_SCRIPT < length script
+        → IsTrue (list_any (λ known. result.0 == known) (2 ∷ 3 ∷ 7 ∷ []))) }
     ensures read_fault { result.0 ≡ 3 → Rose (S.faults input.old) (S.faults input.new) }
     ensures no_read_fault { result.0 ≢ 3 → S.faults input.new ≡ S.faults input.old }
     ensures write_fault { result.0 ≡ 4 → Rose (O.faults out.old) (O.faults out.new) }
-    ensures front { result.0 ≡ 4 → IfSome (S.left input.old) (λ script. AppendsFront (O.contents out.old) (O.contents out.new) (lines_of options.now.key.now script)) }
+    ensures front { result.0 ≡ 4
+        → IfSome (S.left input.old)
+        (λ script.
+        AppendsFront (O.contents out.old) (O.contents out.new)
+        (lines_of options.now.key.now script)) }
     ensures long_line { result.0 ≡ 2 → AppendsFront (O.contents out.old) (O.contents out.new) (status_line 2) }
     ensures fault_line { result.0 ≡ 3 → AppendsFront (O.contents out.old) (O.contents out.new) (status_line 3) }
 {
@@ -97,7 +108,11 @@ pub fn run<S: Source, O: Sink>(
     ensures known { IsTrue (is_status result.0) }
 
     // The script was read to its end, and what was written is exactly the machine's lines over its items.
-    ensures done { result.0 ≡ 0 → IfSome (options_of (map string_bytes words.now)) (λ options. Answers (S.left input.old) (S.left input.new) (O.contents out.old) (O.contents out.new) options.key) }
+    ensures done { result.0 ≡ 0
+        → IfSome (options_of (map string_bytes words.now))
+        (λ options.
+        Answers (S.left input.old) (S.left input.new) (O.contents out.old)
+        (O.contents out.new) options.key) }
     ensures no_write_fault { result.0 ≡ 0 → O.faults out.new ≡ O.faults out.old }
 
     // Exactly where the words don't meet the rule.
@@ -106,7 +121,11 @@ pub fn run<S: Source, O: Sink>(
     // Only where the script has more than 16 MiB; and such a script ends with no other status but those of a read fault
     // and of want of memory.
     ensures too_long { result.0 ≡ 2 → IfSome (S.left input.old) (λ script. MAX_SCRIPT < length script) }
-    ensures not_long { result.0 ≢ 1 → IfSome (S.left input.old) (λ script. MAX_SCRIPT < length script → IsTrue (list_any (λ known. result.0 == known) (2 ∷ 3 ∷ 7 ∷ []))) }
+    ensures not_long { result.0 ≢ 1
+        → IfSome (S.left input.old)
+        (λ script.
+        MAX_SCRIPT < length script
+        → IsTrue (list_any (λ known. result.0 == known) (2 ∷ 3 ∷ 7 ∷ []))) }
 
     // Only where a read failed in this call; and a read that failed ends with no other status.
     ensures read_fault { result.0 ≡ 3 → Rose (S.faults input.old) (S.faults input.new) }
@@ -114,7 +133,13 @@ pub fn run<S: Source, O: Sink>(
 
     // Only where a write failed in this call; what was written is then a front of the lines.
     ensures write_fault { result.0 ≡ 4 → Rose (O.faults out.old) (O.faults out.new) }
-    ensures front { result.0 ≡ 4 → IfSome (options_of (map string_bytes words.now)) (λ options. IfSome (S.left input.old) (λ script. AppendsFront (O.contents out.old) (O.contents out.new) (lines_of options.key script))) }
+    ensures front { result.0 ≡ 4
+        → IfSome (options_of (map string_bytes words.now))
+        (λ options.
+        IfSome (S.left input.old)
+        (λ script.
+        AppendsFront (O.contents out.old) (O.contents out.new)
+        (lines_of options.key script))) }
 
     // The line of a status, as far as it could be written.
     ensures usage_line { result.0 ≡ 1 → AppendsFront (O.contents out.old) (O.contents out.new) (status_line 1) }

@@ -129,7 +129,8 @@ fn checked<'a>(store: &'a [u8], key: &'a [u8]) -> Option<Options<'a>>
 
 // Each of the two options is given once.
 fn paired<'a>(first: &Given<'a>, second: &Given<'a>) -> Option<Options<'a>>
-    ensures { option_map options_view result ≡ spec.paired first.now.option first.now.value.now second.now.option second.now.value.now }
+    ensures { option_map options_view result
+        ≡ spec.paired first.now.option first.now.value.now second.now.option second.now.value.now }
 {
     match (first.option, second.option) {
         (OptionName::Store, OptionName::Store) => None,

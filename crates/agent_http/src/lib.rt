@@ -2,8 +2,6 @@
 #![tactic(auto)]
 
 mod script;
-#[cfg(test)]
-mod tests;
 mod verb_forms;
 
 pub use agent_events::{Ask, Item, Items, KeyText};

@@ -1,22 +1,21 @@
 //! The items of a script.
 ghost use Rattle.std.specs.Prelude.{◌≡◌, map, IfOk};
 ghost use Rattle.csv.specs.Reading.{records, default_config, strip_bom};
-ghost use Rattle.std.specs.List.{list_all};
-ghost use Rattle.agent_events.specs.Fields.{is_visible};
 ghost use Rattle.agent_events.specs.Forms.{is_key_text};
 ghost use Rattle.agent_events.specs.Forms as form;
 
 use crate::verb_forms::ask_of;
 use agent_events::{Item, Items, KeyText};
 use csv_rows::{Fields, records_of, slices_of};
-use money_units::NoMemory;
+use money_units::{NoMemory, all_visible};
 use request_fields::moment_of;
 use std::alloc::Global;
 
 /// The items of a script in order: each record of the text is a moment, a key, a verb and the verb's fields. A record
 /// of fewer fields, or whose moment or key isn't in its form, is a bad item.
 pub fn script_items(alloc: Global, bytes: &[u8]) -> Result<Items, NoMemory>
-    ensures { IfOk result (λ items. items ≡ map form.item_of (records default_config (strip_bom bytes.now))) }
+    ensures { IfOk result
+        (λ items. items ≡ map form.item_of (records default_config (strip_bom bytes.now))) }
 {
     let rows = records_of(alloc, bytes)?;
     let mut items = Items::new(alloc);
@@ -39,7 +38,7 @@ fn item_of(alloc: Global, row: &Fields) -> Result<Item, NoMemory>
     if !is_key_text(texts[1]) {
         return Ok(Item::Bad);
     }
-    let key = key_text(alloc, texts[1])?;
+    let key = KeyText::from_slice(alloc, texts[1])?;
     let ask = ask_of(alloc, texts[2], &texts[3..])?;
     Ok(Item::Good { moment, key, ask })
 }
@@ -49,27 +48,4 @@ fn is_key_text(key: &[u8]) -> bool
     ensures { result ≡ is_key_text key.now }
 {
     key.len() <= 64 && all_visible(key)
-}
-
-fn all_visible(text: &[u8]) -> bool
-    ensures { result ≡ list_all is_visible text.now }
-{
-    text.iter().all(|byte| is_visible(*byte))
-}
-
-// A byte from `!` to tilde.
-fn is_visible(byte: u8) -> bool
-    ensures { result ≡ is_visible byte }
-{
-    33 <= byte && byte <= 126
-}
-
-fn key_text(alloc: Global, bytes: &[u8]) -> Result<KeyText, NoMemory>
-    ensures { IfOk result (λ key. key ≡ bytes.now) }
-{
-    let mut key = KeyText::new(alloc);
-    for byte in bytes {
-        key.push(*byte)?;
-    }
-    Ok(key)
 }

@@ -23,7 +23,11 @@ fn asked(read: Result<Request, FormFault>) -> Result<Ask, NoMemory>
 }
 
 fn class_asked(alloc: Global, fields: &[&[u8]]) -> Result<Ask, NoMemory>
-    ensures { IfOk result (λ asks. asks ≡ form.asked (form.of_length 10 form.class_request (map (λ text. text.now) fields.now))) }
+    ensures { IfOk result
+        (λ asks.
+        asks
+        ≡ form.asked
+        (form.of_length 10 form.class_request (map (λ text. text.now) fields.now))) }
 {
     if fields.len() != 10 {
         return Ok(Ask::BadForm(0));
@@ -32,7 +36,11 @@ fn class_asked(alloc: Global, fields: &[&[u8]]) -> Result<Ask, NoMemory>
 }
 
 fn sheet_asked(alloc: Global, fields: &[&[u8]]) -> Result<Ask, NoMemory>
-    ensures { IfOk result (λ asks. asks ≡ form.asked (form.of_length 3 form.sheet_request (map (λ text. text.now) fields.now))) }
+    ensures { IfOk result
+        (λ asks.
+        asks
+        ≡ form.asked
+        (form.of_length 3 form.sheet_request (map (λ text. text.now) fields.now))) }
 {
     if fields.len() != 3 {
         return Ok(Ask::BadForm(0));
@@ -41,7 +49,11 @@ fn sheet_asked(alloc: Global, fields: &[&[u8]]) -> Result<Ask, NoMemory>
 }
 
 fn buy_asked(fields: &[&[u8]]) -> Result<Ask, NoMemory>
-    ensures { IfOk result (λ asks. asks ≡ form.asked (form.of_length 4 form.buy_request (map (λ text. text.now) fields.now))) }
+    ensures { IfOk result
+        (λ asks.
+        asks
+        ≡ form.asked
+        (form.of_length 4 form.buy_request (map (λ text. text.now) fields.now))) }
 {
     if fields.len() != 4 {
         return Ok(Ask::BadForm(0));
@@ -50,7 +62,11 @@ fn buy_asked(fields: &[&[u8]]) -> Result<Ask, NoMemory>
 }
 
 fn show_asked(fields: &[&[u8]]) -> Result<Ask, NoMemory>
-    ensures { IfOk result (λ asks. asks ≡ form.asked (form.of_length 1 form.show_request (map (λ text. text.now) fields.now))) }
+    ensures { IfOk result
+        (λ asks.
+        asks
+        ≡ form.asked
+        (form.of_length 1 form.show_request (map (λ text. text.now) fields.now))) }
 {
     if fields.len() != 1 {
         return Ok(Ask::BadForm(0));

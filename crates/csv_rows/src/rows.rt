@@ -112,7 +112,8 @@ pub fn append_fields(alloc: Global, fields: &Fields, out: &mut Vec<u8>) -> Resul
 
 /// The texts as slices.
 pub fn slices_of<'a>(alloc: Global, texts: &'a [Vec<u8>]) -> Result<Vec<&'a [u8]>, NoMemory>
-    ensures { IfOk result (λ slices. map (λ text. text.now) slices.items ≡ map (λ text. text.items) texts.now) }
+    ensures { IfOk result
+        (λ slices. map (λ text. text.now) slices.items ≡ map (λ text. text.items) texts.now) }
 {
     let mut slices = Vec::new(alloc);
     for text in texts {
@@ -123,7 +124,8 @@ pub fn slices_of<'a>(alloc: Global, texts: &'a [Vec<u8>]) -> Result<Vec<&'a [u8]
 
 /// Appends the line of a record with these fields. After `NoMemory` `out` is as before.
 pub fn append_line(alloc: Global, fields: &[&[u8]], out: &mut Vec<u8>) -> Result<(), NoMemory>
-    ensures ok { OnOk result (out.new.items ≡ out.old.items ++ spec.line_of (map (λ text. text.now) fields.now)) }
+    ensures ok { OnOk result
+        (out.new.items ≡ out.old.items ++ spec.line_of (map (λ text. text.now) fields.now)) }
     ensures err { OnErr result (out.new.items ≡ out.old.items) }
 {
     let line = line_of(alloc, fields)?;

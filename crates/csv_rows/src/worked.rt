@@ -9,7 +9,8 @@ pub fn reading_examples()
         ∷ (codes "1719838801" ∷ [] ∷ codes "sheet" ∷ []) ∷ [] }
     ensures nothing { records_of [] ≡ [] }
     ensures lines_without_fields { records_of (codes "\r\n\n") ≡ [] }
-    ensures ends_of_lines { records_of (codes "a\r\nb\nc\rd") ≡ (codes "a" ∷ []) ∷ (codes "b" ∷ []) ∷ (codes "c" ∷ []) ∷ (codes "d" ∷ []) ∷ [] }
+    ensures ends_of_lines { records_of (codes "a\r\nb\nc\rd")
+        ≡ (codes "a" ∷ []) ∷ (codes "b" ∷ []) ∷ (codes "c" ∷ []) ∷ (codes "d" ∷ []) ∷ [] }
     ensures byte_order_mark { records_of (239 ∷ 187 ∷ 191 ∷ codes "a\n") ≡ (codes "a" ∷ []) ∷ [] }
     ensures quotes { records_of (codes "\"a,b\",\"c\"\"d\"\n") ≡ (codes "a,b" ∷ codes "c\"d" ∷ []) ∷ [] }
     ensures quote_left_open { records_of (codes "\"a,b\n") ≡ (codes "a,b\n" ∷ []) ∷ [] }
@@ -20,5 +21,6 @@ pub fn printing_examples()
     ensures reply { line_of (codes "ok" ∷ codes "class" ∷ codes "14" ∷ []) ≡ codes "ok,class,14\n" }
     ensures empty_field { line_of (codes "ok" ∷ [] ∷ []) ≡ codes "ok,\n" }
     ensures one_empty_field { line_of ([] ∷ []) ≡ codes "\"\"\n" }
-    ensures quotes { line_of (codes "a,b" ∷ codes "c\"d" ∷ codes "e\nf" ∷ []) ≡ codes "\"a,b\",\"c\"\"d\",\"e\nf\"\n" }
+    ensures quotes { line_of (codes "a,b" ∷ codes "c\"d" ∷ codes "e\nf" ∷ [])
+        ≡ codes "\"a,b\",\"c\"\"d\",\"e\nf\"\n" }
 {}

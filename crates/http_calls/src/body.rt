@@ -126,14 +126,19 @@ fn asked_by_all_names(
     names: &[&[u8]],
     members: &[MemberText],
 ) -> Result<Request, FormFault>
-    ensures { Gives result (form.asked_by_names verb.now (form.entry_names ++ map (λ name. name.now) names.now) (map member_view members.now)) }
+    ensures { Gives result
+        (form.asked_by_names verb.now (form.entry_names ++ map (λ name. name.now) names.now)
+        (map member_view members.now)) }
 {
     let all = names_with(alloc, names)?;
     asked_by_names(alloc, verb, &all, members)
 }
 
 fn names_with<'a>(alloc: Global, names: &[&'a [u8]]) -> Result<Vec<&'a [u8]>, NoMemory>
-    ensures { IfOk result (λ all. map (λ name. name.now) all.items ≡ form.entry_names ++ map (λ name. name.now) names.now) }
+    ensures { IfOk result
+        (λ all.
+        map (λ name. name.now) all.items
+        ≡ form.entry_names ++ map (λ name. name.now) names.now) }
 {
     let mut all = Vec::from_slice(alloc, entry_names())?;
     all.extend_from_slice(names)?;
@@ -147,7 +152,9 @@ fn asked_by_names(
     names: &[&[u8]],
     members: &[MemberText],
 ) -> Result<Request, FormFault>
-    ensures { Gives result (form.asked_by_names verb.now (map (λ name. name.now) names.now) (map member_view members.now)) }
+    ensures { Gives result
+        (form.asked_by_names verb.now (map (λ name. name.now) names.now)
+        (map member_view members.now)) }
 {
     if are_named(names, members) {
         asked_by_texts(alloc, verb, names, members)
@@ -162,7 +169,10 @@ fn asked_by_texts(
     names: &[&[u8]],
     members: &[MemberText],
 ) -> Result<Request, FormFault>
-    ensures { Gives result (items.asked_by verb.now (form.texts_named (map member_view members.now) (map (λ name. name.now) names.now))) }
+    ensures { Gives result
+        (items.asked_by verb.now
+        (form.texts_named (map member_view members.now)
+        (map (λ name. name.now) names.now))) }
 {
     let texts = texts_named(alloc, names, members)?;
     asked_by(alloc, verb, &texts)

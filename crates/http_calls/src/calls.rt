@@ -1,5 +1,5 @@
 //! What a request asks.
-ghost use Rattle.std.specs.Prelude.{◌≡◌, ◌∷◌, ◌++◌, [], ℕ, Result, Ok, Err, map, drop, bytes_eq, codes, if◌then◌else◌, IfOk, OnOk, OnErr};
+ghost use Rattle.std.specs.Prelude.{◌≡◌, ℕ, Result, Ok, Err, map, drop, bytes_eq, codes, if◌then◌else◌, IfOk};
 ghost use Rattle.agent_events.specs.Forms as form;
 ghost use Rattle.agent_events.specs.Items.{asked_by, batch_line};
 ghost use Rattle.request_fields.specs.Reading.{Gives};
@@ -11,52 +11,12 @@ use crate::routes::{Route, behind, part, parts_of, route_of};
 use agent_events::{Ask, Request};
 use csv_rows::{Fields, records_of, slices_of};
 use http_stream::HttpFault;
-use money_units::NoMemory;
+use money_units::{List, NoMemory};
 use request_fields::{FormFault, asked_by, line_asked, same_bytes};
 use std::alloc::Global;
-use std::marker::Model;
 
-/// What the lines of a batch ask in order, which contracts see as the list of them.
-#[derive(Debug, Drop)]
-pub struct BatchAsks {
-    items: Vec<Ask>,
-}
-
-impl Model for BatchAsks {
-    ghost use Rattle.std.specs.Prelude.{List};
-    ghost use Rattle.agent_events.specs.declared.item.Ask.{Ask};
-
-    ghost Value = { List Ask };
-
-    ghost view = { λ asks. asks.items.items };
-}
-
-impl BatchAsks {
-    /// The empty list, which takes no memory yet.
-    pub fn new(alloc: Global) -> BatchAsks
-        ensures { result ≡ [] }
-    {
-        BatchAsks {
-            items: Vec::new(alloc),
-        }
-    }
-
-    /// Appends what a line asks; after `NoMemory` the list is as before.
-    pub fn push(&mut self, item: Ask) -> Result<(), NoMemory>
-        ensures ok { OnOk result (self.new ≡ self.old ++ item ∷ []) }
-        ensures err { OnErr result (self.new ≡ self.old) }
-    {
-        self.items.push(item)?;
-        Ok(())
-    }
-
-    /// What the lines ask in order.
-    pub fn as_slice(&self) -> &[Ask]
-        ensures { result.now ≡ self.now }
-    {
-        self.items.as_slice()
-    }
-}
+/// What the lines of a batch ask in order.
+pub type BatchAsks = List<Ask>;
 
 /// What a request over HTTP asks.
 #[derive(Debug, Drop)]
@@ -87,7 +47,10 @@ fn answered_by(
     size: Option<usize>,
     body: &[u8],
 ) -> Result<Result<CallAsk, HttpFault>, NoMemory>
-    ensures { IfOk result (λ answer. answer ≡ spec.answered_by (map (λ part. part.now) parts.now) method.now size body.now) }
+    ensures { IfOk result
+        (λ answer.
+        answer
+        ≡ spec.answered_by (map (λ part. part.now) parts.now) method.now size body.now) }
 {
     match route_of(parts) {
         Route::Missing => Ok(Err(HttpFault::S404)),
@@ -103,7 +66,11 @@ fn batch_answer(
     size: Option<usize>,
     body: &[u8],
 ) -> Result<Result<CallAsk, HttpFault>, NoMemory>
-    ensures { IfOk result (λ answer. answer ≡ (if bytes_eq method.now (codes "POST") then spec.with_length size (spec.batch_ask body.now) else Err HttpFault.S405)) }
+    ensures { IfOk result
+        (λ answer.
+        answer
+        ≡ (if bytes_eq method.now (codes "POST") then spec.with_length size
+        (spec.batch_ask body.now) else Err HttpFault.S405)) }
 {
     if !same_bytes(method, b"POST") {
         Ok(Err(HttpFault::S405))

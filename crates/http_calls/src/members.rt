@@ -24,7 +24,9 @@ pub(crate) fn members_of(
     alloc: Global,
     object: &Map<String, Value>,
 ) -> Result<Vec<MemberText>, NoMemory>
-    ensures { IfOk result (λ members. map member_view members.items ≡ spec.members_in (members_view object.now.entries)) }
+    ensures { IfOk result
+        (λ members.
+        map member_view members.items ≡ spec.members_in (members_view object.now.entries)) }
 {
     let mut members = Vec::new(alloc);
     for (name, value) in object {
@@ -34,7 +36,10 @@ pub(crate) fn members_of(
 }
 
 fn member_of(alloc: Global, name: &String, value: &Value) -> Result<MemberText, NoMemory>
-    ensures { IfOk result (λ member. member_view member ≡ record { name = string_bytes name.now; text = spec.text_of (view value.now) }) }
+    ensures { IfOk result
+        (λ member.
+        member_view member
+        ≡ record { name = string_bytes name.now; text = spec.text_of (view value.now) }) }
 {
     let text = text_of(alloc, value)?;
     Ok(MemberText {
@@ -80,7 +85,8 @@ pub(crate) fn text_named<'a>(members: &'a [MemberText], name: &[u8]) -> &'a [u8]
 }
 
 fn member_named<'a>(members: &'a [MemberText], name: &[u8]) -> Option<&'a MemberText>
-    ensures { option_map (λ member. member_view member.now) result ≡ form.member_named (map member_view members.now) name.now }
+    ensures { option_map (λ member. member_view member.now) result
+        ≡ form.member_named (map member_view members.now) name.now }
 {
     let mut found = None;
     for member in members {
@@ -99,7 +105,10 @@ pub(crate) fn are_named(names: &[&[u8]], members: &[MemberText]) -> bool
 }
 
 fn all_among(names: &[&[u8]], members: &[MemberText]) -> bool
-    ensures { result ≡ list_all (λ member. list_any (bytes_eq member.name.items) (map (λ name. name.now) names.now)) members.now }
+    ensures { result
+        ≡ list_all
+        (λ member. list_any (bytes_eq member.name.items) (map (λ name. name.now) names.now))
+        members.now }
 {
     members.iter().all(|member| is_among(&member.name, names))
 }

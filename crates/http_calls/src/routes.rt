@@ -23,13 +23,15 @@ pub(crate) enum Route {
 
 /// The parts of a target's path between slashes.
 pub(crate) fn parts_of(alloc: Global, target: &[u8]) -> Result<Vec<&[u8]>, NoMemory>
-    ensures { IfOk result (λ parts. map (λ part. part.now) parts.items ≡ spec.parts_of (spec.path_of target.now)) }
+    ensures { IfOk result
+        (λ parts. map (λ part. part.now) parts.items ≡ spec.parts_of (spec.path_of target.now)) }
 {
     Ok(slash_parts(alloc, path_of(target))?)
 }
 
 fn slash_parts(alloc: Global, path: &[u8]) -> Result<Vec<&[u8]>, AllocError>
-    ensures { IfOk result (λ parts. map (λ part. part.now) parts.items ≡ slice_split spec.is_slash path.now) }
+    ensures { IfOk result
+        (λ parts. map (λ part. part.now) parts.items ≡ slice_split spec.is_slash path.now) }
 {
     path.split(|byte| *byte == b'/').collect(alloc)
 }

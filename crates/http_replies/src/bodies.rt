@@ -72,7 +72,9 @@ fn put_text(
     name: &str,
     text: &[u8],
 ) -> Result<(), NoMemory>
-    ensures { OnOk result (members_view members.new.entries ≡ spec.put_text (members_view members.old.entries) (name.now, text.now)) }
+    ensures { OnOk result
+        (members_view members.new.entries
+        ≡ spec.put_text (members_view members.old.entries) (name.now, text.now)) }
 {
     // The texts that a reply is made of are ASCII.
     let Ok(text) = str::from_utf8(text) else {

@@ -30,7 +30,11 @@ fn plain_text(reply: &Reply) -> Option<&[u8]>
 }
 
 fn json_bytes(alloc: Global, reply: &Reply, last: bool) -> Result<Vec<u8>, NoMemory>
-    ensures { IfOk result (λ bytes. bytes.items ≡ spec.reply_of (spec.status_of reply.now) spec.json_kind last (bodies.json_body reply.now)) }
+    ensures { IfOk result
+        (λ bytes.
+        bytes.items
+        ≡ spec.reply_of (spec.status_of reply.now) spec.json_kind last
+        (bodies.json_body reply.now)) }
 {
     let body = json_body(alloc, reply)?;
     reply_of(

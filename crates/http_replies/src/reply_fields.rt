@@ -87,7 +87,12 @@ fn order_texts(alloc: Global, order: &OrderReply) -> Result<Fields, NoMemory>
 }
 
 fn cancel_texts(alloc: Global, form: &CancelForm) -> Result<Fields, NoMemory>
-    ensures { IfOk result (λ fields. fields ≡ said (codes "cancel") (number_text form.now.account ∷ number_text form.now.ref_no ∷ number_text form.now.target ∷ [])) }
+    ensures { IfOk result
+        (λ fields.
+        fields
+        ≡ said (codes "cancel")
+        (number_text form.now.account ∷ number_text form.now.ref_no
+        ∷ number_text form.now.target ∷ [])) }
 {
     let account = number_of(alloc, form.account.number() as u64)?;
     let ref_no = number_of(alloc, form.ref_no.number())?;
@@ -103,7 +108,11 @@ fn cancel_texts(alloc: Global, form: &CancelForm) -> Result<Fields, NoMemory>
 }
 
 fn close_texts(alloc: Global, form: &CloseForm) -> Result<Fields, NoMemory>
-    ensures { IfOk result (λ fields. fields ≡ said (codes "close") (number_text form.now.calendar ∷ day_text form.now.day ∷ [])) }
+    ensures { IfOk result
+        (λ fields.
+        fields
+        ≡ said (codes "close")
+        (number_text form.now.calendar ∷ day_text form.now.day ∷ [])) }
 {
     let calendar = number_of(alloc, form.calendar.number() as u64)?;
     let day = day_digits(&form.day);
@@ -137,7 +146,9 @@ fn push_order(alloc: Global, traced: &TraceReply, fields: &mut Fields) -> Result
 
 // The receipt and the due moment.
 fn push_moments(alloc: Global, traced: &TraceReply, fields: &mut Fields) -> Result<(), NoMemory>
-    ensures { OnOk result (fields.new ≡ fields.old ++ number_text traced.now.receipt ∷ number_text traced.now.due ∷ []) }
+    ensures { OnOk result
+        (fields.new
+        ≡ fields.old ++ number_text traced.now.receipt ∷ number_text traced.now.due ∷ []) }
 {
     fields.push(alloc, &number_of(alloc, traced.receipt.number())?)?;
     fields.push(alloc, &number_of(alloc, traced.due.number())?)
@@ -246,7 +257,9 @@ fn minimum_value(alloc: Global, minimum: u64) -> Result<Fields, NoMemory>
 
 // The texts of a refusal that has two values.
 fn two_values(alloc: Global, number: &[u8], first: u64, second: u64) -> Result<Fields, NoMemory>
-    ensures { IfOk result (λ fields. fields ≡ codes "no" ∷ number.now ∷ number_text first ∷ number_text second ∷ []) }
+    ensures { IfOk result
+        (λ fields.
+        fields ≡ codes "no" ∷ number.now ∷ number_text first ∷ number_text second ∷ []) }
 {
     let first = number_of(alloc, first)?;
     let second = number_of(alloc, second)?;

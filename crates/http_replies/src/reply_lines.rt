@@ -12,7 +12,8 @@ use std::alloc::Global;
 /// Appends the line of a reply: `ok`, the reply's name and its texts, or `no`, the number of the refusal and its
 /// values, with commas between them and a line feed. After `NoMemory` `out` is as before.
 pub fn reply_line(alloc: Global, reply: &Reply, out: &mut Vec<u8>) -> Result<(), NoMemory>
-    ensures ok { OnOk result (out.new.items ≡ out.old.items ++ row_text default_writer (answer_texts reply.now)) }
+    ensures ok { OnOk result
+        (out.new.items ≡ out.old.items ++ row_text default_writer (answer_texts reply.now)) }
     ensures err { OnErr result (out.new.items ≡ out.old.items) }
 {
     let fields = reply_fields(alloc, reply)?;

@@ -191,7 +191,8 @@ fn with_field(text: &[u8], size: usize, facts: Facts, field: HeaderSpan) -> Fact
     requires within { AreFactsWithin size facts }
     requires field_within { IsHeaderWithin size field }
     requires few { (facts.key.count < 2 ^ 32) × (facts.length.count < 2 ^ 32) × (facts.coding.count < 2 ^ 32) }
-    ensures value { facts_of text.now result ≡ facts_with (facts_of text.now facts) (header_bytes text.now field) }
+    ensures value { facts_of text.now result
+        ≡ facts_with (facts_of text.now facts) (header_bytes text.now field) }
     ensures within { AreFactsWithin size result }
     ensures few { (result.key.count ≤ facts.key.count + 1) × (result.length.count ≤ facts.length.count + 1)
         × (result.coding.count ≤ facts.coding.count + 1) }

@@ -171,7 +171,9 @@ impl Intake {
 
 fn whole_or_nothing(left: usize, head: HeadAt) -> Front
     requires { head.size ≤ left }
-    ensures { result ≡ (if nat_le (head.size + unwrap_or head.length 0) left then Front.Whole head else Front.Nothing) }
+    ensures { result
+        ≡ (if nat_le (head.size + unwrap_or head.length 0) left then Front.Whole head else
+        Front.Nothing) }
 {
     if head.length.unwrap_or(0) <= left - head.size {
         Front::Whole(head)

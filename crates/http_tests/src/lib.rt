@@ -3,3 +3,5 @@
 
 #[cfg(test)]
 mod feeds;
+#[cfg(test)]
+mod lines;

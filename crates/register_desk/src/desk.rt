@@ -337,7 +337,9 @@ impl Desk {
     // Appends the expected sheet to the journal, published now.
     fn publish(&mut self, now: &Moment, form: &SheetForm) -> Result<u32, NoMemory>
         requires expected { expected_of (table_of self.old) ≡ Some (pos form.now.moment, form.now.calendar) }
-        requires complete { wrong_class (table_of self.old).classes form.now.calendar (pos form.now.moment) form.now.prices ≡ None }
+        requires complete { wrong_class (table_of self.old).classes form.now.calendar (pos form.now.moment)
+            form.now.prices
+            ≡ None }
         requires listed { length form.now.prices ≡ 1 }
         ensures ok { OnOk result (self.new ≡ self.old ++ event_at now.now (kind.Sheet form.now) ∷ []) }
         ensures number { IfOk result (λ number. number ≡ length (sheets self.old) + 1) }
@@ -412,7 +414,8 @@ impl Desk {
     }
 
     fn known_sheet(&self, form: &SheetForm) -> Option<u32>
-        ensures { result ≡ option_map (λ sheet. sheet.number) (find (is_same_sheet form.now) (sheets self.now)) }
+        ensures { result
+            ≡ option_map (λ sheet. sheet.number) (find (is_same_sheet form.now) (sheets self.now)) }
     {
         find_sheet(self.prices.sheets(), form)
     }
@@ -429,8 +432,12 @@ impl Desk {
     // Why the sheet can't be published now, where it can't.
     fn fault(&self, now: &Moment, form: &SheetForm) -> Option<PublishFault>
         ensures value { result ≡ fault_now self.now now.now form.now }
-        ensures in_turn { IfNone result (expected_of (table_of self.now) ≡ Some (pos form.now.moment, form.now.calendar)) }
-        ensures complete { IfNone result (wrong_class (table_of self.now).classes form.now.calendar (pos form.now.moment) form.now.prices ≡ None) }
+        ensures in_turn { IfNone result
+            (expected_of (table_of self.now) ≡ Some (pos form.now.moment, form.now.calendar)) }
+        ensures complete { IfNone result
+            (wrong_class (table_of self.now).classes form.now.calendar (pos form.now.moment)
+            form.now.prices
+            ≡ None) }
         ensures one_class { IfNone result (length (opened self.now) ≡ 1) }
         ensures within { IfSome result NamesMoment }
     {
@@ -455,7 +462,8 @@ impl Desk {
         is_operator: bool,
         form: &ClassForm,
     ) -> Result<Reply, NoMemory>
-        ensures answered { IfOk result (λ said. kept self.new said ≡ class_answer self.old now.now is_operator form.now) }
+        ensures answered { IfOk result
+            (λ said. kept self.new said ≡ class_answer self.old now.now is_operator form.now) }
         ensures err { OnErr result (self.new ≡ self.old) }
     {
         if self.knows_class(form) {
@@ -480,7 +488,11 @@ impl Desk {
         buy: &Buy,
         is_known: bool,
     ) -> Result<Reply, NoMemory>
-        ensures answered { IfOk result (λ said. kept self.new said ≡ new_purchase_answer self.old now.now is_operator buy.now (due_now self.old now.now buy.now) is_known) }
+        ensures answered { IfOk result
+            (λ said.
+            kept self.new said
+            ≡ new_purchase_answer self.old now.now is_operator buy.now
+            (due_now self.old now.now buy.now) is_known) }
         ensures err { OnErr result (self.new ≡ self.old) }
     {
         let Some(due) = self.due(now, buy) else {
@@ -507,7 +519,8 @@ impl Desk {
     }
 
     fn answer_buy(&mut self, now: &Moment, is_operator: bool, buy: &Buy) -> Result<Reply, NoMemory>
-        ensures answered { IfOk result (λ said. kept self.new said ≡ buy_answer self.old now.now is_operator buy.now) }
+        ensures answered { IfOk result
+            (λ said. kept self.new said ≡ buy_answer self.old now.now is_operator buy.now) }
         ensures err { OnErr result (self.new ≡ self.old) }
     {
         match self.first_purchase(buy) {
@@ -529,7 +542,10 @@ impl Desk {
         is_operator: bool,
         order: &Order,
     ) -> Result<Reply, NoMemory>
-        ensures answered { IfOk result (λ said. kept self.new said ≡ order_answer self.old now.now is_operator order.now order.now.body) }
+        ensures answered { IfOk result
+            (λ said.
+            kept self.new said
+            ≡ order_answer self.old now.now is_operator order.now order.now.body) }
         ensures err { OnErr result (self.new ≡ self.old) }
     {
         match order.body {
@@ -549,7 +565,10 @@ impl Desk {
     // A sheet that may be published once it is the expected one.
     fn answer_turn(&mut self, now: &Moment, form: &SheetForm) -> Result<Reply, NoMemory>
         requires listed { lists_open (opened self.old) form.now.prices ≡ true }
-        ensures answered { IfOk result (λ said. kept self.new said ≡ turn_answer self.old now.now form.now (fault_now self.old now.now form.now)) }
+        ensures answered { IfOk result
+            (λ said.
+            kept self.new said
+            ≡ turn_answer self.old now.now form.now (fault_now self.old now.now form.now)) }
         ensures err { OnErr result (self.new ≡ self.old) }
     {
         match self.fault(now, form) {
@@ -571,7 +590,8 @@ impl Desk {
         is_operator: bool,
         form: &SheetForm,
     ) -> Result<Reply, NoMemory>
-        ensures answered { IfOk result (λ said. kept self.new said ≡ sheet_answer self.old now.now is_operator form.now) }
+        ensures answered { IfOk result
+            (λ said. kept self.new said ≡ sheet_answer self.old now.now is_operator form.now) }
         ensures err { OnErr result (self.new ≡ self.old) }
     {
         if let Some(number) = self.known_sheet(form) {
@@ -605,7 +625,9 @@ impl Desk {
         key_is_operator: bool,
         request: &Request,
     ) -> Result<Reply, NoMemory>
-        ensures answered { IfOk result (λ said. kept self.new said ≡ answer self.old moment.now key_is_operator request.now) }
+        ensures answered { IfOk result
+            (λ said.
+            kept self.new said ≡ answer self.old moment.now key_is_operator request.now) }
         ensures err { OnErr result (self.new ≡ self.old) }
     {
         match request {

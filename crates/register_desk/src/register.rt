@@ -134,7 +134,9 @@ pub fn opening_of(event: &Event) -> Option<Opening>
 
 // The sheet of a purchase of this class received then, once there is one.
 fn sheet_of(prices: &PriceBook, class: u32, receipt: &Moment) -> Option<u32>
-    ensures { result ≡ option_map (λ sheet. sheet.number) (next_sheet prices.now.table.sheets (class ∷ []) (pos receipt.now)) }
+    ensures { result
+        ≡ option_map (λ sheet. sheet.number)
+        (next_sheet prices.now.table.sheets (class ∷ []) (pos receipt.now)) }
 {
     prices.first_after(receipt.seconds(), &[class])
 }
@@ -221,7 +223,9 @@ fn with_lot(register: &mut Vec<Lot>, lot: Lot) -> Result<(), NoMemory>
 }
 
 fn execute_buy(register: &mut Vec<Lot>, sheet: &Sheet, buy: &Buy) -> Result<(), NoMemory>
-    ensures ok { OnOk result (register.new.items ≡ bought_at register.old.items buy.now (nav_on sheet.now.prices buy.now.class)) }
+    ensures ok { OnOk result
+        (register.new.items
+        ≡ bought_at register.old.items buy.now (nav_on sheet.now.prices buy.now.class)) }
     ensures within { IsWithin register.old.items → OnOk result (IsWithin register.new.items) }
 {
     let gross = Cents(buy.gross.cents());
@@ -264,7 +268,9 @@ fn priced_purchases(
     events: &[Event],
     prices: &PriceBook,
 ) -> Result<Vec<Priced>, NoMemory>
-    ensures { IfOk result (λ priced. priced.items ≡ map (priced_by prices.now.table.sheets) (purchases events.now)) }
+    ensures { IfOk result
+        (λ priced.
+        priced.items ≡ map (priced_by prices.now.table.sheets) (purchases events.now)) }
 {
     let mut priced = Vec::new(alloc);
     for event in events {
@@ -277,7 +283,11 @@ fn priced_purchases(
 
 /// The register after all sheets of the book.
 pub fn replay(alloc: Global, events: &[Event], prices: &PriceBook) -> Result<Vec<Lot>, NoMemory>
-    ensures value { IfOk result (λ register. register.items ≡ fold (day (map (priced_by prices.now.table.sheets) (purchases events.now))) [] prices.now.table.sheets) }
+    ensures value { IfOk result
+        (λ register.
+        register.items
+        ≡ fold (day (map (priced_by prices.now.table.sheets) (purchases events.now))) []
+        prices.now.table.sheets) }
     ensures within { IfOk result (λ register. IsWithin register.items) }
 {
     let priced = priced_purchases(alloc, events, prices)?;
@@ -297,7 +307,10 @@ fn has_lots(register: &[Lot], account: u32, class: u32) -> bool
 // The position of an account in a class, where it has lots.
 fn position_of(register: &[Lot], account: &Identifier, class: &Identifier) -> Option<PositionText>
     requires { IsWithin register.now }
-    ensures { (calendar : ℕ) (opened : ℤ) → result ≡ position_of register.now account.now (record { class = class.now; calendar = calendar; opened = opened }) }
+    ensures { (calendar : ℕ) (opened : ℤ)
+        → result
+        ≡ position_of register.now account.now
+        (record { class = class.now; calendar = calendar; opened = opened }) }
 {
     if !has_lots(register, account.number(), class.number()) {
         return None;

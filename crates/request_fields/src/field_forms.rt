@@ -1,11 +1,11 @@
 //! The forms of single fields: a value, exactly where the text is in the form.
-ghost use Rattle.std.specs.Prelude.{◌≡◌, bytes_eq, IfOk};
+ghost use Rattle.std.specs.Prelude.{◌≡◌, IfOk};
 ghost use Rattle.std.specs.List.{before_first, after_first, position_or_len};
 ghost use Rattle.agent_events.specs.Fields as form;
 
 use agent_events::{Amount, Identifier, Minimum, Name, Reference};
 use class_terms::{Bracket, Label};
-use money_units::{Bps, Moment, Nav, NoMemory, read_cents, read_number};
+use money_units::{Bps, Moment, Nav, NoMemory, read_cents, read_number, same_bytes};
 use std::alloc::Global;
 
 /// The number of a calendar, class, fund, dealer, household or account.
@@ -87,29 +87,12 @@ pub(crate) fn flag_of(text: &[u8]) -> Option<bool>
     }
 }
 
-/// Whether two texts have the same bytes.
-pub fn same_bytes(a: &[u8], b: &[u8]) -> bool
-    ensures { result ≡ bytes_eq a.now b.now }
-{
-    a == b
-}
-
 /// A name of 1 to 40 printable bytes, the first and the last no space.
 pub(crate) fn name_of(alloc: Global, text: &[u8]) -> Result<Option<Name>, NoMemory>
     ensures { IfOk result (λ name. name ≡ form.label text.now) }
 {
-    let label = label_text(alloc, text)?;
+    let label = Label::from_slice(alloc, text)?;
     Ok(Name::new(label))
-}
-
-fn label_text(alloc: Global, text: &[u8]) -> Result<Label, NoMemory>
-    ensures { IfOk result (λ label. label ≡ text.now) }
-{
-    let mut label = Label::new(alloc);
-    for byte in text {
-        label.push(*byte)?;
-    }
-    Ok(label)
 }
 
 // The place of the first colon, or the length where there is none.

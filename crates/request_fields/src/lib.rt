@@ -11,6 +11,7 @@ mod text_forms;
 mod verb_forms;
 
 pub use crate::fault::FormFault;
-pub use crate::field_forms::{moment_of, same_bytes};
+pub use crate::field_forms::moment_of;
 pub use crate::order_forms::{line_asked, order_count};
 pub use crate::verb_forms::{asked_by, buy_request, class_request, sheet_request, show_request};
+pub use money_units::same_bytes;

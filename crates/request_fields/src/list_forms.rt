@@ -22,7 +22,8 @@ fn list_items(alloc: Global, text: &[u8]) -> Result<Vec<&[u8]>, NoMemory>
 }
 
 fn space_parts(alloc: Global, text: &[u8]) -> Result<Vec<&[u8]>, AllocError>
-    ensures { IfOk result (λ items. map (λ item. item.now) items.items ≡ slice_split form.is_space text.now) }
+    ensures { IfOk result
+        (λ items. map (λ item. item.now) items.items ≡ slice_split form.is_space text.now) }
 {
     text.split(|byte| *byte == b' ').collect(alloc)
 }
@@ -77,7 +78,9 @@ pub(crate) fn prices_of(alloc: Global, text: &[u8]) -> Result<Option<RisingPrice
 }
 
 fn listed_prices(alloc: Global, text: &[u8]) -> Result<Option<SheetPrices>, NoMemory>
-    ensures { IfOk result (λ prices. prices ≡ form.each (form.pair form.identifier form.nav) (form.list_items text.now)) }
+    ensures { IfOk result
+        (λ prices.
+        prices ≡ form.each (form.pair form.identifier form.nav) (form.list_items text.now)) }
 {
     let items = list_items(alloc, text)?;
     let mut prices = SheetPrices::new(alloc);

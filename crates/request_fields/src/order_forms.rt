@@ -7,10 +7,11 @@ ghost use Rattle.agent_events.specs.VerbForms.{Asked};
 ghost use Rattle.request_fields.specs.Reading.{Gives};
 
 use crate::fault::FormFault;
-use crate::field_forms::{amount_of, identifier_of, moment_of, reference_of, same_bytes};
+use crate::field_forms::{amount_of, identifier_of, moment_of, reference_of};
 use crate::reading::{at, field};
 use crate::text_forms::{bearer_of, pay_of, quantity_of};
 use agent_events::{Body, EntryForm, Identifier, LineForm, Order, Request};
+use money_units::same_bytes;
 
 /// How many fields an order verb has, where it is one.
 pub fn order_count(verb: &[u8]) -> Option<u8>
@@ -65,7 +66,8 @@ fn sell_cash_body(place: u8, class: Identifier, text: &[u8]) -> Result<Body, For
 }
 
 fn exchange_all_body(place: u8, class: Identifier, text: &[u8]) -> Result<Body, FormFault>
-    ensures { Gives result (at place (option_map (Body.ExchangeAll class) (field_form.identifier text.now))) }
+    ensures { Gives result
+        (at place (option_map (Body.ExchangeAll class) (field_form.identifier text.now))) }
 {
     match identifier_of(text) {
         Some(to) => Ok(Body::ExchangeAll { class, to }),
@@ -156,7 +158,9 @@ fn order_request(verb: &[u8], fields: &[&[u8]]) -> Result<Request, FormFault>
 
 /// What an order verb asks, or no verb at all.
 pub(crate) fn order_or_unknown(verb: &[u8], fields: &[&[u8]]) -> Result<Request, FormFault>
-    ensures { Gives result (form.order_or_unknown (form.order_count verb.now) verb.now (map (λ text. text.now) fields.now)) }
+    ensures { Gives result
+        (form.order_or_unknown (form.order_count verb.now) verb.now
+        (map (λ text. text.now) fields.now)) }
 {
     match order_count(verb) {
         Some(count) if fields.len() == count as usize => order_request(verb, fields),

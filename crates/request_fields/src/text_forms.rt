@@ -3,12 +3,12 @@ ghost use Rattle.std.specs.Prelude.{◌≡◌, ◌+◌, ◌<◌, length, IfOk};
 ghost use Rattle.fund_calendar.specs.DayText as days;
 ghost use Rattle.agent_events.specs.Fields as form;
 
-use crate::field_forms::{identifier_of, same_bytes};
+use crate::field_forms::identifier_of;
 use agent_events::{
     Bearer, CorrectedRate, DealerKey, DividendRate, HouseholdKey, Quantity, TimeOfDay, Window,
     ZoneText,
 };
-use money_units::{Bytes, NoMemory, read_mils, read_number, read_rate};
+use money_units::{Bytes, NoMemory, read_mils, read_number, read_rate, same_bytes};
 use std::alloc::Global;
 
 /// The mils of an order.
@@ -43,7 +43,7 @@ pub(crate) fn window_of(text: &[u8]) -> Option<Window>
 pub(crate) fn zone_of(alloc: Global, text: &[u8]) -> Result<Option<ZoneText>, NoMemory>
     ensures { IfOk result (λ zone. zone ≡ form.zone text.now) }
 {
-    let bytes = copied(alloc, text)?;
+    let bytes = Bytes::from_slice(alloc, text)?;
     Ok(ZoneText::new(bytes))
 }
 
@@ -51,7 +51,7 @@ pub(crate) fn zone_of(alloc: Global, text: &[u8]) -> Result<Option<ZoneText>, No
 pub(crate) fn household_key_of(alloc: Global, text: &[u8]) -> Result<Option<HouseholdKey>, NoMemory>
     ensures { IfOk result (λ key. key ≡ form.household_key text.now) }
 {
-    let bytes = copied(alloc, text)?;
+    let bytes = Bytes::from_slice(alloc, text)?;
     Ok(HouseholdKey::new(bytes))
 }
 
@@ -59,18 +59,8 @@ pub(crate) fn household_key_of(alloc: Global, text: &[u8]) -> Result<Option<Hous
 pub(crate) fn dealer_key_of(alloc: Global, text: &[u8]) -> Result<Option<DealerKey>, NoMemory>
     ensures { IfOk result (λ key. key ≡ form.dealer_key text.now) }
 {
-    let bytes = copied(alloc, text)?;
+    let bytes = Bytes::from_slice(alloc, text)?;
     Ok(DealerKey::new(bytes))
-}
-
-fn copied(alloc: Global, text: &[u8]) -> Result<Bytes, NoMemory>
-    ensures { IfOk result (λ bytes. bytes ≡ text.now) }
-{
-    let mut bytes = Bytes::new(alloc);
-    for byte in text {
-        bytes.push(*byte)?;
-    }
-    Ok(bytes)
 }
 
 // The digits at a place and the next one, read as a number.

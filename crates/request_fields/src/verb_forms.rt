@@ -8,7 +8,7 @@ ghost use Rattle.request_fields.specs.Reading.{Gives};
 use crate::fault::FormFault;
 use crate::field_forms::{
     amount_of, flag_of, identifier_of, identifier_or_none_of, minimum_of, moment_of, name_of,
-    nav_of, reference_of, same_bytes,
+    nav_of, reference_of,
 };
 use crate::list_forms::{brackets_of, holidays_of, prices_of, rates_of};
 use crate::order_forms::{enter_asked, line_asked, order_or_unknown, replace_asked};
@@ -24,6 +24,7 @@ use agent_events::{
 };
 use class_terms::Schedule;
 use fund_calendar::read_day;
+use money_units::same_bytes;
 use std::alloc::Global;
 
 #[tactic(auto, unfolding(agent_events::specs::Forms::class_names))]
@@ -323,7 +324,8 @@ fn dealer_asked(alloc: Global, fields: &[&[u8]]) -> Result<Request, FormFault>
 }
 
 fn household_asked(alloc: Global, fields: &[&[u8]]) -> Result<Request, FormFault>
-    ensures { Gives result (form.of_length 2 verb_form.household_asked (map (λ text. text.now) fields.now)) }
+    ensures { Gives result
+        (form.of_length 2 verb_form.household_asked (map (λ text. text.now) fields.now)) }
 {
     if fields.len() == 2 {
         household_form(alloc, fields)
@@ -403,7 +405,8 @@ fn trace_asked(fields: &[&[u8]]) -> Result<Request, FormFault>
 }
 
 fn statement_asked(fields: &[&[u8]]) -> Result<Request, FormFault>
-    ensures { Gives result (form.of_length 3 verb_form.statement_asked (map (λ text. text.now) fields.now)) }
+    ensures { Gives result
+        (form.of_length 3 verb_form.statement_asked (map (λ text. text.now) fields.now)) }
 {
     if fields.len() == 3 {
         statement_form(fields)

@@ -1,10 +1,10 @@
 //! What no clause says: that calls succeed with ample memory, and how texts of the trade read and print.
-use super::{Ask, Fields, Item, append_line, records_of, reply_line, script_items};
 use agent_events::{
     Body, BooksOfClasses, BooksOfDealers, BooksReply, CancelForm, ClassBooks, ClassGain,
     ClassGains, CloseForm, DealerBooks, Identifier, Minimum, OrderReply, OrderState, PositionText,
     Positions, Reference, Refusal, Reply, Request, TraceReply,
 };
+use agent_http::{Ask, Fields, Item, append_line, records_of, reply_line, script_items};
 use fund_calendar::Day;
 use money_units::{Bytes, Cents, Mils, Moment, print_number};
 use std::alloc::Global;
