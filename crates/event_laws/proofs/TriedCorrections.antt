@@ -1,0 +1,133 @@
+-- The book of a correction on trial.
+use Rattle.std.proofs.Common.{Bool, List, None, [], ap, arith, cond, false, filter, get_or, is_some, length, map, option_to_list, refl, subst, suc, sym, true, zero, ℕ, ◌&&◌, ◌++◌, ◌<◌, ◌==◌, ◌∙◌, ◌∷◌, ◌≡◌, ◌≤◌}
+use Rattle.std.proofs.lemmas.Bool.{and_parts, eqb-true, true≢false}
+use Rattle.std.proofs.lemmas.List.{length-map}
+use Rattle.std.proofs.lemmas.List.Elements.{filter_agree}
+use Rattle.agent_events.specs.Events.{Event}
+use Rattle.agent_events.specs.declared.event.EventKind.{EventKind}
+use Rattle.agent_events.specs.declared.order.OrderRow.{OrderRow}
+use Rattle.agent_events.specs.declared.request.AccountForm.{AccountForm}
+use Rattle.agent_events.specs.declared.request.ClassForm.{ClassForm}
+use Rattle.agent_events.specs.declared.request.EntryForm.{EntryForm}
+use Rattle.agent_events.specs.declared.request.FixPriceForm.{FixPriceForm}
+use Rattle.event_laws.specs.EventReplays.{is_correction}
+use Rattle.event_laws.specs.OrderTurns.{NamesOnce}
+use Rattle.event_laws.specs.TriedCorrections.{BookGoesOn, IsTried, TriedHasABook}
+use Rattle.forward_price.specs.PriceTables.{AreNumbered, Table}
+use Rattle.forward_price.specs.declared.price_sheet.Sheet.{Sheet}
+use Rattle.register_laws.proofs.Choosing.{at_most_one}
+use Rattle.register_laws.proofs.ExecutedInTurn.{orders_in_turn}
+use Rattle.register_laws.proofs.ListParts.{filter-map}
+use Rattle.register_laws.proofs.OneEventMore.{gathers-on, rates_go_on}
+use Rattle.register_laws.proofs.OneTradeAnOrder.{one-named}
+use Rattle.register_laws.proofs.OrdersGoOn.{orders_go_on}
+use Rattle.register_laws.proofs.TablesAreOrderly.{numbered}
+use Rattle.register_laws.proofs.TablesGoOn.{corrected_table_goes_on}
+use Rattle.register_laws.proofs.Tests.{find-any}
+use Rattle.register_laws.specs.Lawful.{book_behind}
+use Rattle.register_laws.specs.OneEventMore.{book_after, corrected_table, corrected_table_by, orders_after, replaced_by, struck_by}
+use Rattle.register_machine.specs.journal.Journals.{Journal, with_event}
+use Rattle.register_machine.specs.journal.Kinds.{account_in, accounts_of, class_in, classes_of}
+use Rattle.register_machine.specs.journal.Lawful.{IsLawful}
+use Rattle.register_machine.specs.pricing.CorrectedBook.{Book}
+use Rattle.register_machine.specs.pricing.CorrectedOrders.{is_named, order_named, orders_of, replaces, row_as_sent}
+use Rattle.register_machine.specs.pricing.CorrectedPrices.{sheet_as_corrected}
+use Rattle.register_machine.specs.pricing.DividendRates.{Rates, rates_of}
+
+pub book_goes_on_by : (journal : Journal) (event : Event) → BookGoesOn journal event
+book_goes_on_by journal event is =
+    ap (λ (table : Table). record { table = table; classes = classes_of (with_event journal event); accounts = accounts_of (with_event journal event); orders = orders_of (with_event journal event); rates = rates_of (with_event journal event) }) (corrected_table_goes_on journal event is.unfixed)
+    ∙ (ap (λ (classes : List ClassForm). record { table = corrected_table_by (corrected_table journal) event.moment event.kind; classes = classes; accounts = accounts_of (with_event journal event); orders = orders_of (with_event journal event); rates = rates_of (with_event journal event) }) (gathers-on class_in journal event)
+    ∙ (ap (λ (accounts : List AccountForm). record { table = corrected_table_by (corrected_table journal) event.moment event.kind; classes = classes_of journal ++ option_to_list (class_in event.kind); accounts = accounts; orders = orders_of (with_event journal event); rates = rates_of (with_event journal event) }) (gathers-on account_in journal event)
+    ∙ (ap (λ (orders : List OrderRow). record { table = corrected_table_by (corrected_table journal) event.moment event.kind; classes = classes_of journal ++ option_to_list (class_in event.kind); accounts = accounts_of journal ++ option_to_list (account_in event.kind); orders = orders; rates = rates_of (with_event journal event) }) (orders_go_on journal event is.begins)
+    ∙ ap (λ (rates : Rates). record { table = corrected_table_by (corrected_table journal) event.moment event.kind; classes = classes_of journal ++ option_to_list (class_in event.kind); accounts = accounts_of journal ++ option_to_list (account_in event.kind); orders = orders_after (length journal) (orders_of journal) event.kind; rates = rates }) (rates_go_on journal event))))
+
+-- ---- names
+
+-- a change that leaves names leaves how often each stands
+names-kept : (f : OrderRow → OrderRow) → ((account ref_no : ℕ) (row : OrderRow) → is_named account ref_no (f row).order ≡ is_named account ref_no row.order) → (orders : List OrderRow) → NamesOnce orders → NamesOnce (map f orders)
+names-kept f same orders once account ref_no =
+    subst (λ n. n ≤ 1)
+    (sym
+    (ap length (filter-map (λ (row : OrderRow). is_named account ref_no row.order) f orders)
+    ∙ (length-map (filter (λ row. is_named account ref_no (f row).order) orders) f
+    ∙ ap length (filter_agree (λ row. is_named account ref_no (f row).order) (λ row. is_named account ref_no row.order) (same account ref_no) orders))))
+    (once account ref_no)
+
+struck-named : (named : ℕ × ℕ) (account ref_no : ℕ) (row : OrderRow) → is_named account ref_no (struck_by named row).order ≡ is_named account ref_no row.order
+struck-named named account ref_no row = by (is_named named.0 named.1 row.order)
+  where
+    by : (b : Bool) → is_named account ref_no (cond b (record { place = row.place; receipt = row.receipt; struck = true; order = row.order }) row).order ≡ is_named account ref_no row.order
+    by true = refl
+    by false = refl
+
+replaced-named : (form : EntryForm) (account ref_no : ℕ) (row : OrderRow) → is_named account ref_no (replaced_by form row).order ≡ is_named account ref_no row.order
+replaced-named form account ref_no row = by (replaces row.order form) refl
+  where
+    by : (b : Bool) → replaces row.order form ≡ b → is_named account ref_no (cond b (record { place = row.place; receipt = form.receipt; struck = row.struck; order = form.order }) row).order ≡ is_named account ref_no row.order
+    by true is =
+        let same = and_parts (form.order.account == row.order.account) (form.order.ref_no == row.order.ref_no) is in
+        ap (λ n. n == account && form.order.ref_no == ref_no) (eqb-true form.order.account row.order.account same.0)
+        ∙ ap (λ n. row.order.account == account && n == ref_no) (eqb-true form.order.ref_no row.order.ref_no same.1)
+    by false is = refl
+
+entered-once : (orders : List OrderRow) (row : OrderRow) → NamesOnce orders → order_named orders row.order.account row.order.ref_no ≡ None → NamesOnce (orders ++ row ∷ [])
+entered-once orders row once new account ref_no =
+    at_most_one (λ (other : OrderRow). is_named account ref_no other.order) orders row (once account ref_no)
+    (λ is.
+    let same = and_parts (row.order.account == account) (row.order.ref_no == ref_no) is in
+    sym (find-any (λ (other : OrderRow). is_named account ref_no other.order) orders)
+    ∙ (ap (λ a. is_some (order_named orders a ref_no)) (sym (eqb-true row.order.account account same.0))
+    ∙ (ap (λ r. is_some (order_named orders row.order.account r)) (sym (eqb-true row.order.ref_no ref_no same.1)) ∙ ap is_some new)))
+
+module _ (journal : Journal) (event : Event) (lawful : IsLawful journal) (tried : IsTried journal event) where
+  before : NamesOnce (book_behind journal).orders
+  before = one-named journal lawful
+
+  names-by : (kind : EventKind) → event.kind ≡ kind → NamesOnce (orders_after (length journal) (book_behind journal).orders kind)
+  names-by (EventKind.Enter form) is = entered-once (book_behind journal).orders (row_as_sent (length journal) form.receipt form.order) before (tried.new form is)
+  names-by (EventKind.Replace form) is = names-kept (replaced_by form) (replaced-named form) (book_behind journal).orders before
+  names-by (EventKind.Void form) is = names-kept (struck_by (form.account, form.ref_no)) (struck-named (form.account, form.ref_no)) (book_behind journal).orders before
+  names-by (EventKind.Cancel form) is = names-kept (struck_by (form.account, form.target)) (struck-named (form.account, form.target)) (book_behind journal).orders before
+  names-by (EventKind.Order placed) is = absurd (true≢false (sym (subst (λ kind. is_correction kind ≡ true) is tried.correction)))
+  names-by _ is = before
+
+  after : (book_behind (with_event journal event)) ≡ book_after (length journal) (book_behind journal) event.moment event.kind
+  after = book_goes_on_by journal event tried.touches
+
+  -- a corrected price leaves the numbers of the sheets
+  fixed-numbered : (form : FixPriceForm) (sheets : List Sheet) → AreNumbered sheets → AreNumbered (map (sheet_as_corrected (form ∷ [])) sheets)
+  fixed-numbered form sheets numbers = record {
+    each = λ place d short.
+        let within = subst (λ n. place < n) (length-map sheets (sheet_as_corrected (form ∷ []))) short in
+        ap (λ (s : Sheet). s.number) (read-under sheets place d within) ∙ numbers.each place d within;
+  }
+    where
+      read-under : (sheets : List Sheet) (place : ℕ) (d : Sheet) → place < length sheets → get_or (map (sheet_as_corrected (form ∷ [])) sheets) place d ≡ sheet_as_corrected (form ∷ []) (get_or sheets place d)
+      read-under [] place d short = absurd (omega (arith, short))
+      read-under (s ∷ ss) zero d short = refl
+      read-under (s ∷ ss) (suc place) d short = read-under ss place d (omega (arith, short))
+
+  numbered-by : (kind : EventKind) → is_correction kind ≡ true → AreNumbered (book_after (length journal) (book_behind journal) event.moment kind).table.sheets
+  numbered-by (EventKind.FixPrice form) is = fixed-numbered form (book_behind journal).table.sheets (numbered journal lawful).corrected
+  numbered-by (EventKind.Sheet form) is = absurd (true≢false (sym is))
+  numbered-by (EventKind.Calendar form) is = absurd (true≢false (sym is))
+  numbered-by (EventKind.Close form) is = absurd (true≢false (sym is))
+  numbered-by (EventKind.Class form) is = absurd (true≢false (sym is))
+  numbered-by _ is = (numbered journal lawful).corrected
+
+  many-by : (kind : EventKind) → is_correction kind ≡ true → length (book_after (length journal) (book_behind journal) event.moment kind).table.sheets ≡ length (book_behind journal).table.sheets
+  many-by (EventKind.FixPrice form) is = length-map (book_behind journal).table.sheets (sheet_as_corrected (form ∷ []))
+  many-by (EventKind.Sheet form) is = absurd (true≢false (sym is))
+  many-by (EventKind.Calendar form) is = absurd (true≢false (sym is))
+  many-by (EventKind.Close form) is = absurd (true≢false (sym is))
+  many-by (EventKind.Class form) is = absurd (true≢false (sym is))
+  many-by _ is = refl
+
+pub tried_has_a_book : (journal : Journal) (event : Event) → TriedHasABook journal event
+tried_has_a_book journal event lawful tried = record {
+  numbered = subst (λ (b : Book). AreNumbered b.table.sheets) (sym (after journal event lawful tried)) (numbered-by journal event lawful tried event.kind tried.correction);
+  as_many = ap (λ (b : Book). length b.table.sheets) (after journal event lawful tried) ∙ many-by journal event lawful tried event.kind tried.correction;
+  names = subst (λ (b : Book). NamesOnce b.orders) (sym (after journal event lawful tried)) (names-by journal event lawful tried event.kind refl);
+  turns = (orders_in_turn (with_event journal event)).each;
+}
