@@ -1,0 +1,18 @@
+-- the moves that are left still fit, when one was made
+mod PartFacts
+-- the moves of a sheet bring each household over the sheet
+mod SheetMoves
+-- the moves of a sheet are of different households
+mod SheetApart
+-- the numbers of orders, each once
+mod MetNumbers
+-- what holds of every household, at the part that a look-up finds
+mod FoundParts
+-- what changes of shares add up to
+mod ShareFacts
+-- the one move of a reopened household
+mod ReopenedDay
+-- what two changes bring together
+mod JoinFacts
+-- the totals stay the sums over all trades
+mod TalliedLaw
