@@ -1,0 +1,12 @@
+pub mod GatheredRows
+pub mod InTurn
+pub mod IndexKept
+pub mod OwnOrders
+pub mod OwnPlaces
+pub mod OwnerChains
+pub mod PickedRows
+pub mod PricedLast
+pub mod PricedOrders
+pub mod RisingPlaces
+pub mod SortedEntries
+pub mod WaitingKept

@@ -1,0 +1,149 @@
+-- The places of a household's orders, from the last one back.
+use Rattle.std.proofs.Common.{Bool, List, None, Option, Some, [], ap, append-nil, append_assoc, arith, cond, false, length, length-take, map, refl, reverse, subst, suc, sym, take, true, zero, ℕ, ◌++◌, ◌+◌, ◌<◌, ◌∙◌, ◌∷◌, ◌≡◌}
+use Rattle.std.proofs.lemmas.Bool.{eqb-true}
+use Rattle.std.proofs.lemmas.List.{map-append, reverse-append}
+use Rattle.std.specs.List.{slice_get}
+use Rattle.std.specs.Option.{option_map_or, option_or}
+use Rattle.std.specs.Prelude.{option_map}
+use Rattle.order_book.proofs.ChainWalk.{some-last}
+use Rattle.order_book.specs.LastPlaces.{last_place, last_place_from}
+use Rattle.register_machine.specs.journal.Choices.{when}
+use Rattle.standing_orders.specs.Places.{places_from, places_where}
+use Rattle.standing_orders.specs.Rows.{is_owner}
+
+last-shifted : {X : Type 0} (test : X → Bool) (place : ℕ) (xs : List X) → last_place_from (place + 1) test xs ≡ option_map suc (last_place_from place test xs)
+last-shifted test place [] = refl
+last-shifted {X} test place (x ∷ xs) =
+    ap (λ (found : Option ℕ). option_or found (when (test x) (place + 1))) (last-shifted test (place + 1) xs) ∙ by_parts (last_place_from (place + 1) test xs) (test x)
+  where
+    at : place + 1 ≡ suc place
+    at = omega arith
+
+    by_parts : (found : Option ℕ) (is : Bool) → option_or (option_map suc found) (when is (place + 1)) ≡ option_map suc (option_or found (when is place))
+    by_parts (Some n) is = refl
+    by_parts None true = ap Some at
+    by_parts None false = refl
+
+places-shifted : {X : Type 0} (test : X → Bool) (place : ℕ) (xs : List X) → places_from (place + 1) test xs ≡ map suc (places_from place test xs)
+places-shifted test place [] = refl
+places-shifted {X} test place (x ∷ xs) =
+    ap (λ back. cond (test x) ((place + 1) ∷ []) [] ++ back) (places-shifted test (place + 1) xs) ∙ by_test (test x)
+  where
+    at : place + 1 ≡ suc place
+    at = omega arith
+
+    by_test : (is : Bool) → cond is ((place + 1) ∷ []) [] ++ map suc (places_from (place + 1) test xs) ≡ map suc (cond is (place ∷ []) [] ++ places_from (place + 1) test xs)
+    by_test true = ap (λ n. n ∷ map suc (places_from (place + 1) test xs)) at
+    by_test false = refl
+
+pub last-none : {X : Type 0} (test : X → Bool) (xs : List X) → last_place test xs ≡ None → places_where test xs ≡ []
+last-none test [] none = refl
+last-none {X} test (x ∷ xs) none =
+    by_found (last_place_from 0 test xs) refl (test x) (ap (λ (found : Option ℕ). option_or found (when (test x) 0)) (sym (last-shifted test 0 xs)) ∙ none) (last-none test xs)
+  where
+    by_found : (found : Option ℕ) → last_place_from 0 test xs ≡ found → (is : Bool) → option_or (option_map suc found) (when is 0) ≡ None → (last_place test xs ≡ None → places_where test xs ≡ []) → cond is (0 ∷ []) [] ++ places_from 1 test xs ≡ []
+    by_found (Some n) found_is is e rest = cc
+    by_found None found_is true e rest = cc
+    by_found None found_is false e rest = places-shifted test 0 xs ∙ ap (map suc) (rest found_is)
+
+pub last-split : {X : Type 0} (test : X → Bool) (xs : List X) (n : ℕ) → last_place test xs ≡ Some n → places_where test xs ≡ places_where test (take n xs) ++ n ∷ []
+last-split test [] n is = cc
+last-split {X} test (x ∷ xs) n is =
+    by_found (last_place_from 0 test xs) refl (test x) refl (ap (λ (found : Option ℕ). option_or found (when (test x) 0)) (sym (last-shifted test 0 xs)) ∙ is) (last-split test xs)
+  where
+    by_found : (found : Option ℕ) → last_place_from 0 test xs ≡ found → (own : Bool) → test x ≡ own → option_or (option_map suc found) (when own 0) ≡ Some n → ((m : ℕ) → last_place test xs ≡ Some m → places_where test xs ≡ places_where test (take m xs) ++ m ∷ []) → places_where test (x ∷ xs) ≡ places_where test (take n (x ∷ xs)) ++ n ∷ []
+    by_found (Some m) found_is own own_is e rest =
+        subst (λ (k : ℕ). places_where test (x ∷ xs) ≡ places_where test (take k (x ∷ xs)) ++ k ∷ []) (some-one e)
+        (ap (λ back. cond (test x) (0 ∷ []) [] ++ back)
+        (places-shifted test 0 xs
+        ∙ (ap (map suc) (rest m found_is)
+        ∙ (map-append suc (places_where test (take m xs)) (m ∷ [])
+        ∙ ap (λ front. front ++ suc m ∷ []) (sym (places-shifted test 0 (take m xs))))))
+        ∙ sym (append_assoc (cond (test x) (0 ∷ []) []) (places_from 1 test (take m xs)) (suc m ∷ [])))
+      where
+        some-one : Some (suc m) ≡ Some n → suc m ≡ n
+        some-one h = cc
+    by_found None found_is true own_is e rest =
+        subst (λ (k : ℕ). places_where test (x ∷ xs) ≡ places_where test (take k (x ∷ xs)) ++ k ∷ []) (some-one e)
+        (ap (λ is. cond is (0 ∷ []) [] ++ places_from 1 test xs) own_is
+        ∙ ap (λ back. 0 ∷ back) (places-shifted test 0 xs ∙ ap (map suc) (last-none test xs found_is)))
+      where
+        some-one : Some 0 ≡ Some n → 0 ≡ n
+        some-one h = cc
+    by_found None found_is false own_is e rest = cc
+
+-- ---- the walk
+
+-- The walk has come to a place: the places before some bound are to come, and those behind it are in the list, the last first.
+pub record HasWalked (household_test : ℕ → Bool) (owners places : List ℕ) (at : Option ℕ) : Type 0 where
+  pub bound : ℕ
+  pub last : at ≡ last_place household_test (take bound owners)
+  pub rest : places_where household_test owners ≡ places_where household_test (take bound owners) ++ reverse places
+
+got-within : {X : Type 0} (bound : ℕ) (xs : List X) (n : ℕ) (x : X) → slice_get (take bound xs) n ≡ Some x → slice_get xs n ≡ Some x
+got-within zero xs n x is = cc
+got-within (suc bound) [] n x is = cc
+got-within (suc bound) (y ∷ xs) zero x is = is
+got-within (suc bound) (y ∷ xs) (suc n) x is = got-within bound xs n x is
+
+took-within : {X : Type 0} (bound : ℕ) (xs : List X) (n : ℕ) → n < length (take bound xs) → take n (take bound xs) ≡ take n xs
+took-within zero xs n within = absurd (omega arith)
+took-within (suc bound) [] n within = absurd (omega arith)
+took-within (suc bound) (y ∷ xs) zero within = refl
+took-within (suc bound) (y ∷ xs) (suc n) within = ap (λ later. y ∷ later) (took-within bound xs n (omega arith))
+
+whole : {X : Type 0} (ys : List X) → take (length ys) ys ≡ ys
+whole [] = refl
+whole (y ∷ ys) = ap (λ later. y ∷ later) (whole ys)
+
+pub begins-walk : (test : ℕ → Bool) (owners : List ℕ) (at : Option ℕ) → at ≡ last_place test owners → HasWalked test owners [] at
+begins-walk test owners at is = record {
+  bound = length owners;
+  last = is ∙ ap (last_place test) (sym (whole owners));
+  rest = ap (places_where test) (sym (whole owners)) ∙ sym (append-nil (places_where test (take (length owners) owners)));
+}
+
+pub ends-walk : (test : ℕ → Bool) (owners places : List ℕ) → HasWalked test owners places None → reverse places ≡ places_where test owners
+ends-walk test owners places walked =
+    sym (walked.rest ∙ ap (λ front. front ++ reverse places) (last-none test (take walked.bound owners) (sym walked.last)))
+
+-- the order at the place where the walk is
+pub record StandsAt (test : ℕ → Bool) (owners : List ℕ) (bound place : ℕ) : Type 0 where
+  pub owner : ℕ
+  pub there : slice_get owners place ≡ Some owner
+  pub tested : test owner ≡ true
+  pub within : place < length (take bound owners)
+
+pub stands-at : (test : ℕ → Bool) (owners places : List ℕ) (place : ℕ) → (walked : HasWalked test owners places (Some place)) → StandsAt test owners walked.bound place
+stands-at test owners places place walked =
+    let ends = some-last test test (λ x t. t) (take walked.bound owners) place (sym walked.last) in
+    record {
+      owner = ends.item;
+      there = got-within walked.bound owners place ends.item ends.there;
+      tested = ends.tested;
+      within = ends.within;
+    }
+
+pub goes-back : (test : ℕ → Bool) (owners places : List ℕ) (place : ℕ) (next : Option ℕ) → HasWalked test owners places (Some place) → next ≡ last_place test (take place owners) → HasWalked test owners (places ++ place ∷ []) next
+goes-back test owners places place next walked is = record {
+  bound = place;
+  last = is;
+  rest =
+      walked.rest
+      ∙ (ap (λ front. front ++ reverse places)
+      (last-split test (take walked.bound owners) place (sym walked.last)
+      ∙ ap (λ front. places_where test front ++ place ∷ []) (took-within walked.bound owners place (stands-at test owners places place walked).within))
+      ∙ (append_assoc (places_where test (take place owners)) (place ∷ []) (reverse places)
+      ∙ ap (λ back. places_where test (take place owners) ++ back) (sym (reverse-append places (place ∷ [])))));
+}
+
+-- the place falls
+pub falls-back : (test : ℕ → Bool) (owners : List ℕ) (place : ℕ) (next : Option ℕ) → next ≡ last_place test (take place owners) → option_map_or (λ n. suc n) next 0 < suc place
+falls-back test owners place None is = omega arith
+falls-back test owners place (Some k) is = omega (arith, (some-last test test (λ x t. t) (take place owners) k (sym is)).within, length-take place owners)
+
+-- the link from the place where the walk is leads to the household's order before it
+pub next-own : (household : ℕ) (owners places : List ℕ) (place : ℕ) (next : Option ℕ) → HasWalked (is_owner household) owners places (Some place) → ((owner : ℕ) → slice_get owners place ≡ Some owner → next ≡ last_place (is_owner owner) (take place owners)) → next ≡ last_place (is_owner household) (take place owners)
+next-own household owners places place next walked linked =
+    let here = stands-at (is_owner household) owners places place walked in
+    linked here.owner here.there ∙ ap (λ own. last_place (is_owner own) (take place owners)) (eqb-true here.owner household here.tested)

@@ -1,0 +1,11 @@
+use Rattle.standing_orders.proofs.PricedLast.{all_left_wait, last_leaves, last_takes}
+use Rattle.standing_orders.proofs.laws.last_sheet_takes_what_waits.Goals as goal
+
+pub returns-clause-takes : goal.returns-clause-takes
+returns-clause-takes c = last_takes
+
+pub returns-clause-leaves : goal.returns-clause-leaves
+returns-clause-leaves c = last_leaves
+
+pub returns-clause-left : goal.returns-clause-left
+returns-clause-left c = all_left_wait

@@ -1,0 +1,32 @@
+-- Places in a list.
+use Rattle.std.specs.List.{list_any, slice_get}
+use Rattle.std.specs.Option.{option_map_or}
+use Rattle.std.specs.Prelude.{Bool, List, [], ℕ, ◌++◌, ◌+◌, ◌∷◌, ◌≤◌, false, if◌then◌else◌, nat_eq, nat_lt, suc}
+
+-- the places, from a place on, at which something passes
+abbrev pub places_from : {X : Type 0} → ℕ → (X → Bool) → List X → List ℕ
+places_from place test [] = []
+places_from place test (x ∷ xs) = (if test x then place ∷ [] else []) ++ places_from (place + 1) test xs
+
+abbrev pub places_where : {X : Type 0} → (X → Bool) → List X → List ℕ
+places_where test xs = places_from 0 test xs
+
+-- the item at a place passes
+abbrev pub passes_at : {X : Type 0} → (X → Bool) → List X → ℕ → Bool
+passes_at test xs place = option_map_or test (slice_get xs place) false
+
+-- each place is greater than the one before, none is less than the first bound, and each is less than the second
+abbrev pub RisesWithin : ℕ → ℕ → List ℕ → Type 0
+RisesWithin from to [] = Unit {0}
+RisesWithin from to (place ∷ places) = (from ≤ place) × (suc place ≤ to) × RisesWithin (suc place) to places
+
+abbrev pub is_among : List ℕ → ℕ → Bool
+is_among places place = list_any (nat_eq place) places
+
+-- rising places with one more among them, which stands there once
+abbrev pub with_place : ℕ → List ℕ → List ℕ
+with_place place [] = place ∷ []
+with_place place (other ∷ places) =
+    if nat_lt other place then other ∷ with_place place places
+    else if nat_lt place other then place ∷ other ∷ places
+    else other ∷ places

@@ -1,0 +1,106 @@
+//! Which sheet prices an order.
+ghost use Rattle.std.specs.Prelude.{◌≡◌, false, option_map, pos};
+ghost use Rattle.std.specs.Option.{option_copied, option_map_or};
+ghost use Rattle.forward_price.specs.PriceTables.{next_sheet};
+ghost use Rattle.forward_price.specs.Sheets.{lists_all, lists_class};
+ghost use Rattle.register_machine.specs.pricing.OrderClasses.{class_of, classes_in, target_of};
+ghost use Rattle.standing_orders.specs.Rows.{could_price, is_taken, sheet_number, stays, waits};
+
+use agent_events::{Body, OrderRow};
+use forward_price::{PriceBook, Sheet};
+use money_units::{Moment, Nav};
+
+/// The number of the sheet that prices an order; `None` exactly while it is pending.
+pub(crate) fn sheet_number(prices: &PriceBook, row: &OrderRow) -> Option<u32>
+    ensures { result ≡ sheet_number prices.now.table.sheets row.now }
+{
+    let class = class_of(&row.order.body);
+    match target_of(&row.order.body) {
+        Some(to) => sheet_after(prices, &[class, to], row.receipt),
+        None => sheet_after(prices, &[class], row.receipt),
+    }
+}
+
+fn sheet_after(prices: &PriceBook, classes: &[u32], receipt: Moment) -> Option<u32>
+    ensures { result ≡ option_map (λ sheet. sheet.number)
+        (next_sheet prices.now.table.sheets classes.now (pos receipt)) }
+{
+    prices.first_after(receipt.seconds(), classes)
+}
+
+/// Whether an order stands and no sheet prices it.
+pub(crate) fn row_waits(prices: &PriceBook, row: &OrderRow) -> bool
+    ensures { result ≡ waits prices.now.table.sheets row.now }
+{
+    !row.struck && sheet_number(prices, row).is_none()
+}
+
+fn class_of(body: &Body) -> u32
+    ensures { result ≡ class_of body.now }
+{
+    match body {
+        Body::Buy { class, .. } => class.number(),
+        Body::Sell { class, .. } => class.number(),
+        Body::SellCash { class, .. } => class.number(),
+        Body::SellAll { class } => class.number(),
+        Body::Exchange { class, .. } => class.number(),
+        Body::ExchangeAll { class, .. } => class.number(),
+        Body::Letter { class, .. } => class.number(),
+        Body::Elect { class, .. } => class.number(),
+    }
+}
+
+fn target_of(body: &Body) -> Option<u32>
+    ensures { result ≡ target_of body.now }
+{
+    match body {
+        Body::Exchange { to, .. } => Some(to.number()),
+        Body::ExchangeAll { to, .. } => Some(to.number()),
+        _ => None,
+    }
+}
+
+/// Whether an order stands that the sheet of this number could price: it looks at no other sheet.
+pub(crate) fn is_taken(prices: &PriceBook, sheet: u32, row: &OrderRow) -> bool
+    ensures { result ≡ is_taken sheet prices.now.table.sheets row.now }
+{
+    !row.struck && is_within(prices.sheet(sheet), row)
+}
+
+/// Whether an order stands that the sheet of this number couldn't price.
+pub(crate) fn row_stays(prices: &PriceBook, sheet: u32, row: &OrderRow) -> bool
+    ensures { result ≡ stays sheet prices.now.table.sheets row.now }
+{
+    !row.struck && !is_within(prices.sheet(sheet), row)
+}
+
+fn is_within(sheet: Option<&Sheet>, row: &OrderRow) -> bool
+    ensures { result ≡ option_map_or (λ sheet. could_price sheet row.now) (option_copied sheet.entry) false }
+{
+    match sheet {
+        Some(sheet) => could_price(sheet, row),
+        None => false,
+    }
+}
+
+fn could_price(sheet: &Sheet, row: &OrderRow) -> bool
+    ensures { result ≡ could_price sheet.now row.now }
+{
+    row.receipt.seconds() < sheet.moment && lists_classes(sheet, &row.order.body)
+}
+
+fn lists_classes(sheet: &Sheet, body: &Body) -> bool
+    ensures { result ≡ lists_all sheet.now.prices (classes_in body.now) }
+{
+    let prices = sheet.prices.as_slice();
+    match target_of(body) {
+        Some(to) => lists_class(prices, class_of(body)) && lists_class(prices, to),
+        None => lists_class(prices, class_of(body)),
+    }
+}
+
+fn lists_class(prices: &[(u32, Nav)], class: u32) -> bool
+    ensures { result ≡ lists_class prices.now class }
+{
+    prices.iter().any(|price| price.0 == class)
+}

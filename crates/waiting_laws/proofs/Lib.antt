@@ -1,0 +1,2 @@
+-- the index of a journal's orders, event by event
+pub mod IndexSteps

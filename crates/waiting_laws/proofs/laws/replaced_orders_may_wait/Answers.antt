@@ -1,0 +1,5 @@
+use Rattle.waiting_laws.proofs.IndexSteps.{replaces_order}
+use Rattle.waiting_laws.proofs.laws.replaced_orders_may_wait.Goals as goal
+
+pub returns : goal.returns
+returns c = replaces_order
