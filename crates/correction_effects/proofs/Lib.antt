@@ -1,0 +1,7 @@
+pub mod FilledNames
+pub mod FirstOfAll
+pub mod LeastTurn
+pub mod NamedOwners
+pub mod TrialNames
+pub mod TurnsTold
+pub mod UnreachedLeft

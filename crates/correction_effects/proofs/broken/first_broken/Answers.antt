@@ -1,0 +1,11 @@
+use Rattle.std.proofs.Common.{◌∙◌}
+use Rattle.std.specs.HashSet.{contains}
+use Rattle.std.specs.Option.{option_copied}
+use Rattle.correction_effects.proofs.FilledNames.{broken-by-names}
+use Rattle.correction_effects.specs.Filled.{same_name}
+use Rattle.correction_effects.proofs.broken.first_broken.Goals as goal
+
+pub returns : goal.returns
+returns c =
+    c.first_among.ensures
+    ∙ broken-by-names (option_copied c.args.order) (contains same_name c.in_ok-filled.filled) c.args.before.now c.args.after.now c.in_ok-filled.ensures

@@ -1,0 +1,42 @@
+-- The households that have an order which stands and names a class: those that a corrected price or rate of it can reach.
+use Rattle.std.specs.List.{list_any}
+use Rattle.std.specs.Prelude.{Bool, Contains, List, None, Option, [], filter, if◌then◌else◌, option_and_then, true, ℕ, ◌&&◌, ◌++◌, ◌∷◌, ◌≡◌}
+use Rattle.agent_events.specs.declared.order.OrderRow.{OrderRow}
+use Rattle.register_laws.specs.CorrectionReach.{NamesNowhere, names_class}
+use Rattle.register_laws.specs.Households.{own_orders}
+use Rattle.register_laws.specs.Lawful.{book_behind}
+use Rattle.register_machine.specs.journal.Journals.{Journal}
+use Rattle.register_machine.specs.journal.Kinds.{accounts_of}
+use Rattle.register_machine.specs.pricing.CorrectedBook.{Book}
+use Rattle.register_machine.specs.pricing.CorrectedOrders.{orders_of, stands}
+use Rattle.standing_orders.specs.Rows.{AreOwners}
+
+-- some order of the household stands and names the class
+abbrev pub names_somewhere : Book → ℕ → ℕ → Bool
+names_somewhere book household class =
+    list_any (names_class class) (filter stands (own_orders book.accounts household book.orders))
+
+-- The households are exactly those that have such an order.
+pub record IsNaming (book : Book) (class : ℕ) (households : List ℕ) : Type 0 where
+  pub own : (household : ℕ) → Contains households household → names_somewhere book household class ≡ true
+  pub others : (household : ℕ) → (Contains households household → ⊥) → NamesNowhere book household class
+
+-- So it is for the corrected book of the journal, where the households are those of the rows.
+abbrev pub AreNaming : Journal → List ℕ → ℕ → List ℕ → Type 0
+AreNaming journal owners class households =
+    AreOwners (accounts_of journal) (orders_of journal) owners → IsNaming (book_behind journal) class households
+
+-- ---- the rows with their households, one after the other
+
+abbrev pub names_standing : ℕ → OrderRow → Bool
+names_standing class row = stands row && names_class class row
+
+-- the household of a row that stands and names the class
+abbrev pub named_owner : ℕ → Option OrderRow → Option ℕ → Option ℕ
+named_owner class row owner = option_and_then (λ found. if names_standing class found then owner else None) row
+
+abbrev pub owners_naming : ℕ → List OrderRow → List ℕ → List ℕ
+owners_naming class [] owners = []
+owners_naming class (row ∷ rows) [] = []
+owners_naming class (row ∷ rows) (owner ∷ owners) =
+    (if names_standing class row then owner ∷ [] else []) ++ owners_naming class rows owners

@@ -1,0 +1,58 @@
+//! The first trade that a correction breaks, between two replays.
+ghost use Rattle.std.specs.Prelude.{◌≡◌, IfOk, false, find};
+ghost use Rattle.std.specs.HashSet.{contains};
+ghost use Rattle.std.specs.Option.{option_copied, option_map_or};
+ghost use Rattle.correction_effects.specs.Filled.{is_broken_by, same_name};
+ghost use Rattle.register_machine.specs.rules.Breaks.{is_broken, is_trade_of};
+
+use crate::filled::{TradeName, filled_names, is_filled, name_of};
+use agent_events::{Order, Trade};
+use money_units::NoMemory;
+use std::alloc::Global;
+use std::collections::HashSet;
+
+/// The first trade of the replay behind a correction that is unfilled though its order was filled before, or is the order that the
+/// correction enters or replaces; `None` exactly where there is none. It goes over both replays once.
+pub fn first_broken<'a>(
+    alloc: Global,
+    order: Option<&Order>,
+    before: &[Trade],
+    after: &'a [Trade],
+) -> Result<Option<&'a Trade>, NoMemory>
+    ensures { IfOk result (λ broken. option_copied broken
+        ≡ find (is_broken (option_copied order.entry) before.now) after.now) }
+{
+    let filled = filled_names(alloc, before)?;
+    Ok(first_among(order, &filled, after))
+}
+
+fn first_among<'a>(
+    order: Option<&Order>,
+    filled: &HashSet<TradeName>,
+    after: &'a [Trade],
+) -> Option<&'a Trade>
+    ensures { option_copied result
+        ≡ find (is_broken_by (option_copied order.entry) (contains same_name filled.now))
+        after.now }
+{
+    after.iter().find(|trade| is_broken(order, filled, trade))
+}
+
+fn is_broken(order: Option<&Order>, filled: &HashSet<TradeName>, trade: &Trade) -> bool
+    ensures { result
+        ≡ is_broken_by (option_copied order.entry) (contains same_name filled.now) trade.now }
+{
+    !is_filled(trade) && (filled.contains(&name_of(trade)) || is_own(order, trade))
+}
+
+fn is_own(order: Option<&Order>, trade: &Trade) -> bool
+    ensures { result ≡ option_map_or
+        (λ own. is_trade_of own.account own.ref_no trade.now) (option_copied order.entry) false }
+{
+    match order {
+        Some(own) => {
+            trade.account == own.account.number() && trade.ref_no == own.ref_no.number()
+        }
+        None => false,
+    }
+}
