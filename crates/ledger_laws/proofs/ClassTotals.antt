@@ -1,0 +1,130 @@
+-- The outstanding mils of a class are the net of what the trades brought and took, over all and in each part.
+use Rattle.std.proofs.Common.{All, List, [], ap, arith, cond, filter, fold, pos, refl, subst, sum_by, sym, ℕ, ℤ, ◌+◌, ◌∙◌, ◌∷◌, ◌≡◌}
+use Rattle.std.proofs.Math.IntN.{+ℤ-neg_ℤ_cancel}
+use Rattle.std.proofs.lemmas.List.Elements.{All-filter}
+use Rattle.std.proofs.lemmas.List.Sums.{sum_by-cons}
+use Rattle.std.specs.Prelude.{◌+ℤ◌, ◌-ℤ◌}
+use Rattle.agent_events.specs.declared.order.OrderRow.{OrderRow}
+use Rattle.agent_events.specs.declared.trade.Outcome.{Outcome}
+use Rattle.agent_events.specs.declared.trade.Trade.{Trade}
+use Rattle.agent_events.specs.declared.trade.TradeKind.{TradeKind}
+use Rattle.gain_loss_book.specs.Movements.{if_filled, mils_brought, mils_brought_by, mils_taken, mils_taken_by, trades_mils}
+use Rattle.gain_loss_book.specs.Flows.{net}
+use Rattle.ledger_laws.specs.ClassTotals.{IsNetOfTrades, LawfulTotalsByHouseholds, OrderlyTotalsByDifferences}
+use Rattle.register_laws.proofs.HouseholdSums.{sums_over_households}
+use Rattle.register_laws.proofs.LawfulReplaysKept.{has_a_lawful_book}
+use Rattle.register_laws.proofs.ListParts.{filter-swap}
+use Rattle.register_laws.proofs.ReplayedAlone.{replayed_alone}
+use Rattle.register_laws.proofs.SharesByTrades.{shares_go_by_trades}
+use Rattle.register_laws.proofs.Sums.{sum-same}
+use Rattle.register_laws.specs.Households.{is_of_household, is_own_row, own_book, part_of}
+use Rattle.register_laws.specs.HouseholdSums.{household_numbers}
+use Rattle.register_laws.specs.Lawful.{book_behind}
+use Rattle.register_machine.specs.journal.Journals.{Journal}
+use Rattle.register_laws.specs.Trades.{if_filled as in_filled}
+use Rattle.register_laws.specs.Trades.{IsOrderly, IsOutstandingByTrades, LeavesItsClass, is_order_of, mils_in, mils_in_by, mils_out, mils_out_by}
+use Rattle.register_machine.specs.corrections.Cash.{outstanding}
+use Rattle.register_machine.specs.pricing.CorrectedBook.{Book}
+use Rattle.register_machine.specs.pricing.CorrectedOrders.{stands}
+use Rattle.register_machine.specs.replay.Replay.{replay}
+use Rattle.register_machine.specs.replay.Trades.{Day}
+use Rattle.share_lots.proofs.LotLemmas.{sum_by-filter-le}
+
+-- ---- the words of the laws and those of the gains are one
+
+brought-by : (kind : TradeKind) (class : ℕ) (trade : Trade) → mils_in_by kind class trade ≡ mils_brought_by kind class trade
+brought-by TradeKind.Buy class trade = refl
+brought-by TradeKind.Sell class trade = refl
+brought-by TradeKind.Exchange class trade = refl
+brought-by TradeKind.Letter class trade = refl
+brought-by TradeKind.ElectCash class trade = refl
+brought-by TradeKind.ElectShares class trade = refl
+brought-by TradeKind.LetterReached class trade = refl
+brought-by TradeKind.LetterEnded class trade = refl
+brought-by TradeKind.DividendShares class trade = refl
+brought-by TradeKind.DividendCash class trade = refl
+
+taken-by : (kind : TradeKind) (class : ℕ) (trade : Trade) → mils_out_by kind class trade ≡ mils_taken_by kind class trade
+taken-by TradeKind.Buy class trade = refl
+taken-by TradeKind.Sell class trade = refl
+taken-by TradeKind.Exchange class trade = refl
+taken-by TradeKind.Letter class trade = refl
+taken-by TradeKind.ElectCash class trade = refl
+taken-by TradeKind.ElectShares class trade = refl
+taken-by TradeKind.LetterReached class trade = refl
+taken-by TradeKind.LetterEnded class trade = refl
+taken-by TradeKind.DividendShares class trade = refl
+taken-by TradeKind.DividendCash class trade = refl
+
+in-brought : (class : ℕ) (trade : Trade) → mils_in class trade ≡ mils_brought class trade
+in-brought class trade =
+    elim trade.outcome as (λ outcome. in_filled outcome (mils_in_by trade.kind class trade) ≡ if_filled outcome (mils_brought_by trade.kind class trade)) [
+      | Outcome.Filled ↦ brought-by trade.kind class trade
+      | Outcome.Unfilled why ↦ refl
+    ]
+
+out-taken : (class : ℕ) (trade : Trade) → mils_out class trade ≡ mils_taken class trade
+out-taken class trade =
+    elim trade.outcome as (λ outcome. in_filled outcome (mils_out_by trade.kind class trade) ≡ if_filled outcome (mils_taken_by trade.kind class trade)) [
+      | Outcome.Filled ↦ taken-by trade.kind class trade
+      | Outcome.Unfilled why ↦ refl
+    ]
+
+-- ---- differences
+
+less : (left out brought : ℕ) → left + out ≡ brought → pos left ≡ pos brought -ℤ pos out
+less left out brought whole =
+    sym (ap (λ n. pos n -ℤ pos out) (sym whole) ∙ +ℤ-neg_ℤ_cancel (pos left) (pos out))
+
+net-of : (class : ℕ) (day : Day) → IsOutstandingByTrades class day → IsNetOfTrades class day
+net-of class day is =
+    less (outstanding day.register class) (sum_by (mils_taken class) day.trades) (sum_by (mils_brought class) day.trades)
+    (omega (arith, is, sum-same (mils_in class) (mils_brought class) (in-brought class) day.trades, sum-same (mils_out class) (mils_taken class) (out-taken class) day.trades))
+
+-- ---- a household's own book is orderly where the whole one is
+
+own-orderly : (book : Book) (household : ℕ) → IsOrderly book → IsOrderly (own_book household book)
+own-orderly book household orderly =
+    let own = is_own_row (is_of_household book.accounts household) in
+    let swapped = filter-swap stands own book.orders in
+    record {
+      numbered = orderly.numbered;
+      elsewhere = subst (All LeavesItsClass) (sym swapped) (All-filter own LeavesItsClass (filter stands book.orders) orderly.elsewhere);
+      few_orders = λ account.
+          let one : OrderRow → ℕ = λ row. cond (is_order_of account row) 1 0 in
+          omega (arith, ap (sum_by one) swapped, sum_by-filter-le one own (filter stands book.orders), orderly.few_orders account);
+    }
+
+part-replayed : (book : Book) (household : ℕ) → part_of book.accounts household (replay book) ≡ replay (own_book household book)
+unfolding replay
+part-replayed book household = replayed_alone book household book.table.sheets
+
+pub totals_by_differences : (book : Book) → OrderlyTotalsByDifferences book
+totals_by_differences book orderly = record {
+  whole = λ class. net-of class (replay book) (shares_go_by_trades book class orderly);
+  in_parts = λ household class.
+      subst (IsNetOfTrades class) (sym (part-replayed book household))
+      (net-of class (replay (own_book household book)) (shares_go_by_trades (own_book household book) class (own-orderly book household orderly)));
+}
+
+-- ---- over all households
+
+-- numbers that are added up as whole ones
+added-up : (f : ℕ → ℤ) (g : ℕ → ℕ) → ((x : ℕ) → pos (g x) ≡ f x) → (so_far : ℕ) (xs : List ℕ) → pos (so_far + sum_by g xs) ≡ fold (λ sum x. sum +ℤ f x) (pos so_far) xs
+added-up f g same so_far [] =
+    let none : so_far + sum_by g [] ≡ so_far = omega arith in ap pos none
+added-up f g same so_far (x ∷ xs) =
+    let first : so_far + sum_by g (x ∷ xs) ≡ so_far + g x + sum_by g xs = omega (arith, sum_by-cons g x xs) in
+    ap pos first
+    ∙ (added-up f g same (so_far + g x) xs
+    ∙ ap (λ (sum : ℤ). fold (λ s y. s +ℤ f y) sum xs) (ap (λ (n : ℤ). pos so_far +ℤ n) (same x)))
+
+pub totals_by_households : (journal : Journal) → LawfulTotalsByHouseholds journal
+totals_by_households journal lawful class =
+    let book = book_behind journal in
+    let totals = totals_by_differences book (has_a_lawful_book journal lawful).orderly in
+    let parts : ℕ → Day = λ household. part_of book.accounts household (replay book) in
+    let all : outstanding (replay book).register class ≡ 0 + sum_by (λ household. outstanding (parts household).register class) (household_numbers journal) =
+    omega (arith, (sums_over_households journal lawful).whole.mils class) in
+    ap pos all
+    ∙ added-up (λ household. net (trades_mils (parts household).trades class)) (λ household. outstanding (parts household).register class) (λ household. totals.in_parts household class) 0 (household_numbers journal)

@@ -1,0 +1,83 @@
+-- Over each sheet of a sound book a household's step can be taken from its part, and over many its replay.
+use Rattle.std.proofs.Common.{List, None, Option, Some, ap, arith, get_or, is_some, length, option_map, refl, subst, sym, true, unwrap_or, ℕ, ◌+◌, ◌-◌, ◌<◌, ◌∙◌, ◌≡◌, ◌≤◌}
+use Rattle.std.proofs.lemmas.List.Elements.{All-weaker}
+use Rattle.forward_price.specs.PriceTables.{sheet_numbered}
+use Rattle.forward_price.specs.declared.price_sheet.Sheet.{Sheet}
+use Rattle.household_fold.proofs.SheetFacts.{numbered-patched}
+use Rattle.household_fold.specs.Facts.{FactsFit, Known, no_sheet, on_trial, sheet_at_hand}
+use Rattle.household_fold.specs.Households.{AreOrdersOf, AreOwned, IsOwnPlace}
+use Rattle.household_fold.specs.Numbers.{AreNumbersWithin}
+use Rattle.household_replay.specs.Replays.{NumberedOrder, known_on, orders_under}
+use Rattle.ledger_laws.proofs.OwnedParts.{owned_by_accounts}
+use Rattle.ledger_laws.proofs.PartLimits.{numbers_within}
+use Rattle.ledger_laws.proofs.ReplaysAsPart.{days-from, part-one-more}
+use Rattle.ledger_laws.specs.OwnedByAccounts.{SoundBooksLetReplay, SoundBooksLetStep, TablesStand}
+use Rattle.ledger_laws.specs.PartsByFacts.{AreFactsOf}
+use Rattle.ledger_laws.specs.SoundBooks.{HaveTerms, IsDated, IsSoundBook, ListsItsClasses}
+use Rattle.register_laws.specs.Households.{part_of}
+use Rattle.register_machine.specs.pricing.CorrectedBook.{Book}
+use Rattle.register_machine.specs.replay.Positions.{Position, Register}
+use Rattle.register_machine.specs.replay.Replay.{replay_to}
+use Rattle.register_machine.specs.replay.Trades.{Day}
+
+-- the sheet at hand is there, since it has a number
+sheet-there : (known : Known) (number : ℕ) (sheet : Sheet) → sheet_at_hand known ≡ sheet → sheet.number ≡ number + 1 → is_some (sheet_numbered known.table.sheets known.sheet) ≡ true
+sheet-there known number sheet at_hand own =
+    by (sheet_numbered known.table.sheets known.sheet)
+    (ap (λ o. unwrap_or o no_sheet) (sym (numbered-patched known.patch known.table.sheets known.sheet)) ∙ at_hand)
+  where
+    by : (o : Option Sheet) → unwrap_or (option_map (on_trial known.patch) o) no_sheet ≡ sheet → is_some o ≡ true
+    by None e = (let none = ap (λ (s : Sheet). s.number) e in absurd (omega (arith, none, own)))
+    by (Some s) e = refl
+
+facts-fit : (known : Known) (book : Book) → IsSoundBook book → AreFactsOf known book → HaveTerms known book → TablesStand known → (place : ℕ) (d : Sheet) → place < length book.table.sheets → FactsFit (known_on known (place + 1))
+facts-fit known book sound facts have stand place d short =
+    let on = known_on known (place + 1) in
+    let sheet = get_or book.table.sheets place d in
+    let at_hand = facts.at_hand place d short in
+    record {
+      sheet = sheet-there on place sheet at_hand (sound.orderly.numbered.each place d short);
+      moment = subst IsDated (sym at_hand) (sound.dated place d short);
+      terms_there = λ class listed. have class (subst (ListsItsClasses book) (sym at_hand) (sound.sheets place d short) class listed);
+      terms_rise = stand.terms_rise;
+      accounts_rise = stand.accounts_rise;
+      rates_rise = stand.rates_rise;
+      rates_within = stand.rates_within;
+      few_terms = stand.few_terms;
+      few_accounts = stand.few_accounts;
+    }
+
+-- whose positions are doesn't hang on the sheet at hand
+pub owned-on : (known : Known) (number household : ℕ) (register : Register) → AreOwned known household register → AreOwned (known_on known number) household register
+owned-on known number household register owned =
+    All-weaker (λ (p : Position). IsOwnPlace known household p.account p.class) (λ (p : Position). IsOwnPlace (known_on known number) household p.account p.class)
+    (λ p is. record { owner = is.owner; terms = is.terms }) register owned
+
+pub lets_step : (known : Known) (book : Book) (household : ℕ) → SoundBooksLetStep known book household
+lets_step known book household sound facts have stand place d short =
+    let owned = owned_by_accounts known book household sound facts have in
+    record {
+      facts = facts-fit known book sound facts have stand place d short;
+      owned = owned-on known (place + 1) household (part_of book.accounts household (replay_to book place)).register (owned.positions place);
+      orders_owned = owned.orders place d short;
+      lots = subst (λ (day : Day). AreNumbersWithin day.register) (part-one-more known book household place d facts short)
+          ((numbers_within book household sound.orderly).numbers (place + 1));
+    }
+
+pub lets_replay : (known : Known) (rows : List NumberedOrder) (book : Book) (household : ℕ) → SoundBooksLetReplay known rows book household
+lets_replay known rows book household sound facts have stand are from count within =
+    let owned = owned_by_accounts known book household sound facts have in
+    let place : (sheet : ℕ) → from < sheet → sheet - 1 + 1 ≡ sheet = λ sheet behind. omega (arith, behind) in
+    let there : (sheet : ℕ) → from < sheet → sheet ≤ from + count → sheet - 1 < length book.table.sheets = λ sheet behind upto. omega (arith, behind, upto, within) in
+    record {
+      facts = λ sheet behind upto.
+          subst (λ n. FactsFit (known_on known n)) (place sheet behind)
+          (facts-fit known book sound facts have stand (sheet - 1) no_sheet (there sheet behind upto));
+      orders = λ sheet behind upto.
+          subst (λ n. AreOrdersOf (known_on known n) household (orders_under n rows)) (place sheet behind)
+          (subst (AreOrdersOf (known_on known (sheet - 1 + 1)) household) (sym (are.on_sheet (sheet - 1) no_sheet (there sheet behind upto)))
+          (owned.orders (sheet - 1) no_sheet (there sheet behind upto)));
+      owned = owned.positions from;
+      lots = subst (λ (day : Day). AreNumbersWithin day.register) (days-from known rows book household facts are from count within)
+          ((numbers_within book household sound.orderly).numbers (from + count));
+    }

@@ -1,0 +1,123 @@
+-- The book of a lawful journal is sound, and tables that agree with a book give its facts.
+use Rattle.std.proofs.Common.{All, Bool, List, None, Option, Some, [], ap, arith, false, filter, get_or, is_some, map, option_map, refl, sym, true, ℕ, ℤ, ◌&&◌, ◌==◌, ◌||◌, ◌∙◌, ◌∷◌, ◌≡◌}
+use Rattle.std.proofs.lemmas.Bool.{and_parts}
+use Rattle.std.proofs.lemmas.Int.{ints}
+use Rattle.std.proofs.lemmas.List.Elements.{All-append, All-cons, All-contains, All-filter, All-head, All-map, All-nil, All-tail, All-weaker}
+use Rattle.std.specs.List.{list_all, list_any}
+use Rattle.std.specs.Option.{option_map_or}
+use Rattle.agent_events.specs.declared.order.OrderRow.{OrderRow}
+use Rattle.agent_events.specs.declared.request.ClassForm.{ClassForm}
+use Rattle.forward_price.specs.Orderly.{IsOrderly}
+use Rattle.forward_price.specs.PriceTables.{price_before}
+use Rattle.forward_price.specs.Turns.{is_offered_at, must_list, pairs_of, pricing_pair, pricing_pairs}
+use Rattle.forward_price.specs.declared.price_sheet.Opening.{Opening}
+use Rattle.fund_calendar.specs.PricingDays.{IsMoment, Listing}
+use Rattle.household_fold.proofs.BookFacts.{class_found, household_found, rate_found}
+use Rattle.household_fold.specs.Facts.{Known, class_in_book, terms_numbered}
+use Rattle.class_terms.specs.declared.form.TermsForm.{TermsForm}
+use Rattle.ledger_laws.proofs.ReplaysAsPart.{sheets_give_facts}
+use Rattle.ledger_laws.specs.SoundBooks.{HaveTerms, IsDated, LawfulHasASoundBook, ListsItsClasses, NamesItsClasses, TablesAgree, TablesGiveFacts}
+use Rattle.register_laws.proofs.NamesStand.{names_stand}
+use Rattle.register_laws.proofs.OrderlyBooks.{lawful_book_is_orderly}
+use Rattle.register_laws.proofs.TablesAreOrderly.{IsCalendar, classes-seen, kept, orderly_tables}
+use Rattle.register_laws.proofs.Tests.{find-any}
+use Rattle.register_laws.specs.AlikeBooks.{BooksAlike}
+use Rattle.register_laws.specs.Identities.{has_number, is_class}
+use Rattle.register_laws.specs.Lawful.{book_behind}
+use Rattle.register_laws.specs.NamesStand.{is_placed_in}
+use Rattle.register_machine.specs.journal.Journals.{Journal}
+use Rattle.register_machine.specs.journal.Kinds.{accounts_of, class_numbered, classes_of}
+use Rattle.register_machine.specs.journal.Lawful.{IsLawful}
+use Rattle.register_machine.specs.pricing.CorrectedBook.{Book}
+use Rattle.register_machine.specs.pricing.CorrectedOrders.{orders_of, stands}
+use Rattle.register_machine.specs.pricing.OrderClasses.{classes_in}
+use Rattle.register_machine.specs.pricing.PublishedTable.{table_of}
+use Rattle.household_fold.specs.Facts.{book_of_facts}
+
+-- ---- the classes of orders and sheets
+
+all-true : {X : Type 0} (test : X → Bool) (xs : List X) → list_all test xs ≡ true → All (λ x. test x ≡ true) xs
+all-true test [] e = All-nil (λ x. test x ≡ true)
+all-true test (x ∷ xs) e =
+    let parts = and_parts (test x) (list_all test xs) e in
+    All-cons (λ y. test y ≡ true) x xs parts.0 (all-true test xs parts.1)
+
+orders-named : (journal : Journal) → IsLawful journal → All (NamesItsClasses (book_behind journal)) (filter stands (orders_of journal))
+orders-named journal lawful =
+    All-filter stands (NamesItsClasses (book_behind journal)) (orders_of journal)
+    (All-weaker (λ (row : OrderRow). is_placed_in journal row.order ≡ true) (NamesItsClasses (book_behind journal))
+    (λ row placed. (and_parts (list_any (has_number row.order.account) (accounts_of journal)) (list_all (λ class. list_any (is_class class) (classes_of journal)) (classes_in row.order.body)) placed).1)
+    (orders_of journal)
+    (all-true (λ (row : OrderRow). is_placed_in journal row.order) (orders_of journal) (names_stand journal lawful).orders))
+
+-- a class that a sheet must list was opened
+must-open : (openings : List Opening) (calendar : ℕ) (moment : ℤ) (class : ℕ) → must_list openings calendar moment class ≡ true → list_any (λ (opening : Opening). opening.class == class) openings ≡ true
+must-open [] calendar moment class e = e
+must-open (opening ∷ openings) calendar moment class e =
+    first (opening.class == class) (is_offered_at calendar moment opening) (must_list openings calendar moment class) (list_any (λ (o : Opening). o.class == class) openings) (must-open openings calendar moment class) e
+  where
+    first : (here offered later seen : Bool) → (later ≡ true → seen ≡ true) → ((here && offered) || later) ≡ true → (here || seen) ≡ true
+    first true offered later seen rest h = refl
+    first false offered later seen rest h = rest h
+
+pub sheets-listed : (journal : Journal) → IsOrderly (book_behind journal).table → All (ListsItsClasses (book_behind journal)) (book_behind journal).table.sheets
+sheets-listed journal orderly k d short class lists =
+    let sheet = get_or (book_behind journal).table.sheets k d in
+    sym (classes-seen class journal) ∙ must-open (table_of journal).classes sheet.calendar sheet.moment class (sym (orderly.complete k d short class) ∙ lists)
+
+-- ---- the moments of sheets
+
+days-dated : (c : Listing) → IsCalendar c → All (λ (pair : ℤ × ℕ). IsMoment pair.0) (pairs_of c)
+days-dated c is =
+    All-map (λ (pair : ℤ × ℕ). IsMoment pair.0) (pricing_pair c.number) c.days
+    (λ k d short. let low = is.listing.within k d short in (omega (arith, ints), omega (arith, ints, low)))
+
+pairs-dated : (calendars : List Listing) → All IsCalendar calendars → All (λ (pair : ℤ × ℕ). IsMoment pair.0) (pricing_pairs calendars)
+pairs-dated [] are = All-nil (λ (pair : ℤ × ℕ). IsMoment pair.0)
+pairs-dated (c ∷ cs) are =
+    All-append (λ (pair : ℤ × ℕ). IsMoment pair.0) (pairs_of c) (pricing_pairs cs) (days-dated c (All-head IsCalendar c cs are)) (pairs-dated cs (All-tail IsCalendar c cs are))
+
+pub sheets-dated : (journal : Journal) → IsOrderly (book_behind journal).table → All IsCalendar (book_behind journal).table.calendars → All IsDated (book_behind journal).table.sheets
+sheets-dated journal orderly are k d short =
+    let table = (book_behind journal).table in
+    let sheet = get_or table.sheets k d in
+    All-contains (λ (pair : ℤ × ℕ). IsMoment pair.0) (pricing_pairs table.calendars) (sheet.moment, sheet.calendar)
+    (pairs-dated table.calendars are) (orderly.on_pricing_days k d short)
+
+pub has_a_sound_book : (journal : Journal) → LawfulHasASoundBook journal
+has_a_sound_book journal lawful = record {
+  orderly = lawful_book_is_orderly journal lawful;
+  orders = orders-named journal lawful;
+  sheets = sheets-listed journal (orderly_tables journal lawful).corrected;
+  dated = sheets-dated journal (orderly_tables journal lawful).corrected (kept journal lawful).calendars;
+}
+
+-- ---- facts by their tables
+
+classes-agree : (known : Known) (book : Book) → TablesAgree known book → (class : ℕ) → class_numbered (map class_in_book known.terms) class ≡ class_numbered book.classes class
+classes-agree known book agree class = class_found known.terms class ∙ agree.terms class
+
+books-alike : (known : Known) (book : Book) → TablesAgree known book → BooksAlike (book_of_facts known) book
+books-alike known book agree = record {
+  price = λ class moment. ap (λ sheets. price_before sheets class moment) agree.sheets;
+  front = λ class. ap (λ o. option_map_or (λ (terms : ClassForm). terms.front) o []) (classes-agree known book agree class);
+  schedule = λ class. ap (λ o. option_map_or (λ (terms : ClassForm). terms.deferred) o []) (classes-agree known book agree class);
+  counted = λ class. ap (λ o. option_map_or (λ (terms : ClassForm). terms.counts) o false) (classes-agree known book agree class);
+  household = λ account. sym (household_found known.accounts account) ∙ agree.accounts account;
+  rate = λ class moment. sym (rate_found known.rates class moment) ∙ agree.rates class moment;
+}
+
+have-terms : (known : Known) (book : Book) → TablesAgree known book → HaveTerms known book
+have-terms known book agree class there =
+    same (terms_numbered known.terms class)
+    ∙ (ap is_some (agree.terms class) ∙ (find-any (is_class class) book.classes ∙ there))
+  where
+    same : (o : Option TermsForm) → is_some o ≡ is_some (option_map class_in_book o)
+    same None = refl
+    same (Some terms) = refl
+
+pub tables_give_facts : (known : Known) (book : Book) → TablesGiveFacts known book
+tables_give_facts known book agree numbered = record {
+  facts = sheets_give_facts known book (books-alike known book agree) agree.sheets numbered;
+  terms = have-terms known book agree;
+}

@@ -1,0 +1,18 @@
+-- the ledger of no event, and ledgers that events leave
+pub mod LedgersOfBooks
+-- a ledger over one sheet more
+pub mod SheetAdvances
+-- a ledger behind a correction
+pub mod CorrectedParts
+-- what moves bring and take back
+pub mod SumsOfMoves
+-- the trades of a ledger, household by household
+pub mod SumsOverLedgers
+-- the totals of a ledger, and by how much they differ between two
+pub mod LedgerTotals
+-- the facts that serve the books of journals
+pub mod ServedBooks
+-- the moves that reopen households
+pub mod Reopenings
+-- a corrected price is that of one sheet
+pub mod FixedPrices
