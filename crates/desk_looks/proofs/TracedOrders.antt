@@ -1,0 +1,34 @@
+-- What became of an order, in any book of its table and by the trades of its household alone.
+use Rattle.std.proofs.Common.{Bool, List, None, Option, Some, ap, cond, refl, sym, ◌∙◌, ◌≡◌}
+use Rattle.std.specs.Prelude.{nat_abs, option_map, pos, unwrap_or}
+use Rattle.agent_events.specs.declared.order.OrderRow.{OrderRow}
+use Rattle.agent_events.specs.declared.reply.OrderState.{OrderState}
+use Rattle.agent_events.specs.declared.reply.TraceReply.{TraceReply}
+use Rattle.agent_events.specs.declared.trade.Trade.{Trade}
+use Rattle.forward_price.specs.PriceTables.{Table}
+use Rattle.forward_price.specs.Turns.{due_of}
+use Rattle.desk_looks.specs.OrderTraces.{book_over, trace_among, trade_among}
+use Rattle.register_machine.specs.pricing.CorrectedBook.{Book, due_moment}
+use Rattle.register_machine.specs.pricing.OrderClasses.{classes_in}
+use Rattle.register_machine.specs.queries.Trace.{bare_trace, trace_by, trace_of_trade}
+
+-- of the table alone
+abbrev traced_by : Table → OrderRow → Bool → Option Trade → TraceReply
+traced_by table row struck found =
+    let due = unwrap_or (option_map nat_abs (due_of table (classes_in row.order.body) (pos row.receipt))) 0 in
+    cond struck (bare_trace row OrderState.Struck due) (elim found as (λ _. TraceReply) [
+      | None ↦ bare_trace row OrderState.Pending due
+      | Some trade ↦ trace_of_trade row trade trade.outcome
+    ])
+
+reads-table : (book : Book) (trades : List Trade) (row : OrderRow) → trace_among book trades row ≡ traced_by book.table row row.struck (trade_among trades row)
+reads-table book trades row = by (trade_among trades row)
+  where
+    by : (found : Option Trade) → cond row.struck (bare_trace row OrderState.Struck (unwrap_or (due_moment book row) 0)) (trace_by book row found) ≡ traced_by book.table row row.struck found
+    by None = refl
+    by (Some trade) = refl
+
+pub trace-over : (book : Book) (table : Table) (trades : List Trade) (row : OrderRow) → book.table ≡ table → trace_among (book_over table) trades row ≡ trace_among book trades row
+trace-over book table trades row same =
+    reads-table (book_over table) trades row
+    ∙ (ap (λ t. traced_by t row row.struck (trade_among trades row)) (sym same) ∙ sym (reads-table book trades row))

@@ -1,0 +1,74 @@
+-- Over sheets in their order, dated near their moments, the trades of a replay are dated so.
+use Rattle.std.proofs.Common.{All, AllPairs, Bool, List, [], arith, fold, get_or, subst, suc, sym, zero, ◌++◌, ◌∷◌, ◌≤◌}
+use Rattle.std.proofs.lemmas.List.Elements.{All-append, All-filter, All-nil}
+use Rattle.std.proofs.lemmas.List.Kept.{AllPairs-filter}
+use Rattle.agent_events.specs.declared.trade.Trade.{Trade}
+use Rattle.forward_price.specs.declared.price_sheet.Sheet.{Sheet}
+use Rattle.register_machine.specs.pricing.CorrectedBook.{Book}
+use Rattle.register_machine.specs.pricing.PublishedTable.{moment_of}
+use Rattle.register_machine.specs.replay.Replay.{Priced, day_after_sheet, first_day, orders_on, priced_orders}
+use Rattle.register_machine.specs.replay.Trades.{Day}
+use Rattle.holder_statements.specs.Periods.{AreDated, AreSheetsDated, IsNear, IsSheetNear, PartIsDated, ReplayIsDated}
+use Rattle.holder_statements.proofs.SheetTrades.{Grows, IsOn, step_grows}
+
+pairs_append : {X : Type 0} (R : X → X → Type 0) (xs ys : List X) → AllPairs R xs → AllPairs R ys → All (λ x. All (R x) ys) xs → AllPairs R (xs ++ ys)
+pairs_append R [] ys first second across i j d lt short = second i j d lt short
+pairs_append R (x ∷ xs) ys first second across zero zero d lt short = absurd (omega arith)
+pairs_append R (x ∷ xs) ys first second across zero (suc j) d lt short =
+    All-append (R x) xs ys (λ k e within. first 0 (suc k) e (omega arith) (omega arith)) (across 0 x (omega arith)) j d (omega arith)
+pairs_append R (x ∷ xs) ys first second across (suc i) zero d lt short = absurd (omega arith)
+pairs_append R (x ∷ xs) ys first second across (suc i) (suc j) d lt short =
+    pairs_append R xs ys (λ a b e less within. first (suc a) (suc b) e (omega arith) (omega arith)) second (λ k e within. across (suc k) e (omega arith)) i j d (omega arith) (omega arith)
+
+-- a trade isn't later than any of these sheets
+abbrev IsBefore : List Sheet → Trade → Type 0
+IsBefore sheets trade = All (λ (sheet : Sheet). trade.moment ≤ moment_of sheet) sheets
+
+near_on : (sheet : Sheet) (trade : Trade) → IsSheetNear sheet → IsOn sheet trade → IsNear trade
+near_on sheet trade near on =
+    let day = on.day in
+    let moment = on.moment in
+    let after = near.not_after in
+    let before = near.not_before in
+    record { not_after = omega arith; not_before = omega arith }
+
+-- trades of one sheet more
+dated_more : (sheet : Sheet) (trades new : List Trade) → IsSheetNear sheet → AreDated trades → All (λ (trade : Trade). trade.moment ≤ moment_of sheet) trades → All (IsOn sheet) new → AreDated (trades ++ new)
+dated_more sheet trades new near dated before own = record {
+  in_turn = pairs_append (λ (a : Trade) (b : Trade). a.moment ≤ b.moment) trades new dated.in_turn
+      (λ i j d lt short. (let first = (own i d (omega arith)).moment in let second = (own j d short).moment in omega arith))
+      (λ k d short i e within. (let earlier = before k d short in let later = (own i e within).moment in omega arith));
+  near = All-append IsNear trades new dated.near (λ k d short. near_on sheet (get_or new k d) near (own k d short));
+}
+
+before_more : (sheet : Sheet) (sheets : List Sheet) (trades new : List Trade) → AllPairs (λ (a : Sheet) (b : Sheet). moment_of a ≤ moment_of b) (sheet ∷ sheets) → All (IsBefore (sheet ∷ sheets)) trades → All (IsOn sheet) new → All (IsBefore sheets) (trades ++ new)
+before_more sheet sheets trades new climb before own =
+    All-append (IsBefore sheets) trades new
+    (λ k d short i e within. before k d short (suc i) e (omega arith))
+    (λ k d short i e within. (let on = (own k d short).moment in let later = climb 0 (suc i) e (omega arith) (omega arith) in omega arith))
+
+dated_on : (book : Book) (priced : List Priced) (sheets : List Sheet) (day : Day) → AreSheetsDated sheets → AreDated day.trades → All (IsBefore sheets) day.trades → AreDated (fold (day_after_sheet book priced) day sheets).trades
+dated_on book priced [] day sheets dated before = dated
+dated_on book priced (sheet ∷ sheets) day those dated before =
+    let grows : Grows sheet day (day_after_sheet book priced day sheet) = step_grows book sheet (orders_on priced sheet) day in
+    dated_on book priced sheets (day_after_sheet book priced day sheet)
+    (record {
+      in_turn = λ i j d lt short. those.in_turn (suc i) (suc j) d (omega arith) (omega arith);
+      near = λ k d short. those.near (suc k) d (omega arith);
+    })
+    (subst (λ (trades : List Trade). AreDated trades) (sym grows.grown)
+    (dated_more sheet day.trades grows.new (those.near 0 sheet (omega arith)) dated (λ k d short. before k d short 0 sheet (omega arith)) grows.own))
+    (subst (λ (trades : List Trade). All (IsBefore sheets) trades) (sym grows.grown)
+    (before_more sheet sheets day.trades grows.new those.in_turn before grows.own))
+
+pub replay_is_dated : (book : Book) (sheets : List Sheet) → ReplayIsDated book sheets
+replay_is_dated book sheets those =
+    dated_on book (priced_orders book) sheets first_day those
+    (record { in_turn = λ i j d lt short. absurd (omega arith); near = All-nil IsNear })
+    (All-nil (IsBefore sheets))
+
+pub part_is_dated : (is_of : Trade → Bool) (trades : List Trade) → PartIsDated is_of trades
+part_is_dated is_of trades dated = record {
+  in_turn = AllPairs-filter (λ (a : Trade) (b : Trade). a.moment ≤ b.moment) is_of trades dated.in_turn;
+  near = All-filter is_of IsNear trades dated.near;
+}

@@ -1,0 +1,2 @@
+-- the statements of a lawful journal
+pub mod LawfulStatements

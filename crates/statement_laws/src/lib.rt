@@ -1,0 +1,4 @@
+//! Laws of the statements of a lawful journal.
+#![tactic(auto)]
+
+pub mod laws;
