@@ -15,7 +15,7 @@ use Rattle.agent_events.specs.declared.request.EntryForm.{EntryForm}
 use Rattle.agent_events.specs.declared.request.FixPriceForm.{FixPriceForm}
 use Rattle.agent_events.specs.declared.request.FixRateForm.{FixRateForm}
 use Rattle.forward_price.specs.declared.price_sheet.Sheet.{Sheet}
-use Rattle.register_laws.proofs.BooksGoOn.{book_goes_on}
+use Rattle.register_laws.proofs.BooksGoOn.{book_goes_on_by, touches_nothing}
 use Rattle.register_laws.proofs.Choosing.{none_some}
 use Rattle.register_laws.proofs.CorrectionReach.{price_leaves_before, price_leaves_others, rate_leaves_before, rate_leaves_others}
 use Rattle.register_laws.proofs.HouseholdSheets.{none-all}
@@ -25,13 +25,12 @@ use Rattle.register_laws.proofs.ReplayedAlone.{replayed_alone}
 use Rattle.register_laws.proofs.SheetsClimb.{sheets-before}
 use Rattle.register_laws.proofs.SheetsDated.{dated}
 use Rattle.register_laws.proofs.StepsAlike.{books_step_alike}
-use Rattle.register_laws.specs.CorrectionReach.{IsOnNone, LawfulEventReach, LeavesPart, book_with_price, book_with_rate, is_on_sheet, order_changed}
+use Rattle.register_laws.specs.CorrectionReach.{IsOnNone, LawfulEventReach, LeavesPart, TriedEventReach, book_with_price, book_with_rate, is_on_sheet, order_changed}
 use Rattle.register_laws.specs.Households.{is_of_household, own_book, own_orders}
 use Rattle.register_laws.specs.Lawful.{book_behind}
-use Rattle.register_laws.specs.OneEventMore.{book_after, orders_after, replaced_by, struck_by}
+use Rattle.register_laws.specs.OneEventMore.{TouchesNothing, book_after, orders_after, replaced_by, struck_by}
 use Rattle.register_machine.specs.journal.Journals.{Journal, with_event}
 use Rattle.register_machine.specs.journal.Kinds.{accounts_of}
-use Rattle.register_machine.specs.journal.Lawful.{IsLawful}
 use Rattle.register_machine.specs.pricing.CorrectedBook.{Book}
 use Rattle.register_machine.specs.pricing.CorrectedOrders.{is_named, replaces, row_as_sent, stands}
 use Rattle.register_machine.specs.replay.DayStep.{day_step}
@@ -234,16 +233,15 @@ of-other : (accounts : List AccountForm) (household : ℕ) (named : ℕ × ℕ) 
 of-other accounts household named off order e =
     ap (is_of_household accounts household) (eqb-true order.account named.0 (and_parts (order.account == named.0) (order.ref_no == named.1) e).0) ∙ off
 
-behind : (journal : Journal) (event : Event) → IsLawful (with_event journal event) → (book : Book) → book_after (length journal) (book_behind journal) event.moment event.kind ≡ book → book ≡ book_behind (with_event journal event)
-behind journal event lawful book is = sym is ∙ sym (book_goes_on journal event lawful)
+behind : (journal : Journal) (event : Event) → TouchesNothing journal event → (book : Book) → book_after (length journal) (book_behind journal) event.moment event.kind ≡ book → book ≡ book_behind (with_event journal event)
+behind journal event touches book is = sym is ∙ sym (book_goes_on_by journal event touches)
 
-pub event_reach : (journal : Journal) (event : Event) → LawfulEventReach journal event
+pub tried_event_reach : (journal : Journal) (event : Event) → TriedEventReach journal event
 unfolding replay
-event_reach journal event lawful =
+tried_event_reach journal event before_lawful touches =
     let book = book_behind journal in
     let after = book_behind (with_event journal event) in
-    let before_lawful = lawful-before journal (event ∷ []) lawful in
-    let changed = λ (named : ℕ × ℕ) (is : order_changed event.kind ≡ Some named). behind journal event lawful (with_orders book (orders_after (length journal) book.orders event.kind)) (order-book (length journal) book event.moment event.kind named is) in
+    let changed = λ (named : ℕ × ℕ) (is : order_changed event.kind ≡ Some named). behind journal event touches (with_orders book (orders_after (length journal) book.orders event.kind)) (order-book (length journal) book event.moment event.kind named is) in
     let over = λ (named : ℕ × ℕ) (is : order_changed event.kind ≡ Some named) (sheets : List Sheet) (none : IsOnNone book after named sheets).
     subst (λ b. replay_over b sheets ≡ replay_over book sheets) (changed named is)
     (same-replay book (orders_after (length journal) book.orders event.kind) sheets
@@ -251,22 +249,22 @@ event_reach journal event lawful =
     (subst (λ b. is_on_sheet b named (get_or sheets k d) ≡ false) (sym (changed named is)) (none k d short).1))) in
     record {
       price = λ form is household nowhere. subst (λ b. LeavesPart book b household)
-          (behind journal event lawful (book_with_price form book) (ap (book_after (length journal) book event.moment) is ∙ price-book (length journal) book event.moment form))
+          (behind journal event touches (book_with_price form book) (ap (book_after (length journal) book event.moment) is ∙ price-book (length journal) book event.moment form))
           (price_leaves_others book form household nowhere);
       rate = λ form is household nowhere. subst (λ b. LeavesPart book b household)
-          (behind journal event lawful (book_with_rate form book) (ap (book_after (length journal) book event.moment) is ∙ rate-book (length journal) book event.moment form))
+          (behind journal event touches (book_with_rate form book) (ap (book_after (length journal) book event.moment) is ∙ rate-book (length journal) book event.moment form))
           (rate_leaves_others book form household nowhere);
       price_before = λ form is number early. subst (λ b. replay_to b number ≡ replay_to book number)
-          (behind journal event lawful (book_with_price form book) (ap (book_after (length journal) book event.moment) is ∙ price-book (length journal) book event.moment form))
+          (behind journal event touches (book_with_price form book) (ap (book_after (length journal) book event.moment) is ∙ price-book (length journal) book event.moment form))
           (price_leaves_before book form number (dated journal) early);
       rate_before = λ form is number early. subst (λ b. replay_to b number ≡ replay_to book number)
-          (behind journal event lawful (book_with_rate form book) (ap (book_after (length journal) book event.moment) is ∙ rate-book (length journal) book event.moment form))
+          (behind journal event touches (book_with_rate form book) (ap (book_after (length journal) book event.moment) is ∙ rate-book (length journal) book event.moment form))
           (rate_leaves_before book form number early);
       price_numbered = λ form is fixed of number early. subst (λ b. replay_to b number ≡ replay_to book number)
-          (behind journal event lawful (book_with_price form book) (ap (book_after (length journal) book event.moment) is ∙ price-book (length journal) book event.moment form))
+          (behind journal event touches (book_with_price form book) (ap (book_after (length journal) book event.moment) is ∙ price-book (length journal) book event.moment form))
           (price_leaves_before book form number (dated journal) (sheets-before journal before_lawful form.class form.moment fixed number of early));
       rate_numbered = λ form is fixed of number early. subst (λ b. replay_to b number ≡ replay_to book number)
-          (behind journal event lawful (book_with_rate form book) (ap (book_after (length journal) book event.moment) is ∙ rate-book (length journal) book event.moment form))
+          (behind journal event touches (book_with_rate form book) (ap (book_after (length journal) book event.moment) is ∙ rate-book (length journal) book event.moment form))
           (rate_leaves_before book form number (λ k d short. (sheets-before journal before_lawful form.class form.moment fixed number of early k d short).0));
       order = λ named is household off. subst (λ b. LeavesPart book b household) (changed named is)
           (own-same book (orders_after (length journal) book.orders event.kind) household
@@ -277,3 +275,6 @@ event_reach journal event lawful =
       nowhere = λ named is none.
           ap (λ sheets. replay_over after sheets) (sym (ap (λ (b : Book). b.table.sheets) (changed named is))) ∙ over named is book.table.sheets none;
     }
+
+pub event_reach : (journal : Journal) (event : Event) → LawfulEventReach journal event
+event_reach journal event lawful = tried_event_reach journal event (lawful-before journal (event ∷ []) lawful) (touches_nothing journal event lawful)

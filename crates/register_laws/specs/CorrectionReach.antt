@@ -9,7 +9,7 @@ use Rattle.agent_events.specs.declared.request.FixRateForm.{FixRateForm}
 use Rattle.forward_price.specs.declared.price_sheet.Sheet.{Sheet}
 use Rattle.register_laws.specs.Households.{is_of_household, own_orders, part_of}
 use Rattle.register_laws.specs.Lawful.{book_behind}
-use Rattle.register_laws.specs.OneEventMore.{with_price_fixed}
+use Rattle.register_laws.specs.OneEventMore.{TouchesNothing, with_price_fixed}
 use Rattle.register_machine.specs.journal.Journals.{Journal, with_event}
 use Rattle.register_machine.specs.journal.Kinds.{accounts_of}
 use Rattle.register_machine.specs.journal.Lawful.{IsLawful}
@@ -158,6 +158,10 @@ pub record EventReach (journal : Journal) (event : Event) : Type 0 where
   pub nowhere : (named : ℕ × ℕ) → order_changed event.kind ≡ Some named
       → IsOnNone (book_behind journal) (book_behind (with_event journal event)) named (book_behind journal).table.sheets
       → replay (book_behind (with_event journal event)) ≡ replay (book_behind journal)
+
+-- So it is with an event behind a lawful journal that isn't judged yet, and with each event of a lawful journal.
+abbrev pub TriedEventReach : Journal → Event → Type 0
+TriedEventReach journal event = IsLawful journal → TouchesNothing journal event → EventReach journal event
 
 abbrev pub LawfulEventReach : Journal → Event → Type 0
 LawfulEventReach journal event = IsLawful (with_event journal event) → EventReach journal event

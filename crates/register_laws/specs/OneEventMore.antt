@@ -189,6 +189,17 @@ book_after place book moment kind = record {
   rates = rates_after book.rates kind;
 }
 
+-- The event touches nothing that was changed before it: an order that it begins, and the prices of a sheet that it publishes.
+pub record TouchesNothing (journal : Journal) (event : Event) : Type 0 where
+  pub begins : begins_untouched journal event.kind ≡ true
+  pub unfixed : is_unfixed journal event.kind ≡ true
+
+-- So the book goes on by an event that isn't judged yet, too.
+abbrev pub BookGoesOn : Journal → Event → Type 0
+BookGoesOn journal event =
+    TouchesNothing journal event
+    → book_behind (with_event journal event) ≡ book_after (length journal) (book_behind journal) event.moment event.kind
+
 abbrev pub LawfulBookGoesOn : Journal → Event → Type 0
 LawfulBookGoesOn journal event =
     IsLawful (with_event journal event)

@@ -12,7 +12,7 @@ ghost use Rattle.register_machine.specs.pricing.CorrectedBook.{Book};
 ghost use Rattle.register_machine.specs.replay.Trades.{Day};
 ghost use Rattle.register_laws.specs.AlikeBooks.{AlikeBooksStepAlike};
 ghost use Rattle.register_laws.specs.BrokenByParts.{BreaksByParts, LawfulUnreachedIsUnbroken};
-ghost use Rattle.register_laws.specs.CorrectionReach.{LawfulEventReach, LawfulSheetsNeverFall, PriceLeavesOthers, RateLeavesOthers};
+ghost use Rattle.register_laws.specs.CorrectionReach.{LawfulEventReach, LawfulSheetsNeverFall, PriceLeavesOthers, TriedEventReach, RateLeavesOthers};
 ghost use Rattle.register_laws.specs.HouseholdSheets.{CorrectedPartGoesOn, PartGoesOn, QuietLeavesPart};
 ghost use Rattle.register_laws.specs.HouseholdSums.{LawfulSumsOverHouseholds};
 ghost use Rattle.register_laws.specs.Isolation.{IsolatesBatches, IsolatesHouseholds};
@@ -80,6 +80,12 @@ pub fn sheets_of_lawful_journals_never_fall()
 /// behind it.
 pub fn events_reach_so_far()
     ensures { (journal : Journal) (event : Event) → LawfulEventReach journal event }
+{}
+
+/// And so far reaches a correction behind a lawful journal while it is on trial, before it is known whether it breaks an order.
+#[tactic(auto, using(crate::proofs::OrderReach::tried_event_reach))]
+pub fn events_on_trial_reach_so_far()
+    ensures { (journal : Journal) (event : Event) → TriedEventReach journal event }
 {}
 
 /// While a lawful journal isn't full, an order, a dealer's line, a cancel and a look at an account of a household are answered as

@@ -5,7 +5,7 @@ ghost use Rattle.register_machine.specs.journal.Journals.{Journal};
 ghost use Rattle.register_machine.specs.journal.Lawful.{IsLawful};
 ghost use Rattle.register_laws.specs.NamesStand.{NamesStand};
 ghost use Rattle.register_laws.specs.LawfulLimits.{KeepsItsLimits, ClassesHaveGoodLoads, LawfulHasShortLists, LawfulFitsRow, LawfulNamesWhatStands};
-ghost use Rattle.register_laws.specs.OneEventMore.{TableGoesOn, CorrectedTableGoesOn, OrdersGoOn, RatesGoOn, KindsGoOn, PaymentsGoOn, ViewGoesOn, LawfulBeginsAnew, LawfulPricesAnew, LawfulBookGoesOn, LawfulFixesOnePrice};
+ghost use Rattle.register_laws.specs.OneEventMore.{BookGoesOn, TableGoesOn, CorrectedTableGoesOn, OrdersGoOn, RatesGoOn, KindsGoOn, PaymentsGoOn, ViewGoesOn, LawfulBeginsAnew, LawfulPricesAnew, LawfulBookGoesOn, LawfulFixesOnePrice};
 
 /// The price table goes on by the event.
 #[tactic(auto, using(crate::proofs::OneEventMore::table_goes_on))]
@@ -96,6 +96,12 @@ pub fn events_of_lawful_journals_have_short_lists()
 #[tactic(auto, using(crate::proofs::FitsRows::fits_a_row))]
 pub fn events_of_lawful_journals_fit_a_row()
     ensures { (journal : Journal) (event : Event) → LawfulFitsRow journal event }
+{}
+
+/// The corrected book of any journal goes on by an event that touches nothing which was changed before it, judged or not.
+#[tactic(auto, using(crate::proofs::BooksGoOn::book_goes_on_by))]
+pub fn books_go_on()
+    ensures { (journal : Journal) (event : Event) → BookGoesOn journal event }
 {}
 
 /// So the corrected book of a lawful journal goes on by each of its events.
