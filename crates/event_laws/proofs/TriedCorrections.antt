@@ -12,9 +12,10 @@ use Rattle.agent_events.specs.declared.request.EntryForm.{EntryForm}
 use Rattle.agent_events.specs.declared.request.FixPriceForm.{FixPriceForm}
 use Rattle.event_laws.specs.EventReplays.{is_correction}
 use Rattle.event_laws.specs.OrderTurns.{NamesOnce}
-use Rattle.event_laws.specs.TriedCorrections.{BookGoesOn, IsTried, TriedHasABook}
+use Rattle.event_laws.specs.TriedCorrections.{IsTried, TriedHasABook}
 use Rattle.forward_price.specs.PriceTables.{AreNumbered, Table}
 use Rattle.forward_price.specs.declared.price_sheet.Sheet.{Sheet}
+use Rattle.register_laws.proofs.BooksGoOn.{book_goes_on_by}
 use Rattle.register_laws.proofs.Choosing.{at_most_one}
 use Rattle.register_laws.proofs.ExecutedInTurn.{orders_in_turn}
 use Rattle.register_laws.proofs.ListParts.{filter-map}
@@ -33,14 +34,6 @@ use Rattle.register_machine.specs.pricing.CorrectedBook.{Book}
 use Rattle.register_machine.specs.pricing.CorrectedOrders.{is_named, order_named, orders_of, replaces, row_as_sent}
 use Rattle.register_machine.specs.pricing.CorrectedPrices.{sheet_as_corrected}
 use Rattle.register_machine.specs.pricing.DividendRates.{Rates, rates_of}
-
-pub book_goes_on_by : (journal : Journal) (event : Event) → BookGoesOn journal event
-book_goes_on_by journal event is =
-    ap (λ (table : Table). record { table = table; classes = classes_of (with_event journal event); accounts = accounts_of (with_event journal event); orders = orders_of (with_event journal event); rates = rates_of (with_event journal event) }) (corrected_table_goes_on journal event is.unfixed)
-    ∙ (ap (λ (classes : List ClassForm). record { table = corrected_table_by (corrected_table journal) event.moment event.kind; classes = classes; accounts = accounts_of (with_event journal event); orders = orders_of (with_event journal event); rates = rates_of (with_event journal event) }) (gathers-on class_in journal event)
-    ∙ (ap (λ (accounts : List AccountForm). record { table = corrected_table_by (corrected_table journal) event.moment event.kind; classes = classes_of journal ++ option_to_list (class_in event.kind); accounts = accounts; orders = orders_of (with_event journal event); rates = rates_of (with_event journal event) }) (gathers-on account_in journal event)
-    ∙ (ap (λ (orders : List OrderRow). record { table = corrected_table_by (corrected_table journal) event.moment event.kind; classes = classes_of journal ++ option_to_list (class_in event.kind); accounts = accounts_of journal ++ option_to_list (account_in event.kind); orders = orders; rates = rates_of (with_event journal event) }) (orders_go_on journal event is.begins)
-    ∙ ap (λ (rates : Rates). record { table = corrected_table_by (corrected_table journal) event.moment event.kind; classes = classes_of journal ++ option_to_list (class_in event.kind); accounts = accounts_of journal ++ option_to_list (account_in event.kind); orders = orders_after (length journal) (orders_of journal) event.kind; rates = rates }) (rates_go_on journal event))))
 
 -- ---- names
 

@@ -9,23 +9,12 @@ use Rattle.event_laws.specs.OrderTurns.{NamesOnce}
 use Rattle.forward_price.specs.PriceTables.{AreNumbered}
 use Rattle.forward_price.specs.declared.price_sheet.Sheet.{Sheet}
 use Rattle.register_laws.specs.Lawful.{book_behind}
-use Rattle.register_laws.specs.OneEventMore.{begins_untouched, book_after, is_unfixed}
+use Rattle.register_laws.specs.OneEventMore.{TouchesNothing}
 use Rattle.register_laws.specs.Priced.{GoesBefore}
 use Rattle.register_machine.specs.journal.Journals.{Journal, with_event}
 use Rattle.register_machine.specs.journal.Lawful.{IsLawful}
 use Rattle.register_machine.specs.pricing.CorrectedOrders.{order_named, orders_of}
 use Rattle.register_machine.specs.replay.Replay.{orders_on, priced_orders}
-
--- The event touches nothing that was changed before it: an order that it begins, and the prices of a sheet that it publishes.
-pub record TouchesNothing (journal : Journal) (event : Event) : Type 0 where
-  pub begins : begins_untouched journal event.kind ≡ true
-  pub unfixed : is_unfixed journal event.kind ≡ true
-
--- So the corrected book goes on by it, judged or not.
-abbrev pub BookGoesOn : Journal → Event → Type 0
-BookGoesOn journal event =
-    TouchesNothing journal event
-    → book_behind (with_event journal event) ≡ book_after (length journal) (book_behind journal) event.moment event.kind
 
 -- a correction that touches nothing changed before, and an order that it enters has a name of its own
 pub record IsTried (journal : Journal) (event : Event) : Type 0 where

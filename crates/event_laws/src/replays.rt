@@ -15,7 +15,7 @@ ghost use Rattle.event_laws.specs.FirstBroken.{FirstBrokenIsFirst};
 ghost use Rattle.event_laws.specs.OrderTurns.{TradesAreInTurn};
 ghost use Rattle.event_laws.specs.PartsStay.{LawfulPartsStay, SameParts};
 ghost use Rattle.event_laws.specs.ReadsAlike.{ReplaysAlike};
-ghost use Rattle.event_laws.specs.TriedCorrections.{BookGoesOn, TriedHasABook};
+ghost use Rattle.event_laws.specs.TriedCorrections.{TriedHasABook};
 
 /// Two books that agree on what each sheet reads of known accounts and classes, of which all standing orders are, replay alike.
 pub fn books_replay_alike()
@@ -48,12 +48,6 @@ pub fn trades_are_in_turn()
 pub fn the_first_broken_is_executed_first()
     ensures { (book : Book) (order : Option Order) (before : Day) (accounts : List AccountForm)
         (household : ℕ) → FirstBrokenIsFirst book order before accounts household }
-{}
-
-/// The corrected book of any journal goes on by an event that touches nothing which was changed before it, judged or not.
-#[tactic(auto, using(crate::proofs::TriedCorrections::book_goes_on_by))]
-pub fn books_go_on()
-    ensures { (journal : Journal) (event : Event) → BookGoesOn journal event }
 {}
 
 /// The book of a correction on trial behind a lawful journal has its sheets by number, as many as before, and orders of one name

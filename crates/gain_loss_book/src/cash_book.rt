@@ -2,6 +2,8 @@
 ghost use Rattle.std.specs.Prelude.{◌≡◌, ℕ, ◌+◌, ◌+ℤ◌, ◌*◌, ◌<◌, ◌≤◌, ◌^◌, ◌==◌, if◌then◌else◌, [], length, None, nat_eq, pos, OnOk, IfOk};
 ghost use Rattle.std.specs.Option.{option_copied};
 ghost use Rattle.std.specs.HashMap.{get, spare};
+ghost use Rattle.std.specs.List.{IsDistinct};
+ghost use Rattle.std.specs.Map.{keys_of};
 ghost use Rattle.agent_events.specs.declared.order.Party.{Party as AnyParty};
 ghost use Rattle.register_machine.specs.corrections.Cash.{balance};
 ghost use Rattle.register_machine.specs.corrections.Payments.{payer, loss_payment, loss_payments};
@@ -117,9 +119,10 @@ impl CashBook {
         self.accounts.flow(party).net()
     }
 
-    /// The cash of all holders together, which is kept and not added up.
+    /// The cash of all holders together, which is kept and not added up. Each holder has one row at most.
     pub fn holders_cash(&self) -> i128
-        ensures { result ≡ cash_of_holders self.now }
+        ensures cash { result ≡ cash_of_holders self.now }
+        ensures once { IsDistinct nat_eq (keys_of self.now.accounts.holders.rows) }
     {
         self.accounts.holders.whole().net()
     }

@@ -1,5 +1,7 @@
 //! Flows: what came in and what went out, the one kept beside the other, and their rows by number.
-ghost use Rattle.std.specs.Prelude.{◌≡◌, ℕ, ◌+◌, ◌<◌, ◌≤◌, ◌^◌, ◌==◌, if◌then◌else◌, [], OnOk};
+ghost use Rattle.std.specs.Prelude.{◌≡◌, ℕ, ◌+◌, ◌<◌, ◌≤◌, ◌^◌, ◌==◌, if◌then◌else◌, [], OnOk, nat_eq};
+ghost use Rattle.std.specs.List.{IsDistinct};
+ghost use Rattle.std.specs.Map.{keys_of};
 ghost use Rattle.gain_loss_book.specs.Flows.{no_flow, with_flow, net, flow_by, flow_at, inflows, outflows, whole_flow};
 
 use money_units::NoMemory;
@@ -74,7 +76,7 @@ pub struct FlowRows {
 
 impl Model for FlowRows {
     ghost use Rattle.std.specs.Prelude.{◌≡◌, nat_eq};
-    ghost use Rattle.std.specs.HashMap.{spare, IsUnique};
+    ghost use Rattle.std.specs.HashMap.{spare};
     ghost use Rattle.gain_loss_book.specs.Flows.{FlowTable, whole_flow};
 
     ghost Value = { FlowTable };
@@ -134,7 +136,8 @@ impl FlowRows {
 
     /// All flows together, which are kept and not added up.
     pub fn whole(&self) -> Flow
-        ensures { result ≡ whole_flow self.now.rows }
+        ensures whole { result ≡ whole_flow self.now.rows }
+        ensures once { IsDistinct nat_eq (keys_of self.now.rows) }
     {
         self.whole
     }
