@@ -7,8 +7,8 @@ use Rattle.std.specs.Io.KnownBytes.{Appends}
 use Rattle.std.proofs.KnownBytes.{Appends-trans}
 use Rattle.agent_events.specs.declared.item.Item.{Item}
 use Rattle.register_machine.specs.journal.Journals.{Journal}
-use Rattle.register_machine.specs.first_path.PathScript.{path_item_answer as item_answer}
-use Rattle.register_machine.specs.first_path.PathScript.{PathRun as Run, line_of, step, start, run_of}
+use Rattle.register_desk.specs.first_path.PathScript.{path_item_answer as item_answer}
+use Rattle.register_desk.specs.first_path.PathScript.{PathRun as Run, line_of, step, start, run_of}
 use Rattle.agent_cli.specs.Runs.{AppendsFront}
 
 -- the run over one more item

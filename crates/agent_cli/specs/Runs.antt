@@ -5,7 +5,7 @@ use Rattle.std.specs.Io.KnownBytes.{Appends}
 use Rattle.agent_edge.specs.Counts.{Rose}
 use Rattle.agent_cli.specs.declared.apply.AnswerFault.{AnswerFault}
 use Rattle.agent_cli.specs.declared.apply.AnswerFault.TheVariants.{Write, NoMemory}
-use Rattle.register_machine.specs.first_path.PathScript.{items_of, run_of}
+use Rattle.register_desk.specs.first_path.PathScript.{items_of, run_of}
 
 -- the lines that the machine answers to a script
 abbrev pub lines_of : List ℕ → List ℕ → List ℕ

@@ -2,8 +2,8 @@
 ghost use Rattle.std.specs.Prelude.{◌≡◌, ◌≤◌, bytes_eq, IfOk, OnOk, OnErr};
 ghost use Rattle.std.specs.Io.KnownBytes.{Appends};
 ghost use Rattle.agent_edge.specs.Counts.{Rose};
-ghost use Rattle.register_machine.specs.first_path.PathAnswers.{kept};
-ghost use Rattle.register_machine.specs.first_path.PathScript.{ask_answer, path_item_answer as item_answer, line_of, step, run_of};
+ghost use Rattle.register_desk.specs.first_path.PathAnswers.{kept};
+ghost use Rattle.register_desk.specs.first_path.PathScript.{ask_answer, path_item_answer as item_answer, line_of, step, run_of};
 ghost use Rattle.agent_cli.specs.Runs.{AppendsFront, CountsWrite, lines_of};
 
 use agent_edge::{Sink, SinkFault, write_whole};

@@ -19,8 +19,8 @@ use Rattle.forward_price.specs.Turns.{expected_of, is_awaited, is_sooner, pricin
 use Rattle.register_machine.specs.journal.Journals.{Journal}
 use Rattle.register_machine.specs.journal.Kinds.{class_in}
 use Rattle.register_machine.specs.pricing.PublishedTable.{table_after, table_behind, table_by}
-use Rattle.register_machine.specs.first_path.PathJournal.{first_table, path_table as table_of, opening_at, opening_of, classes_opened as opened}
-use Rattle.register_machine.specs.first_path.PathAnswers.{path_event as event_at, is_built_class, is_no_load, lists_open}
+use Rattle.register_desk.specs.first_path.PathJournal.{first_table, path_table as table_of, opening_at, opening_of, classes_opened as opened}
+use Rattle.register_desk.specs.first_path.PathAnswers.{path_event as event_at, is_built_class, is_no_load, lists_open}
 
 -- the table behind no event, and behind one more
 pub table-none : table_of [] ≡ first_table

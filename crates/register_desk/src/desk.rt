@@ -6,9 +6,9 @@ ghost use Rattle.forward_price.specs.Sheets.{lists_class};
 ghost use Rattle.forward_price.specs.Turns.{NamesMoment, expected_of, wrong_class};
 ghost use Rattle.agent_events.specs.declared.reply.Reply.TheVariants as reply;
 ghost use Rattle.agent_events.specs.declared.event.EventKind.TheVariants as kind;
-ghost use Rattle.register_machine.specs.first_path.PathJournal.{path_last_moment as last_moment, first_calendar, path_table as table_of, opening_of, classes_opened as opened, purchases, sheets};
-ghost use Rattle.register_machine.specs.first_path.PathReplay.{path_replay as replay, path_positions as positions_of};
-ghost use Rattle.register_machine.specs.first_path.PathAnswers.{kept, path_event as event_at, repeats_class, is_no_load, path_has_calendar as has_calendar, is_built_class, class_answer, path_has_reference as has_reference, first_purchase, same_buy, purchases_of, is_open_class, path_order as order_of, is_built_purchase, purchase_reply, path_due as due_now, new_purchase_answer, buy_answer, order_answer, is_same_sheet, lists_open, is_built_sheet, fault_now, turn_answer, sheet_answer, show_answer, path_answer as answer};
+ghost use Rattle.register_desk.specs.first_path.PathJournal.{path_last_moment as last_moment, first_calendar, path_table as table_of, opening_of, classes_opened as opened, purchases, sheets};
+ghost use Rattle.register_desk.specs.first_path.PathReplay.{path_replay as replay, path_positions as positions_of};
+ghost use Rattle.register_desk.specs.first_path.PathAnswers.{kept, path_event as event_at, repeats_class, is_no_load, path_has_calendar as has_calendar, is_built_class, class_answer, path_has_reference as has_reference, first_purchase, same_buy, purchases_of, is_open_class, path_order as order_of, is_built_purchase, purchase_reply, path_due as due_now, new_purchase_answer, buy_answer, order_answer, is_same_sheet, lists_open, is_built_sheet, fault_now, turn_answer, sheet_answer, show_answer, path_answer as answer};
 
 use crate::copies::{copy_class, copy_sheet};
 use crate::register::{self, Buy, Purchase};
@@ -40,7 +40,7 @@ pub struct Desk {
 
 impl Model for Desk {
     ghost use Rattle.std.specs.Prelude.{◌≡◌, ◌≤◌, length};
-    ghost use Rattle.register_machine.specs.first_path.PathJournal.{path_table as table_of, classes_opened as opened};
+    ghost use Rattle.register_desk.specs.first_path.PathJournal.{path_table as table_of, classes_opened as opened};
     ghost use Rattle.register_machine.specs.journal.Journals.{Journal};
 
     ghost Value = { Journal };

@@ -3,6 +3,7 @@
 
 mod copies;
 mod desk;
+pub mod first_path;
 mod register;
 
 pub use crate::desk::Desk;

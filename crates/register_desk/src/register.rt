@@ -3,8 +3,8 @@ ghost use Rattle.std.specs.Prelude.{◌≡◌, ℕ, ℤ, ◌+◌, ◌*◌, ◌^�
 ghost use Rattle.std.specs.List.{list_any, filter_map};
 ghost use Rattle.forward_price.specs.PriceTables.{next_sheet};
 ghost use Rattle.forward_price.specs.Sheets.{nav_on};
-ghost use Rattle.register_machine.specs.first_path.PathJournal.{Buy as buy, Purchase as purchase, purchase_by, purchase_of, opening_of, purchases};
-ghost use Rattle.register_machine.specs.first_path.PathReplay.{Lot as lot, PathPriced as priced, priced_by, is_on, is_of, lot_mils_in as mils_in, cost_in, lots_mils as mils_of, cost_of, keeps_ceiling, with_lot, register_at_price as bought_at, execute, day, path_position as position_of};
+ghost use Rattle.register_desk.specs.first_path.PathJournal.{Buy as buy, Purchase as purchase, purchase_by, purchase_of, opening_of, purchases};
+ghost use Rattle.register_desk.specs.first_path.PathReplay.{Lot as lot, PathPriced as priced, priced_by, is_on, is_of, lot_mils_in as mils_in, cost_in, lots_mils as mils_of, cost_of, keeps_ceiling, with_lot, register_at_price as bought_at, execute, day, path_position as position_of};
 ghost use Rattle.register_desk.specs.Within.{IsWithin};
 
 use agent_events::{Amount, Body, Event, EventKind, Identifier, Placed, PositionText, Reference};
@@ -29,7 +29,7 @@ pub struct Lot {
 }
 
 impl Model for Lot {
-    ghost use Rattle.register_machine.specs.first_path.PathReplay.{Lot as lot};
+    ghost use Rattle.register_desk.specs.first_path.PathReplay.{Lot as lot};
 
     ghost Value = { lot };
 
@@ -46,7 +46,7 @@ pub struct Buy {
 }
 
 impl Model for Buy {
-    ghost use Rattle.register_machine.specs.first_path.PathJournal.{Buy as buy};
+    ghost use Rattle.register_desk.specs.first_path.PathJournal.{Buy as buy};
 
     ghost Value = { buy };
 
@@ -64,7 +64,7 @@ pub struct Purchase {
 }
 
 impl Model for Purchase {
-    ghost use Rattle.register_machine.specs.first_path.PathJournal.{Purchase as purchase};
+    ghost use Rattle.register_desk.specs.first_path.PathJournal.{Purchase as purchase};
 
     ghost Value = { purchase };
 
@@ -81,7 +81,7 @@ pub struct Priced {
 }
 
 impl Model for Priced {
-    ghost use Rattle.register_machine.specs.first_path.PathReplay.{PathPriced as priced};
+    ghost use Rattle.register_desk.specs.first_path.PathReplay.{PathPriced as priced};
 
     ghost Value = { priced };
 
@@ -107,7 +107,7 @@ fn purchase_by(placed: &Placed) -> Option<Purchase>
 }
 
 /// The purchase that an event brought, if it brought one.
-#[tactic(auto, unfolding(register_machine::specs::first_path::PathJournal::purchase_of))]
+#[tactic(auto, unfolding(crate::specs::first_path::PathJournal::purchase_of))]
 pub fn purchase_of(event: &Event) -> Option<Purchase>
     ensures { result ≡ purchase_of event.now }
 {
@@ -118,7 +118,7 @@ pub fn purchase_of(event: &Event) -> Option<Purchase>
 }
 
 /// The class that an event opened, if it opened one.
-#[tactic(auto, unfolding(register_machine::specs::first_path::PathJournal::opening_of))]
+#[tactic(auto, unfolding(crate::specs::first_path::PathJournal::opening_of))]
 pub fn opening_of(event: &Event) -> Option<Opening>
     ensures { result ≡ opening_of event.now }
 {
@@ -326,7 +326,7 @@ fn position_of(register: &[Lot], account: &Identifier, class: &Identifier) -> Op
 }
 
 /// The position of an account in the class that an event opened, if it opened one and the account has lots there.
-#[tactic(auto, unfolding(register_machine::specs::first_path::PathJournal::opening_of))]
+#[tactic(auto, unfolding(crate::specs::first_path::PathJournal::opening_of))]
 pub fn position_in(register: &[Lot], account: &Identifier, event: &Event) -> Option<PositionText>
     requires { IsWithin register.now }
     ensures { result ≡ option_and_then (position_of register.now account.now) (opening_of event.now) }

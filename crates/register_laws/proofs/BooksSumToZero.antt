@@ -36,7 +36,6 @@ use Rattle.register_laws.proofs.RulesByName.{not_broken}
 use Rattle.register_laws.specs.CashBooks.{BooksSumToZero, IsBetween, books_total, total_balance}
 use Rattle.register_laws.specs.Identities.{NoAccountTwice, has_number, is_class, is_dealer}
 use Rattle.register_laws.specs.Lawful.{IsBrought, own_at}
-use Rattle.register_machine.proofs.FirstPathFacts.{once}
 use Rattle.register_machine.specs.corrections.Cash.{Movement, balance, movements_of, outstanding}
 use Rattle.register_machine.specs.corrections.Gains.{class_numbers_of, dealer_numbers_of, gain_by, gain_of, gain_unless_same, gains_at, in_its_place, is_nothing, latest_nav}
 use Rattle.register_machine.specs.corrections.Payments.{bearer_in, booked_movements, loss_payment, loss_payments, payer, payments_for, payments_from, payments_of}

@@ -33,7 +33,6 @@ use Rattle.register_laws.proofs.RulesByName.{not_broken}
 use Rattle.register_laws.proofs.Runs.{table-one}
 use Rattle.register_laws.specs.Identities.{AtMostOne, NoCalendarTwice, NoClosureTwice, NoSheetTwice, closes, is_calendar, publishes}
 use Rattle.register_laws.specs.Lawful.{own_at}
-use Rattle.register_machine.specs.first_path.PathScript.{step}
 use Rattle.register_machine.specs.journal.Choices.{when}
 use Rattle.register_machine.specs.journal.Journals.{Journal}
 use Rattle.register_machine.specs.journal.Kinds.{calendar_in, calendars_of, closure_in, closures_of, each_in, price_fix_in, sheet_in}

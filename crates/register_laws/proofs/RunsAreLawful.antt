@@ -24,7 +24,6 @@ use Rattle.register_laws.proofs.NoIdentityTwice.{no_account_twice}
 use Rattle.register_laws.proofs.Runs.{run-keeps-its}
 use Rattle.register_laws.specs.Identities.{NoAccountTwice, has_number}
 use Rattle.register_laws.specs.Lawful.{own_at}
-use Rattle.register_machine.proofs.FirstPathFacts.{once}
 use Rattle.register_machine.specs.corrections.Payments.{bearer_in}
 use Rattle.register_machine.specs.journal.Choices.{first_some, when}
 use Rattle.register_machine.specs.journal.Journals.{Journal, last_moment}

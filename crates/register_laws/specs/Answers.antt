@@ -8,7 +8,6 @@ use Rattle.agent_events.specs.declared.request.Request.{Request}
 use Rattle.forward_price.specs.July.{priced}
 use Rattle.forward_price.specs.PriceTables.{IsPricedBy}
 use Rattle.forward_price.specs.declared.price_sheet.Sheet.{Sheet}
-use Rattle.register_machine.specs.first_path.PathJournal.{sheets}
 use Rattle.register_machine.specs.journal.Choices.{first_some}
 use Rattle.register_machine.specs.pricing.CorrectedBook.{book_of}
 use Rattle.register_machine.specs.pricing.OrderClasses.{classes_in}

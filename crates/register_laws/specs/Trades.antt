@@ -10,7 +10,6 @@ use Rattle.offering_price.specs.Purchase.{split_of}
 use Rattle.offering_price.specs.declared.purchase.Split.{Split}
 use Rattle.share_lots.specs.Lots.{mils}
 use Rattle.register_machine.specs.corrections.Cash.{outstanding}
-use Rattle.register_machine.specs.first_path.PathReplay.{day}
 use Rattle.register_machine.specs.pricing.CorrectedBook.{Book, front_of}
 use Rattle.register_machine.specs.pricing.CorrectedOrders.{stands}
 use Rattle.register_machine.specs.pricing.OrderClasses.{class_of, target_of}

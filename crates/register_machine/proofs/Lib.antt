@@ -1,2 +1,1 @@
 pub mod OnLiterals
-pub mod FirstPathFacts

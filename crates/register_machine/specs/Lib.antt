@@ -13,5 +13,3 @@ pub mod rules
 pub mod queries
 -- the machine: from a request to its answer, and from a script to its lines
 pub mod run
--- what the program runs today: one class without a load. It goes out when the desk is rebuilt on the whole register
-pub mod first_path

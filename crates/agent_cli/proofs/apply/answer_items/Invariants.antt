@@ -1,6 +1,6 @@
 use Rattle.std.proofs.Common.{◌≡◌, take}
 use Rattle.std.specs.Io.KnownBytes.{Appends}
-use Rattle.register_machine.specs.first_path.PathScript.{run_of}
+use Rattle.register_desk.specs.first_path.PathScript.{run_of}
 use Rattle.agent_cli.proofs.apply.answer_items.Given as goal
 
 abbrev pub invariant-loop-item : goal.invariant-loop-item

@@ -1,7 +1,7 @@
 use Rattle.std.proofs.Common.{◌≡◌, [], ap, arith, codes, Ok}
 use Rattle.std.proofs.lemmas.Int.{ints}
 use Rattle.fund_calendar.specs.PricingDays.{new_calendar}
-use Rattle.register_machine.specs.first_path.PathJournal.{first_calendar}
+use Rattle.register_desk.specs.first_path.PathJournal.{first_calendar}
 use Rattle.register_machine.specs.pricing.PublishedTable.{listing_by}
 use Rattle.register_desk.proofs.desk.first_calendar.Goals as goal
 

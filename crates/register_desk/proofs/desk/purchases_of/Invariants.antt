@@ -1,5 +1,5 @@
 use Rattle.std.proofs.Common.{◌≡◌, ◌≤◌, take}
-use Rattle.register_machine.specs.first_path.PathAnswers.{purchases_of}
+use Rattle.register_desk.specs.first_path.PathAnswers.{purchases_of}
 use Rattle.register_desk.proofs.desk.purchases_of.Given as goal
 
 abbrev pub invariant-loop-event : goal.invariant-loop-event

@@ -1,5 +1,5 @@
 use Rattle.std.proofs.Common.{◌≡◌, ◌*◌, ◌^◌, ◌≤◌, take, sum_by}
-use Rattle.register_machine.specs.first_path.PathReplay.{cost_in}
+use Rattle.register_desk.specs.first_path.PathReplay.{cost_in}
 use Rattle.register_desk.proofs.register.cost_of.Given as goal
 
 abbrev pub invariant-loop-lot : goal.invariant-loop-lot

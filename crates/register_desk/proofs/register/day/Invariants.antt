@@ -1,5 +1,5 @@
 use Rattle.std.proofs.Common.{◌≡◌, take, fold, filter}
-use Rattle.register_machine.specs.first_path.PathReplay.{is_on, execute}
+use Rattle.register_desk.specs.first_path.PathReplay.{is_on, execute}
 use Rattle.register_desk.specs.Within.{IsWithin}
 use Rattle.register_desk.proofs.register.day.Given as goal
 

@@ -1,5 +1,5 @@
 use Rattle.std.proofs.Common.{pos, sym, ◌∙◌}
-use Rattle.register_machine.specs.first_path.PathJournal.{opening_of}
+use Rattle.register_desk.specs.first_path.PathJournal.{opening_of}
 use Rattle.register_desk.proofs.register.position_in.Goals as goal
 
 pub returns-in-Class : goal.returns-in-Class

@@ -1,6 +1,6 @@
 use Rattle.std.proofs.Common.{◌≡◌, take, map}
-use Rattle.register_machine.specs.first_path.PathJournal.{purchases}
-use Rattle.register_machine.specs.first_path.PathReplay.{priced_by}
+use Rattle.register_desk.specs.first_path.PathJournal.{purchases}
+use Rattle.register_desk.specs.first_path.PathReplay.{priced_by}
 use Rattle.register_desk.proofs.register.priced_purchases.Given as goal
 
 abbrev pub invariant-loop-event : goal.invariant-loop-event

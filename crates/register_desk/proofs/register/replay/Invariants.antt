@@ -1,5 +1,5 @@
 use Rattle.std.proofs.Common.{◌≡◌, take, fold, []}
-use Rattle.register_machine.specs.first_path.PathReplay.{day}
+use Rattle.register_desk.specs.first_path.PathReplay.{day}
 use Rattle.register_desk.specs.Within.{IsWithin}
 use Rattle.register_desk.proofs.register.replay.Given as goal
 

@@ -1,4 +1,4 @@
-use Rattle.register_machine.specs.first_path.PathJournal.{classes_opened as opened}
+use Rattle.register_desk.specs.first_path.PathJournal.{classes_opened as opened}
 use Rattle.register_desk.proofs.JournalFacts.{listed-one}
 use Rattle.register_desk.proofs.desk.Desk.answer_turn.Goals as goal
 

@@ -1,5 +1,5 @@
 use Rattle.std.proofs.Common.{length, ap, arith}
-use Rattle.register_machine.specs.first_path.PathJournal.{classes_opened as opened}
+use Rattle.register_desk.specs.first_path.PathJournal.{classes_opened as opened}
 use Rattle.register_desk.proofs.JournalFacts.{one-class}
 use Rattle.register_desk.proofs.desk.Desk.fault.Goals as goal
 

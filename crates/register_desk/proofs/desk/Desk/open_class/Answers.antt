@@ -1,8 +1,8 @@
 use Rattle.std.proofs.Common.{◌≡◌, [], ◌∷◌, ◌++◌, length, pos, rules, ap, ◌∙◌, SFits, w64, to_z, of_z, to_z-of_z}
 use Rattle.agent_events.specs.declared.event.EventKind.TheVariants as kind
 use Rattle.forward_price.specs.PriceTables.{with_class}
-use Rattle.register_machine.specs.first_path.PathJournal.{classes_opened as opened}
-use Rattle.register_machine.specs.first_path.PathAnswers.{path_event as event_at}
+use Rattle.register_desk.specs.first_path.PathJournal.{classes_opened as opened}
+use Rattle.register_desk.specs.first_path.PathAnswers.{path_event as event_at}
 use Rattle.register_desk.proofs.JournalFacts.{classes-opened, none-opened, kept-class}
 use Rattle.register_desk.proofs.desk.Desk.open_class.Goals as goal
 

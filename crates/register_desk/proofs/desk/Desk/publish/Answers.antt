@@ -1,7 +1,7 @@
 use Rattle.std.proofs.Common.{◌≡◌, [], ◌∷◌, ◌++◌, pos, rules, ap, ◌∙◌, SFits, w64, to_z, of_z, to_z-of_z}
 use Rattle.agent_events.specs.declared.event.EventKind.TheVariants as kind
 use Rattle.forward_price.specs.PriceTables.{with_published}
-use Rattle.register_machine.specs.first_path.PathAnswers.{path_event as event_at}
+use Rattle.register_desk.specs.first_path.PathAnswers.{path_event as event_at}
 use Rattle.register_desk.proofs.JournalFacts.{kept-sheet}
 use Rattle.register_desk.proofs.desk.Desk.publish.Goals as goal
 

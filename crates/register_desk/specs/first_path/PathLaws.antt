@@ -1,9 +1,9 @@
 -- What the laws of the machine say, in the trade's words.
 use Rattle.std.specs.Prelude.{Bool, IfSome, Some, [], ℕ, ◌∷◌, ◌≡◌, ◌≤◌, filter, length, pos, true}
 use Rattle.forward_price.specs.PriceTables.{IsPricedBy}
-use Rattle.register_machine.specs.first_path.PathAnswers.{buy_answer, first_purchase, kept, path_has_reference, purchase_reply, same_buy}
-use Rattle.register_machine.specs.first_path.PathJournal.{Buy, Purchase, purchases, sheets}
-use Rattle.register_machine.specs.first_path.PathReplay.{PathPriced}
+use Rattle.register_desk.specs.first_path.PathAnswers.{buy_answer, first_purchase, kept, path_has_reference, purchase_reply, same_buy}
+use Rattle.register_desk.specs.first_path.PathJournal.{Buy, Purchase, purchases, sheets}
+use Rattle.register_desk.specs.first_path.PathReplay.{PathPriced}
 use Rattle.register_machine.specs.journal.Journals.{Journal}
 
 -- A purchase that is known with equal content gets the reply of its first event, at any moment and by anyone, and the

@@ -1,6 +1,6 @@
 //! Worked scripts, as laws: the checker computes the machine's lines from the script's bytes.
 ghost use Rattle.std.specs.Prelude.{◌≡◌, []};
-ghost use Rattle.register_machine.specs.first_path.PathWorked.{first_script, first_lines, second_script, second_lines, lines_of};
+ghost use Rattle.register_desk.specs.first_path.PathWorked.{first_script, first_lines, second_script, second_lines, lines_of};
 
 /// The empty script has no lines.
 pub fn empty_run()

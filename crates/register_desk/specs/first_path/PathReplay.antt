@@ -9,7 +9,7 @@ use Rattle.forward_price.specs.declared.price_sheet.Opening.{Opening}
 use Rattle.forward_price.specs.declared.price_sheet.Sheet.{Sheet}
 use Rattle.offering_price.specs.Purchase.{split_of}
 use Rattle.offering_price.specs.declared.purchase.Split.{Split}
-use Rattle.register_machine.specs.first_path.PathJournal.{Buy, Purchase, classes_opened, purchases, sheets}
+use Rattle.register_desk.specs.first_path.PathJournal.{Buy, Purchase, classes_opened, purchases, sheets}
 use Rattle.register_machine.specs.journal.Journals.{Journal}
 
 -- shares bought on one sheet, and what they cost

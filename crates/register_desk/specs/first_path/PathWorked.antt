@@ -1,7 +1,7 @@
 -- Two worked scripts: a class without a load, a purchase, its sheet and a look at the account; and the same with a repeat,
 -- a used reference and a sheet out of turn.
 use Rattle.std.specs.Prelude.{List, [], ℕ, ◌++◌, ◌∷◌, codes}
-use Rattle.register_machine.specs.first_path.PathScript.{items_of, run_of}
+use Rattle.register_desk.specs.first_path.PathScript.{items_of, run_of}
 
 abbrev pub path_operator_key : List ℕ
 path_operator_key = codes "op-desk000001"

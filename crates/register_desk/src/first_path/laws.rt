@@ -1,11 +1,11 @@
 //! Laws of the path's machine in the trade's words, proved of every journal and of every run.
 ghost use Rattle.std.specs.Prelude.{ℕ, List, All};
 ghost use Rattle.agent_events.specs.declared.item.Item.{Item};
-ghost use Rattle.register_machine.specs.first_path.PathJournal.{Buy, Purchase};
+ghost use Rattle.register_desk.specs.first_path.PathJournal.{Buy, Purchase};
 ghost use Rattle.register_machine.specs.journal.Journals.{Journal};
-ghost use Rattle.register_machine.specs.first_path.PathReplay.{priced_purchases};
-ghost use Rattle.register_machine.specs.first_path.PathScript.{run_of};
-ghost use Rattle.register_machine.specs.first_path.PathLaws.{PathRepeatsItsFirst, IsOnce, IsPathForwardPriced};
+ghost use Rattle.register_desk.specs.first_path.PathReplay.{priced_purchases};
+ghost use Rattle.register_desk.specs.first_path.PathScript.{run_of};
+ghost use Rattle.register_desk.specs.first_path.PathLaws.{PathRepeatsItsFirst, IsOnce, IsPathForwardPriced};
 
 /// The reply to a repeated purchase is that of its first event, and it appends nothing.
 #[tactic(auto, using(crate::proofs::FirstPathFacts::repeats))]

@@ -9,8 +9,8 @@ use Rattle.agent_events.specs.declared.reply.Refusal.{Refusal}
 use Rattle.agent_events.specs.declared.reply.Reply.{Reply}
 use Rattle.csv.specs.Reading.{default_config, records, strip_bom}
 use Rattle.csv.specs.Writing.{default_writer, row_text}
-use Rattle.register_machine.specs.first_path.PathAnswers.{PathAnswer, path_answer, path_refusal}
-use Rattle.register_machine.specs.first_path.PathJournal.{path_last_moment}
+use Rattle.register_desk.specs.first_path.PathAnswers.{PathAnswer, path_answer, path_refusal}
+use Rattle.register_desk.specs.first_path.PathJournal.{path_last_moment}
 use Rattle.register_machine.specs.journal.Journals.{Journal}
 
 -- what an item asks

@@ -20,8 +20,8 @@ use Rattle.forward_price.specs.Turns.{due_of, publish_fault}
 use Rattle.forward_price.specs.declared.price_sheet.Opening.{Opening}
 use Rattle.forward_price.specs.declared.price_sheet.PublishFault.{PublishFault}
 use Rattle.forward_price.specs.declared.price_sheet.Sheet.{Sheet}
-use Rattle.register_machine.specs.first_path.PathJournal.{Buy, Purchase, classes_opened, path_table, purchases, sheets}
-use Rattle.register_machine.specs.first_path.PathReplay.{path_positions}
+use Rattle.register_desk.specs.first_path.PathJournal.{Buy, Purchase, classes_opened, path_table, purchases, sheets}
+use Rattle.register_desk.specs.first_path.PathReplay.{path_positions}
 use Rattle.register_machine.specs.journal.Journals.{Journal}
 use Rattle.forward_price.specs.declared.price_sheet.PublishFault.TheVariants as fault
 

@@ -19,12 +19,12 @@ use Rattle.forward_price.specs.declared.price_sheet.PublishFault.TheVariants as 
 use Rattle.forward_price.specs.declared.price_sheet.Sheet.{Sheet}
 use Rattle.forward_price.specs.PriceTables.{next_sheet, IsPricedBy}
 use Rattle.forward_price.proofs.PricingFacts.{next_sheet-next}
-use Rattle.register_machine.specs.first_path.PathJournal.{Buy, Purchase, path_last_moment, classes_opened, purchase_in, purchase_of, purchases, sheets}
+use Rattle.register_desk.specs.first_path.PathJournal.{Buy, Purchase, path_last_moment, classes_opened, purchase_in, purchase_of, purchases, sheets}
 use Rattle.register_machine.specs.journal.Journals.{Journal}
-use Rattle.register_machine.specs.first_path.PathReplay.{path_positions, priced_by, priced_purchases}
-use Rattle.register_machine.specs.first_path.PathAnswers.{PathAnswer, kept, path_refusal, repeats_class, is_built_class, path_has_calendar, is_same_sheet, is_built_sheet, fault_now, path_event, path_append, path_has_reference, first_purchase, same_buy, path_order, purchase_reply, is_built_purchase, path_due, new_purchase_answer, buy_after, buy_answer, order_answer, class_answer, turn_answer, sheet_after, show_answer, path_answer}
-use Rattle.register_machine.specs.first_path.PathScript.{PathRun, ask_answer, path_item_answer, step, start, run_of}
-use Rattle.register_machine.specs.first_path.PathLaws.{PathRepeatsItsFirst, IsOnce, IsPathForwardPriced}
+use Rattle.register_desk.specs.first_path.PathReplay.{path_positions, priced_by, priced_purchases}
+use Rattle.register_desk.specs.first_path.PathAnswers.{PathAnswer, kept, path_refusal, repeats_class, is_built_class, path_has_calendar, is_same_sheet, is_built_sheet, fault_now, path_event, path_append, path_has_reference, first_purchase, same_buy, path_order, purchase_reply, is_built_purchase, path_due, new_purchase_answer, buy_after, buy_answer, order_answer, class_answer, turn_answer, sheet_after, show_answer, path_answer}
+use Rattle.register_desk.specs.first_path.PathScript.{PathRun, ask_answer, path_item_answer, step, start, run_of}
+use Rattle.register_desk.specs.first_path.PathLaws.{PathRepeatsItsFirst, IsOnce, IsPathForwardPriced}
 
 pub repeats : (journal : Journal) (buy : Buy) (first : Purchase) → PathRepeatsItsFirst journal buy first
 repeats journal buy first known same now is_operator =
