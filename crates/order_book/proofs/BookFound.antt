@@ -57,6 +57,15 @@ got-order orders events journal account ref_no found events_are kept found_is =
     (sym (position-of-map (λ (name : OrderName). same_name name (record { account = account; ref_no = ref_no })) name_of orders.rows.items)
     ∙ (sym (kept.names.places (record { account = account; ref_no = ref_no })) ∙ sym found_is)))
 
+pub got-order-place : (orders : Orders) (events : List Event) (journal : Journal) (account ref_no : ℕ) (found : Option ℕ)
+    → events ≡ journal → KeepsOrders orders events → found ≡ get same_name orders.index.places (record { account = account; ref_no = ref_no })
+    → found ≡ position (λ row. is_named account ref_no row.order) (orders_of journal)
+got-order-place orders events journal account ref_no found events_are kept found_is =
+    found_is
+    ∙ (kept.names.places (record { account = account; ref_no = ref_no })
+    ∙ (position-of-map (λ (name : OrderName). same_name name (record { account = account; ref_no = ref_no })) name_of orders.rows.items
+    ∙ ap (position (λ (row : OrderRow). is_named account ref_no row.order)) (kept.rows ∙ ap orders_of events_are)))
+
 pub got-last : (orders : Orders) (events : List Event) (journal : Journal) (account : ℕ) (found : Option ℕ)
     → events ≡ journal → KeepsOrders orders events → found ≡ get nat_eq orders.index.last account
     → found ≡ last_place (is_order_of account) (orders_of journal)

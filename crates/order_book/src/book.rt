@@ -8,7 +8,7 @@ ghost use Rattle.order_book.specs.LastPlaces.{is_order_of, last_place};
 ghost use Rattle.register_machine.specs.journal.Choices.{last_of};
 ghost use Rattle.register_machine.specs.journal.Journals.{last_moment, with_event};
 ghost use Rattle.register_machine.specs.journal.Kinds.{accounts_of, calendars_of, class_in, classes_of, dealer_in, dealers_of, household_in, households_of};
-ghost use Rattle.register_machine.specs.pricing.CorrectedOrders.{order_named, orders_of};
+ghost use Rattle.register_machine.specs.pricing.CorrectedOrders.{is_named, order_named, orders_of};
 ghost use Rattle.register_machine.specs.pricing.DividendRates.{fixes_rate, rates_of};
 ghost use Rattle.register_machine.specs.rules.Callers.{dealer_with_key, household_with_key};
 ghost use Rattle.register_machine.specs.rules.Limits.{is_of_account};
@@ -218,6 +218,14 @@ impl OrderBook {
             Some(place) => item_at(self.indexes.orders.rows(), place),
             None => None,
         }
+    }
+
+    /// The place among all orders of the one that an account calls so, struck or not; `None` exactly where there is none.
+    pub fn order_place(&self, account: u32, ref_no: u64) -> Option<usize>
+        ensures { result ≡ position (λ row. is_named account ref_no row.order)
+            (orders_of self.now.journal) }
+    {
+        self.indexes.orders.place(OrderName { account, ref_no })
     }
 
     /// All orders as corrected, in the order of their first events.
