@@ -1,0 +1,6 @@
+//! The trial of a correction: it reopens the households that it can reach, and tells the first order that it breaks.
+#![tactic(auto)]
+
+mod trial;
+
+pub use crate::trial::{Tried, try_correction};

@@ -1,0 +1,2 @@
+-- what the books answer to a request
+pub mod Answered

@@ -1,0 +1,6 @@
+-- when the books are those of a journal
+pub mod BooksOfJournals
+-- what a sheet or a correction makes of the ledger
+pub mod LedgerChanges
+-- when an event is ready to be noted in the books
+pub mod ReadyChanges

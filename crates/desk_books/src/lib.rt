@@ -1,0 +1,10 @@
+//! What the desk keeps of a journal, and how an event changes it: what takes memory is made before, and to apply it takes none.
+#![tactic(auto)]
+
+mod applying;
+mod books;
+mod change;
+mod preparing;
+
+pub use crate::books::DeskBooks;
+pub use crate::change::{EventChange, LedgerChange, OrderChange};

@@ -1,0 +1,2 @@
+-- what is asked and what is answered
+pub mod Replies

@@ -1,0 +1,2 @@
+-- what a sheet on trial costs
+pub mod Reached

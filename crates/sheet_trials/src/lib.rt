@@ -1,0 +1,6 @@
+//! The trial of a sheet: it is published, the ledger goes over it, and it is withdrawn.
+#![tactic(auto)]
+
+mod trial;
+
+pub use crate::trial::try_sheet;
