@@ -1,11 +1,8 @@
-//! The law of the empty register.
-ghost use Rattle.std.specs.Prelude.{◌≡◌, [], ℕ, List};
-ghost use Rattle.register_machine.specs.run.Scripts.{run_from, empty_run};
-ghost use Rattle.agent_events.specs.declared.request.Request.{Request};
-ghost use Rattle.std.specs.Prelude.{Bool};
+//! The law of the empty journal.
+ghost use Rattle.std.specs.Prelude.{◌≡◌, []};
+ghost use Rattle.register_machine.specs.journal.Journals.{last_moment};
 
-/// Behind no item nothing is in the journal.
-pub fn nothing_comes_of_no_item()
-    ensures { (built : Request → Bool) (operator : List ℕ)
-        → (run_from built operator empty_run []).journal ≡ [] }
+/// Before the first event the last moment is the first of all.
+pub fn empty_journals_end_at_the_first_moment()
+    ensures { last_moment [] ≡ 0 }
 {}
