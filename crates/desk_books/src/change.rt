@@ -34,7 +34,7 @@ pub struct EventChange {
     pub tables: TableChange,
     pub orders: OrderChange,
     pub ledger: Option<LedgerChange>,
-    never: Never,
+    pub(crate) never: Never,
 }
 
 // stand-in of the skeleton
