@@ -8,7 +8,7 @@ ghost use Rattle.agent_cli.specs.Runs.{AppendsFront, CountsWrite, lines_of};
 
 use agent_edge::{Sink, SinkFault, write_whole};
 use agent_events::{Refusal, Reply};
-use agent_http::{Ask, Item, reply_line, script_items};
+use agent_http::{Ask, Item, reply_line, path_items};
 use money_units::{Moment, NoMemory};
 use register_desk::Desk;
 use std::alloc::Global;
@@ -150,6 +150,6 @@ pub fn answer_script<O: Sink>(
     ensures counts { CountsWrite result (O.faults out.old) (O.faults out.new) }
     ensures never_falls { O.faults out.old ≤ O.faults out.new }
 {
-    let items = script_items(alloc, script)?;
+    let items = path_items(alloc, script)?;
     answer_items(alloc, operator, items.as_slice(), out)
 }

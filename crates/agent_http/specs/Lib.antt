@@ -1,0 +1,2 @@
+-- what an item of a script is in the definitions
+pub mod Seen

@@ -1,50 +1,83 @@
 //! The items of a script.
-ghost use Rattle.std.specs.Prelude.{◌≡◌, map, IfOk};
+ghost use Rattle.std.specs.Prelude.{◌≡◌, map, IfOk, Result};
 ghost use Rattle.csv.specs.Reading.{records, default_config, strip_bom};
 ghost use Rattle.agent_events.specs.Forms.{is_key_text};
-ghost use Rattle.agent_events.specs.Forms as form;
+ghost use Rattle.agent_events.specs.Items.{asked_by, script_item};
+ghost use Rattle.agent_http.specs.Seen.{item_seen};
 
-use crate::verb_forms::ask_of;
-use agent_events::{Item, Items, KeyText};
+use agent_events::{KeyText, Request};
 use csv_rows::{Fields, records_of, slices_of};
-use money_units::{NoMemory, all_visible};
-use request_fields::moment_of;
+use money_units::{List, Moment, NoMemory, all_visible};
+use request_fields::{FormFault, asked_by, moment_of};
 use std::alloc::Global;
+
+/// An item of a script, whichever verb it asks.
+#[derive(Debug, Drop)]
+pub enum ScriptItem {
+    /// A record that has no moment, key and verb, or whose moment or key isn't in its form.
+    Bad,
+    Good {
+        moment: Moment,
+        key: KeyText,
+        /// What is asked, or the place of the first field that isn't in its form.
+        asked: Result<Request, u8>,
+    },
+}
+
+/// The items of a script in order.
+pub type ScriptItems = List<ScriptItem>;
 
 /// The items of a script in order: each record of the text is a moment, a key, a verb and the verb's fields. A record
 /// of fewer fields, or whose moment or key isn't in its form, is a bad item.
-pub fn script_items(alloc: Global, bytes: &[u8]) -> Result<Items, NoMemory>
+pub fn script_items(alloc: Global, bytes: &[u8]) -> Result<ScriptItems, NoMemory>
     ensures { IfOk result
-        (λ items. items ≡ map form.item_of (records default_config (strip_bom bytes.now))) }
+        (λ items. map item_seen items
+        ≡ map script_item (records default_config (strip_bom bytes.now))) }
 {
     let rows = records_of(alloc, bytes)?;
-    let mut items = Items::new(alloc);
+    let mut items = ScriptItems::new(alloc);
     for row in &rows {
         items.push(item_of(alloc, row)?)?;
     }
     Ok(items)
 }
 
-fn item_of(alloc: Global, row: &Fields) -> Result<Item, NoMemory>
-    ensures { IfOk result (λ item. item ≡ form.item_of row.now) }
+fn item_of(alloc: Global, row: &Fields) -> Result<ScriptItem, NoMemory>
+    ensures { IfOk result (λ item. item_seen item ≡ script_item row.now) }
 {
     let texts = slices_of(alloc, row.texts())?;
     if texts.len() < 3 {
-        return Ok(Item::Bad);
+        return Ok(ScriptItem::Bad);
     }
     let Some(moment) = moment_of(texts[0]) else {
-        return Ok(Item::Bad);
+        return Ok(ScriptItem::Bad);
     };
     if !is_key_text(texts[1]) {
-        return Ok(Item::Bad);
+        return Ok(ScriptItem::Bad);
     }
     let key = KeyText::from_slice(alloc, texts[1])?;
-    let ask = ask_of(alloc, texts[2], &texts[3..])?;
-    Ok(Item::Good { moment, key, ask })
+    let asked = what_is_asked(alloc, texts[2], &texts[3..])?;
+    Ok(ScriptItem::Good { moment, key, asked })
+}
+
+// What a verb asks by its fields, or the place of the first field that isn't in its form.
+fn what_is_asked(
+    alloc: Global,
+    verb: &[u8],
+    fields: &[&[u8]],
+) -> Result<Result<Request, u8>, NoMemory>
+    ensures { IfOk result (λ asked. asked
+        ≡ asked_by verb.now (map (λ text. text.now) fields.now)) }
+{
+    match asked_by(alloc, verb, fields) {
+        Ok(request) => Ok(Ok(request)),
+        Err(FormFault::Place(place)) => Ok(Err(place)),
+        Err(FormFault::NoMemory) => Err(NoMemory),
+    }
 }
 
 // At most 64 visible bytes.
-fn is_key_text(key: &[u8]) -> bool
+pub(crate) fn is_key_text(key: &[u8]) -> bool
     ensures { result ≡ is_key_text key.now }
 {
     key.len() <= 64 && all_visible(key)

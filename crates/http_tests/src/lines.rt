@@ -4,7 +4,7 @@ use agent_events::{
     ClassGains, CloseForm, DealerBooks, Identifier, Minimum, OrderReply, OrderState, PositionText,
     Positions, Reference, Refusal, Reply, Request, TraceReply,
 };
-use agent_http::{Ask, Fields, Item, append_line, records_of, reply_line, script_items};
+use agent_http::{Ask, Fields, Item, append_line, records_of, reply_line, path_items};
 use fund_calendar::Day;
 use money_units::{Bytes, Cents, Mils, Moment, print_number};
 use std::alloc::Global;
@@ -126,7 +126,7 @@ fn verb(request: &Request) -> &'static [u8] {
 
 #[test]
 fn a_script_is_read_as_its_items(rt: HostRuntime) -> Result<(), Fail> {
-    let items = script_items(rt.alloc(), SCRIPT)?;
+    let items = path_items(rt.alloc(), SCRIPT)?;
     let mut words = Vec::new(rt.alloc());
     for item in items.as_slice() {
         word(item, &mut words)?;
@@ -137,7 +137,7 @@ fn a_script_is_read_as_its_items(rt: HostRuntime) -> Result<(), Fail> {
 
 #[test]
 fn a_purchase_has_the_values_of_its_fields(rt: HostRuntime) -> Result<(), Fail> {
-    let items = script_items(
+    let items = path_items(
         rt.alloc(),
         b"1719838800,op-desk000001,buy,101,7,14,10000.50",
     )?;
