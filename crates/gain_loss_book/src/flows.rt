@@ -139,6 +139,7 @@ impl FlowRows {
         ensures whole { result ≡ whole_flow self.now.rows }
         ensures once { IsDistinct nat_eq (keys_of self.now.rows) }
     {
+        let _numbers = self.rows.keys();
         self.whole
     }
 }
