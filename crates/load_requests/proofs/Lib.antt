@@ -1,0 +1,8 @@
+pub mod CalendarFacts
+pub mod CountFacts
+pub mod LoadOnLiterals
+pub mod NumberFacts
+pub mod PricingFacts
+pub mod ProgressFacts
+pub mod StageFacts
+pub mod TurnFacts
