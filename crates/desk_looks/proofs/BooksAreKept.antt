@@ -5,7 +5,8 @@ use Rattle.agent_events.specs.declared.order.Party.{Party}
 use Rattle.agent_events.specs.declared.reply.BooksReply.{BooksReply}
 use Rattle.agent_events.specs.declared.reply_lists.ClassBooks.{ClassBooks}
 use Rattle.agent_events.specs.declared.reply_lists.DealerBooks.{DealerBooks}
-use Rattle.desk_looks.specs.KeptBooks.{KeepsCash, KeepsShares, books_kept, class_kept, dealer_kept}
+use Rattle.desk_looks.proofs.HoldersTogether.{holders_together}
+use Rattle.desk_looks.specs.KeptBooks.{HasHoldersOnce, KeepsCash, KeepsShares, books_kept, class_kept, dealer_kept}
 use Rattle.desk_looks.specs.declared.kept_books.ClassShares.{ClassShares}
 use Rattle.gain_loss_book.specs.Posted.{Books, cash_held}
 use Rattle.register_machine.specs.corrections.Cash.{Movement, balance, outstanding}
@@ -39,10 +40,10 @@ books-same a b classes underwriter agent dealers holders =
     ∙ (ap {B = BooksReply} (λ x. record { classes = b.classes; underwriter = b.underwriter; agent = b.agent; dealers = x; holders = a.holders }) dealers
     ∙ ap {B = BooksReply} (λ x. record { classes = b.classes; underwriter = b.underwriter; agent = b.agent; dealers = b.dealers; holders = x }) holders)))
 
-pub kept-are : (situation : Situation) (register : Register) (movements : List Movement) (books : Books) (classes : List ClassShares) (dealers : List ℕ) → KeepsCash situation movements books → KeepsShares situation register classes → dealers ≡ dealer_numbers_of situation.journal → books_kept books classes dealers ≡ books_by situation register movements
-kept-are situation register movements books classes dealers cash shares numbers =
+pub kept-are : (situation : Situation) (register : Register) (movements : List Movement) (books : Books) (classes : List ClassShares) (dealers : List ℕ) → HasHoldersOnce books → KeepsCash situation movements books → KeepsShares situation register classes → dealers ≡ dealer_numbers_of situation.journal → books_kept books classes dealers ≡ books_by situation register movements
+kept-are situation register movements books classes dealers once cash shares numbers =
     books-same (books_kept books classes dealers) (books_by situation register movements)
     (of-classes books movements register classes cash.balances shares.mils ∙ ap (map (class_books register movements)) shares.numbers)
     (cash.balances Party.Underwriter) (cash.balances Party.Agent)
     (of-dealers books movements dealers cash.balances ∙ ap (map (dealer_books movements)) numbers)
-    cash.holders
+    (holders_together situation.book.accounts movements books once cash.holders (λ account. cash.balances (Party.Holder account)))

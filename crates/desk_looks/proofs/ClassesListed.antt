@@ -167,7 +167,7 @@ any-placed q n ns is = elim (eqb_tells q n) [
       ] refl)
 ]
 
-any-rising : (q : ℕ) (ordered ns : List ℕ) → (list_any (nat_eq q) ordered || list_any (nat_eq q) ns) ≡ true → list_any (nat_eq q) (fold (λ placed n. in_its_place n placed) ordered ns) ≡ true
+pub any-rising : (q : ℕ) (ordered ns : List ℕ) → (list_any (nat_eq q) ordered || list_any (nat_eq q) ns) ≡ true → list_any (nat_eq q) (fold (λ placed n. in_its_place n placed) ordered ns) ≡ true
 any-rising q ordered [] is = or-none (list_any (nat_eq q) ordered) is
   where
     or-none : (b : Bool) → (b || false) ≡ true → b ≡ true
@@ -199,7 +199,7 @@ rising-behind n (x ∷ xs) ys up low over high =
     (All-cons (λ m. x < m) n ys first (All-weaker (λ m. n < m) (λ m. x < m) (λ m greater. omega (arith, first, greater)) ys high)))
     (rising-behind n xs ys (AllPairs-tail (λ a b. a < b) x xs up) (All-tail (λ m. m < n) x xs low) over high)
 
-rising-placed : (n : ℕ) (ns : List ℕ) → AreRising ns → AreRising (in_its_place n ns)
+pub rising-placed : (n : ℕ) (ns : List ℕ) → AreRising ns → AreRising (in_its_place n ns)
 rising-placed n ns up =
     rising-behind n (filter (λ other. nat_lt other n) ns) (filter (λ other. nat_lt n other) ns)
     (AllPairs-filter (λ a b. a < b) (λ other. nat_lt other n) ns up)

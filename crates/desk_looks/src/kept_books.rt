@@ -6,7 +6,7 @@ ghost use Rattle.register_machine.specs.corrections.Gains.{dealer_numbers_of};
 ghost use Rattle.register_machine.specs.queries.Books.{books_by};
 ghost use Rattle.register_machine.specs.replay.Positions.{Register};
 ghost use Rattle.register_machine.specs.rules.Situations.{Situation};
-ghost use Rattle.desk_looks.specs.KeptBooks.{KeepsCash, KeepsShares, books_kept, class_kept, dealer_kept};
+ghost use Rattle.desk_looks.specs.KeptBooks.{HasHoldersOnce, KeepsCash, KeepsShares, books_kept, class_kept, dealer_kept};
 
 use agent_events::{
     BooksOfClasses, BooksOfDealers, BooksReply, ClassBooks, DealerBooks, Identifier, Party, Reply,
@@ -51,7 +51,8 @@ fn kept_books(
     dealers: &[Identifier],
     cash: &CashBook,
 ) -> Result<BooksReply, NoMemory>
-    ensures { IfOk result (λ books. books ≡ books_kept cash.now classes.now dealers.now) }
+    ensures kept { IfOk result (λ books. books ≡ books_kept cash.now classes.now dealers.now) }
+    ensures once { IfOk result (λ books. HasHoldersOnce cash.now) }
 {
     let classes = books_of_classes(alloc, classes, cash)?;
     let dealers = books_of_dealers(alloc, dealers, cash)?;

@@ -38,8 +38,8 @@ pub fn classes_of_lawful_journals_list_holdings()
     ensures { (journal : Journal) (household : ℕ) → LawfulListsHoldings journal household }
 {}
 
-/// The cash of all holders that is kept is the sum of what movements bring the holders of all accounts, where each row of the
-/// holders' cash is that of one account.
+/// The cash of all holders that is kept is the sum of what movements bring the holders of all accounts, where no holder has two
+/// rows, the accounts have different numbers, and movements leave no other holder anything.
 #[tactic(auto, using(crate::proofs::HoldersTogether::holders_together))]
 pub fn holders_cash_is_their_sum()
     ensures { (accounts : List AccountForm) (movements : List Movement) (books : Books)

@@ -1,7 +1,6 @@
 -- The replies of the books: to a look that breaks no rule, to a repeat, and to an event.
-use Rattle.std.specs.Prelude.{List, None, Option, Some, ℕ, ◌≡◌}
+use Rattle.std.specs.Prelude.{None, Option, Some, ℕ, ◌≡◌}
 use Rattle.agent_events.specs.Events.{Event}
-use Rattle.agent_events.specs.declared.reply.Reply.{Reply}
 use Rattle.agent_events.specs.declared.request.Request.{Request}
 use Rattle.agent_events.specs.declared.verdict.Caller.{Caller}
 use Rattle.agent_events.specs.declared.verdict.Verdict.{Verdict}

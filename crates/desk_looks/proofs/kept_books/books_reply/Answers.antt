@@ -6,4 +6,4 @@ use Rattle.desk_looks.proofs.kept_books.books_reply.Goals as goal
 pub returns-clause-books : goal.returns-clause-books
 returns-clause-books c = λ situation register movements cash shares numbers.
     ap Reply.Books
-    (c.in_ok-books.ensures ∙ kept-are situation register movements c.args.cash.now c.args.classes.now c.args.dealers.now cash shares numbers)
+    (c.in_ok-books.ensures.kept ∙ kept-are situation register movements c.args.cash.now c.args.classes.now c.args.dealers.now c.in_ok-books.ensures.once cash shares numbers)
