@@ -1,155 +1,220 @@
-//! The command `apply`: it answers each item of a script with one line.
-ghost use Rattle.std.specs.Prelude.{◌≡◌, ◌≤◌, bytes_eq, IfOk, OnOk, OnErr};
-ghost use Rattle.std.specs.Io.KnownBytes.{Appends};
-ghost use Rattle.agent_edge.specs.Counts.{Rose};
-ghost use Rattle.register_desk.specs.first_path.PathAnswers.{kept};
-ghost use Rattle.register_desk.specs.first_path.PathScript.{ask_answer, path_item_answer as item_answer, line_of, step, run_of};
-ghost use Rattle.agent_cli.specs.Runs.{AppendsFront, CountsWrite, lines_of};
+//! The command `apply`: it answers each item of a script with one line, behind what is kept.
+ghost use Rattle.std.specs.Prelude.{◌≡◌, ◌≤◌, ◌++◌, ℕ, nat_lt, IfOk, IsTrue, OnErr, OnOk};
+ghost use Rattle.agent_cli.specs.Runs.{CountsEnds, EndsAs, answer_behind, items_seen};
+ghost use Rattle.agent_events.specs.Items.{ScriptItem as ItemSeen};
+ghost use Rattle.agent_events.specs.declared.reply.Reply.{Reply as Said};
+ghost use Rattle.agent_http.specs.Seen.{item_seen};
+ghost use Rattle.agent_keeper.specs.Calls.{Counts};
+ghost use Rattle.desk_answers.specs.Answered.{IsCaller, events_of};
+ghost use Rattle.register_desk.specs.Rows.{TellsRowsOf};
+ghost use Rattle.register_laws.specs.Lawful.{own_at};
+ghost use Rattle.register_machine.specs.journal.Journals.{Journal, last_moment};
+ghost use Rattle.register_machine.specs.run.Answers.{answer};
+ghost use Rattle.register_machine.specs.run.Scripts as run;
 
-use agent_edge::{Sink, SinkFault, write_whole};
-use agent_events::{Refusal, Reply};
-use agent_http::{Ask, Item, reply_line, path_items};
+use agent_edge::{Sink, write_whole};
+use agent_events::{Caller, Refusal, Reply, Request};
+use agent_http::{ScriptItem, reply_line, script_items};
+use agent_keeper::{KeepFault, Keeper};
+use household_fold::Steps;
 use money_units::{Moment, NoMemory};
-use register_desk::Desk;
+use register_desk::{Desk, LedgerFault};
 use std::alloc::Global;
+use std::sync::ledger::Ledger as StepLedger;
 
 /// Why the answers of a script end early.
 #[derive(Clone, Copy, Debug, PartialEq, Eq)]
 pub enum AnswerFault {
-    /// A line couldn't be written in full.
+    /// A line couldn't be written in full; its item is answered and kept.
     Write,
+    /// The keeper failed; the item in hand is not answered.
+    Keeper,
+    /// Memory was wanting; the item in hand is not answered.
     NoMemory,
 }
 
-impl From<NoMemory> for AnswerFault {
-    ghost use Rattle.agent_cli.specs.declared.apply.AnswerFault.TheVariants.{NoMemory as no_memory};
-
-    ghost from_gives = { λ _ fault. fault ≡ no_memory };
-
-    fn from(_fault: NoMemory) -> AnswerFault {
-        AnswerFault::NoMemory
-    }
-}
-
-impl From<SinkFault> for AnswerFault {
-    ghost use Rattle.agent_cli.specs.declared.apply.AnswerFault.TheVariants.{Write as write};
-
-    ghost from_gives = { λ _ fault. fault ≡ write };
-
-    fn from(_fault: SinkFault) -> AnswerFault {
-        AnswerFault::Write
-    }
-}
-
-fn same_key(key: &[u8], operator: &[u8]) -> bool
-    ensures { result ≡ bytes_eq key.now operator.now }
-{
-    key == operator
-}
-
-fn answer_ask(
-    desk: &mut Desk,
-    now: &Moment,
-    is_operator: bool,
-    ask: &Ask,
-) -> Result<Reply, NoMemory>
-    ensures answered { IfOk result (λ said. kept desk.new said ≡ ask_answer desk.old now.now is_operator ask.now) }
-    ensures err { OnErr result (desk.new ≡ desk.old) }
-{
-    match ask {
-        Ask::Request(request) => desk.answer(now, is_operator, request),
-        Ask::BadForm(place) => Ok(Reply::Refused(Refusal::BadForm(*place))),
-        Ask::Unbuilt => Ok(Reply::Refused(Refusal::Unbuilt)),
-    }
-}
-
-fn answer_item(operator: &[u8], desk: &mut Desk, item: &Item) -> Result<Reply, NoMemory>
-    ensures answered { IfOk result (λ said. kept desk.new said ≡ item_answer operator.now desk.old item.now) }
-    ensures err { OnErr result (desk.new ≡ desk.old) }
-{
-    match item {
-        Item::Bad => Ok(Reply::Refused(Refusal::BadForm(0))),
-        Item::Good { moment, key, ask } => {
-            let last = desk.last_moment();
-            if moment.number() < last.number() {
-                return Ok(Reply::Refused(Refusal::StampBack(last)));
-            }
-            let is_operator = same_key(key.as_slice(), operator);
-            answer_ask(desk, moment, is_operator, ask)
-        }
-    }
-}
-
-fn line(alloc: Global, reply: &Reply) -> Result<Vec<u8>, NoMemory>
-    ensures { IfOk result (λ line. line.items ≡ line_of reply.now) }
+fn line_of(alloc: Global, reply: &Reply) -> Result<Vec<u8>, NoMemory>
+    ensures { IfOk result (λ line. line.items ≡ run.reply_line reply.now) }
 {
     let mut line = Vec::new(alloc);
     reply_line(alloc, reply, &mut line)?;
     Ok(line)
 }
 
-// Answers one item with its line.
-fn answer_one<O: Sink>(
+// Answers a request with its line, and keeps its event before the line is handed out.
+fn answer_request<K: Keeper, L: StepLedger>(
+    alloc: Global,
+    desk: &mut Desk,
+    keeper: &mut K,
+    moment: Moment,
+    caller: Caller,
+    request: &Request,
+    steps: &mut Steps<L>,
+) -> Result<Vec<u8>, KeepFault>
+    requires attached { IsTrue (K.is_attached keeper.old) }
+    requires told { TellsRowsOf (K.tells keeper.old) desk.old.book.journal }
+    requires moment { last_moment desk.old.book.journal ≤ moment }
+    requires caller { IsCaller desk.old.book.journal caller }
+    ensures line { IfOk result (λ line. line.items
+        ≡ run.reply_line (answer (own_at desk.old.book.journal moment caller) request.now).reply) }
+    ensures journal { OnOk result (desk.new.book.journal
+        ≡ desk.old.book.journal ++
+        (answer (own_at desk.old.book.journal moment caller) request.now).events) }
+    ensures err { OnErr result (desk.new.book.journal ≡ desk.old.book.journal) }
+    ensures told { TellsRowsOf (K.tells keeper.new) desk.new.book.journal }
+    ensures attached { IsTrue (K.is_attached keeper.new) }
+    ensures counted { Counts (K.faults keeper.old) (K.faults keeper.new) result }
+    ensures was_honest { K.is_honest keeper.new → K.is_honest keeper.old }
+{
+    let prepared = match desk.prepare(keeper, moment, caller, request, steps) {
+        Ok(prepared) => prepared,
+        Err(LedgerFault::NoMemory) => return Err(KeepFault::NoMemory),
+    };
+    let line = line_of(alloc, prepared.reply())?;
+    desk.commit(keeper, prepared)?;
+    Ok(line)
+}
+
+fn refusal_line(alloc: Global, refusal: Refusal) -> Result<Vec<u8>, KeepFault>
+    ensures line { IfOk result (λ line. line.items ≡ run.reply_line (Said.Refused refusal)) }
+    ensures counted { (count : ℕ) → Counts count count result }
+{
+    Ok(line_of(alloc, &Reply::Refused(refusal))?)
+}
+
+fn is_before(moment: Moment, last: Moment) -> bool
+    ensures { result ≡ nat_lt moment last }
+{
+    moment.number() < last.number()
+}
+
+// Answers what is asked at a moment with a key, with its line.
+fn answer_at<K: Keeper, L: StepLedger>(
     alloc: Global,
     operator: &[u8],
     desk: &mut Desk,
-    item: &Item,
-    out: &mut O,
-) -> Result<(), AnswerFault>
-    ensures journal { OnOk result (desk.new ≡ (item_answer operator.now desk.old item.now).journal) }
-    ensures line { OnOk result
-        (Appends (O.contents out.old) (O.contents out.new)
-        (line_of (item_answer operator.now desk.old item.now).reply)) }
-    ensures front { OnErr result
-        (AppendsFront (O.contents out.old) (O.contents out.new)
-        (line_of (item_answer operator.now desk.old item.now).reply)) }
-    ensures counts { CountsWrite result (O.faults out.old) (O.faults out.new) }
-    ensures never_falls { O.faults out.old ≤ O.faults out.new }
+    keeper: &mut K,
+    moment: Moment,
+    key: &[u8],
+    asked: &Result<Request, u8>,
+    steps: &mut Steps<L>,
+) -> Result<Vec<u8>, KeepFault>
+    requires attached { IsTrue (K.is_attached keeper.old) }
+    requires told { TellsRowsOf (K.tells keeper.old) desk.old.book.journal }
+    ensures line { IfOk result (λ line. line.items
+        ≡ run.reply_line (answer_behind operator.now desk.old.book.journal
+        (ItemSeen.Good moment key.now asked.now)).reply) }
+    ensures journal { OnOk result (desk.new.book.journal ≡ desk.old.book.journal
+        ++ (answer_behind operator.now desk.old.book.journal
+        (ItemSeen.Good moment key.now asked.now)).events) }
+    ensures err { OnErr result (desk.new.book.journal ≡ desk.old.book.journal) }
+    ensures told { TellsRowsOf (K.tells keeper.new) desk.new.book.journal }
+    ensures attached { IsTrue (K.is_attached keeper.new) }
+    ensures counted { Counts (K.faults keeper.old) (K.faults keeper.new) result }
+    ensures was_honest { K.is_honest keeper.new → K.is_honest keeper.old }
 {
-    let reply = answer_item(operator, desk, item)?;
-    let line = line(alloc, &reply)?;
-    write_whole(out, &line)?;
-    Ok(())
+    let last = desk.last_moment();
+    if is_before(moment, last) {
+        return refusal_line(alloc, Refusal::StampBack(last));
+    }
+    match asked {
+        Err(place) => refusal_line(alloc, Refusal::BadForm(*place)),
+        Ok(request) => {
+            let caller = desk.caller_of(key, operator);
+            answer_request(alloc, desk, keeper, moment, caller, request, steps)
+        }
+    }
 }
 
-// Answers the items in turn, from an empty journal on.
-fn answer_items<O: Sink>(
+// Answers one item with its line.
+fn answer_item<K: Keeper, L: StepLedger>(
     alloc: Global,
     operator: &[u8],
-    items: &[Item],
-    out: &mut O,
-) -> Result<(), AnswerFault>
-    ensures lines { OnOk result
-        (Appends (O.contents out.old) (O.contents out.new)
-        (run_of operator.now items.now).lines) }
-    ensures front { OnErr result
-        (AppendsFront (O.contents out.old) (O.contents out.new)
-        (run_of operator.now items.now).lines) }
-    ensures counts { CountsWrite result (O.faults out.old) (O.faults out.new) }
-    ensures never_falls { O.faults out.old ≤ O.faults out.new }
+    desk: &mut Desk,
+    keeper: &mut K,
+    item: &ScriptItem,
+    steps: &mut Steps<L>,
+) -> Result<Vec<u8>, KeepFault>
+    requires attached { IsTrue (K.is_attached keeper.old) }
+    requires told { TellsRowsOf (K.tells keeper.old) desk.old.book.journal }
+    ensures line { IfOk result (λ line. line.items
+        ≡ run.reply_line (answer_behind operator.now desk.old.book.journal
+        (item_seen item.now)).reply) }
+    ensures journal { OnOk result (desk.new.book.journal
+        ≡ desk.old.book.journal ++
+        (answer_behind operator.now desk.old.book.journal (item_seen item.now)).events) }
+    ensures err { OnErr result (desk.new.book.journal ≡ desk.old.book.journal) }
+    ensures told { TellsRowsOf (K.tells keeper.new) desk.new.book.journal }
+    ensures attached { IsTrue (K.is_attached keeper.new) }
+    ensures counted { Counts (K.faults keeper.old) (K.faults keeper.new) result }
+    ensures was_honest { K.is_honest keeper.new → K.is_honest keeper.old }
 {
-    let mut desk = Desk::new(alloc)?;
+    match item {
+        ScriptItem::Bad => refusal_line(alloc, Refusal::BadForm(0)),
+        ScriptItem::Good { moment, key, asked } => {
+            answer_at(alloc, operator, desk, keeper, *moment, key.as_slice(), asked, steps)
+        }
+    }
+}
+
+// Answers the items in turn. A line is written before the next item is begun.
+fn answer_items<K: Keeper, O: Sink, L: StepLedger>(
+    alloc: Global,
+    operator: &[u8],
+    desk: &mut Desk,
+    keeper: &mut K,
+    items: &[ScriptItem],
+    out: &mut O,
+    steps: &mut Steps<L>,
+) -> Result<(), AnswerFault>
+    requires attached { IsTrue (K.is_attached keeper.old) }
+    requires told { TellsRowsOf (K.tells keeper.old) desk.old.book.journal }
+    ensures ends { EndsAs operator.now desk.old.book.journal (items_seen items.now)
+        (K.tells keeper.new)
+        (O.contents out.old) (O.contents out.new) result }
+    ensures counts { CountsEnds (K.faults keeper.old) (K.faults keeper.new) (O.faults out.old)
+        (O.faults out.new) result }
+    ensures grown { (more : Journal) × (desk.new.book.journal ≡ desk.old.book.journal ++ more) }
+    ensures told { TellsRowsOf (K.tells keeper.new) desk.new.book.journal }
+    ensures was_honest { K.is_honest keeper.new → K.is_honest keeper.old }
+{
     for item in items {
-        answer_one(alloc, operator, &mut desk, item, out)?;
+        match answer_item(alloc, operator, desk, keeper, item, steps) {
+            Ok(line) => {
+                if write_whole(out, &line).is_err() {
+                    return Err(AnswerFault::Write);
+                }
+            }
+            Err(KeepFault::Failed) => return Err(AnswerFault::Keeper),
+            Err(KeepFault::NoMemory) => return Err(AnswerFault::NoMemory),
+        }
     }
     Ok(())
 }
 
-/// Answers the items of a script with their lines, in turn.
-pub fn answer_script<O: Sink>(
+/// Answers the items of a script with their lines, in turn, behind the journal of the desk.
+pub fn answer_script<K: Keeper, O: Sink, L: StepLedger>(
     alloc: Global,
     operator: &[u8],
+    desk: &mut Desk,
+    keeper: &mut K,
     script: &[u8],
     out: &mut O,
+    steps: &mut Steps<L>,
 ) -> Result<(), AnswerFault>
-    ensures lines { OnOk result
-        (Appends (O.contents out.old) (O.contents out.new) (lines_of operator.now script.now)) }
-    ensures front { OnErr result
-        (AppendsFront (O.contents out.old) (O.contents out.new)
-        (lines_of operator.now script.now)) }
-    ensures counts { CountsWrite result (O.faults out.old) (O.faults out.new) }
-    ensures never_falls { O.faults out.old ≤ O.faults out.new }
+    requires attached { IsTrue (K.is_attached keeper.old) }
+    requires told { TellsRowsOf (K.tells keeper.old) desk.old.book.journal }
+    ensures ends { EndsAs operator.now desk.old.book.journal (run.script_items script.now)
+        (K.tells keeper.new)
+        (O.contents out.old) (O.contents out.new) result }
+    ensures counts { CountsEnds (K.faults keeper.old) (K.faults keeper.new) (O.faults out.old)
+        (O.faults out.new) result }
+    ensures grown { (more : Journal) × (desk.new.book.journal ≡ desk.old.book.journal ++ more) }
+    ensures told { TellsRowsOf (K.tells keeper.new) desk.new.book.journal }
+    ensures was_honest { K.is_honest keeper.new → K.is_honest keeper.old }
 {
-    let items = path_items(alloc, script)?;
-    answer_items(alloc, operator, items.as_slice(), out)
+    match script_items(alloc, script) {
+        Ok(items) => answer_items(alloc, operator, desk, keeper, items.as_slice(), out, steps),
+        Err(NoMemory) => Err(AnswerFault::NoMemory),
+    }
 }

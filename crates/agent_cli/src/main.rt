@@ -1,7 +1,9 @@
 //! The program `agent`: the register and order desk of a mutual fund transfer agent.
 #![tactic(auto)]
+ghost use Rattle.std.specs.Prelude.{◌≡◌, ◌<◌};
 
 mod apply;
+mod opening;
 mod run;
 #[cfg(test)]
 mod tests;
@@ -9,10 +11,14 @@ mod words;
 
 use crate::run::{Status, no_memory, run};
 use agent_edge::{StdinSource, StdoutSink};
+use household_fold::Steps;
 use money_units::NoMemory;
+use sqlite_keeper::SqliteKeeper;
 use std::env;
 use std::io::ErrorKind;
+use std::marker::Brand;
 use std::process::ExitCode;
+use std::sync::ledger::{Blank, Ledger};
 
 // The words after the program's name; none, and so no command, where one of them isn't UTF-8.
 fn words_given(rt: &HostRuntime) -> Result<Vec<String>, NoMemory> {
@@ -32,12 +38,26 @@ fn words_given(rt: &HostRuntime) -> Result<Vec<String>, NoMemory> {
     Ok(words)
 }
 
-fn main(rt: HostRuntime) -> ExitCode {
+// The run over a file, standard input and standard output, whose steps count on this ledger.
+fn run_on<L: Ledger>(rt: HostRuntime, blank: Blank) -> Status
+    requires name { blank.name ≡ L.name }
+    requires parts { blank.parts ≡ L.parts }
+    requires some { 0 < blank.parts }
+{
+    let mut steps = Steps::<L>::new(blank);
     let mut input = StdinSource::new(rt.stdin());
     let mut out = StdoutSink::new(rt.stdout());
-    let Status(status) = match words_given(&rt) {
-        Ok(words) => run(rt.alloc(), &words, &mut input, &mut out),
+    let alloc = rt.alloc();
+    match words_given(&rt) {
+        Ok(words) => {
+            let mut keeper = SqliteKeeper::new(rt);
+            run(alloc, &words, &mut keeper, &mut input, &mut out, &mut steps)
+        }
         Err(NoMemory) => no_memory(&mut out),
-    };
+    }
+}
+
+fn main(rt: HostRuntime) -> ExitCode {
+    let Status(status) = run_on::<Brand>(rt, Blank::new(1));
     ExitCode::from(status)
 }

@@ -1,39 +1,57 @@
-//! What no clause says: that runs succeed with ample memory; and the statuses and bytes of runs in which a read, a write
-//! or the room of the sink fails at each place.
-ghost use Rattle.std.specs.Prelude.{◌≤◌};
+//! What no clause says: that runs succeed with ample memory, and the printed lines of a day.
+ghost use Rattle.std.specs.Prelude.{◌≡◌, ◌<◌};
 
 use crate::run::{Status, run};
 use agent_edge::{MemorySink, MemorySource};
+use agent_keeper::{Keeper, MemoryKeeper, SureKeeper};
+use household_fold::Steps;
 use std::alloc::{AllocError, Global};
+use std::marker::Brand;
+use std::sync::ledger::{Blank, Ledger};
 use std::test::Fail;
 
-const FIRST: &[u8] = b"1719835200,op-desk000001,class,14,1,3,INDEX-N,0,0,0.01,0.01,0.00:0,\n\
-1719838800,op-desk000001,buy,101,1,14,10000.00\n\
-1719867600,op-desk000001,sheet,1,1719864000,14:10.00\n\
-1719867700,op-desk000001,show,101\n";
+const PREAMBLE: &[u8] =
+    b"1719835200,op-desk000001,calendar,1,\"EST5EDT,M3.2.0,M11.1.0\",16:00,2024-01-01,\
+2026-12-31,2024-07-04 2024-11-28 2024-12-25\n\
+1719835200,op-desk000001,class,11,1,1,GROWTH-A,0,1,250.00,50.00,0.00:575 25000.00:500 \
+50000.00:450 100000.00:350 250000.00:250 500000.00:200 1000000.00:0,\n\
+1719835200,op-desk000001,class,12,1,1,GROWTH-B,7,1,0.01,0.01,0.00:0,500 400 300 200 100\n\
+1719835200,op-desk000001,class,13,1,2,INCOME-B,7,1,0.01,0.01,0.00:0,500 400 300 200 100\n\
+1719835200,op-desk000001,class,14,1,3,INDEX-N,0,0,0.01,0.01,0.00:0,\n\
+1719835200,op-desk000001,dealer,5,d-broker00005,21600\n\
+1719835200,op-desk000001,household,1,h-mary000001\n\
+1719835200,op-desk000001,household,2,h-omar000002\n\
+1719835200,op-desk000001,account,101,1,0,MARY DOE\n\
+1719835200,op-desk000001,account,102,1,0,MARY DOE IRA\n\
+1719835200,op-desk000001,account,103,2,5,OMAR ROE\n";
 
-const FIRST_LINES: &[u8] = b"ok,class,14\n\
-ok,order,101,1,1719838800,1719864000\n\
+const PREAMBLE_LINES: &[u8] = b"ok,calendar,1\nok,class,11\nok,class,12\nok,class,13\nok,class,\
+14\nok,dealer,5\n\
+ok,household,1\nok,household,2\nok,account,101\nok,account,102\nok,account,103\n";
+
+const FIRST: &[u8] = b"1719838800,h-mary000001,buy,101,1,11,10000.00\n\
+1719867600,op-desk000001,sheet,1,1719864000,11:10.00 12:10.00 13:20.00 14:10.00\n\
+1719867700,h-mary000001,show,101\n\
+1719867700,h-mary000001,trace,101,1\n";
+
+const FIRST_LINES: &[u8] = b"ok,order,101,1,1719838800,1719864000\n\
 ok,sheet,1\n\
-ok,show,101,14:1000.000:0.000:10000.00\n";
+ok,show,101,11:942.507:0.000:10000.00\n\
+ok,trace,101,1,filled,1719838800,1719864000,10.61,942.507,10000.00,574.93,0.000\n";
 
-const SECOND: &[u8] = b"1719835200,op-desk000001,class,14,1,3,INDEX-N,0,0,0.01,0.01,0.00:0,\n\
-1719838800,op-desk000001,buy,101,1,14,10000.00\n\
-1719867600,op-desk000001,sheet,1,1719864000,14:10.00\n\
-1719867700,op-desk000001,show,101\n\
-1719867800,op-desk000001,buy,101,1,14,10000.00\n\
-1719867800,op-desk000001,buy,101,1,14,9999.00\n\
-1720040400,op-desk000001,sheet,1,1720036800,14:10.00\n\
-1720040399,op-desk000001,show,101\n";
+// The same purchase again, with another amount, before the last moment, in a bad form, and for
+// an absent account.
+const SECOND: &[u8] = b"1719867800,h-mary000001,buy,101,1,11,10000.00\n\
+1719867800,h-mary000001,buy,101,1,11,9999.00\n\
+1719835199,op-desk000001,books\n\
+1719867800,op-desk000001,buy,101,2,11,1e4\n\
+1719867800,op-desk000001,show,999\n";
 
-const SECOND_LINES: &[u8] = b"ok,class,14\n\
-ok,order,101,1,1719838800,1719864000\n\
-ok,sheet,1\n\
-ok,show,101,14:1000.000:0.000:10000.00\n\
-ok,order,101,1,1719838800,1719864000\n\
+const SECOND_LINES: &[u8] = b"ok,order,101,1,1719838800,1719864000\n\
 no,4\n\
-no,12,1719950400,1\n\
-ok,show,101,14:1000.000:0.000:10000.00\n";
+no,20,1719867600\n\
+no,2,4\n\
+no,3,1\n";
 
 fn words_of(alloc: Global, texts: &[&str]) -> Result<Vec<String>, AllocError> {
     let mut words = Vec::new(alloc);
@@ -43,87 +61,72 @@ fn words_of(alloc: Global, texts: &[&str]) -> Result<Vec<String>, AllocError> {
     Ok(words)
 }
 
-// The status and the bytes written of a run over objects in memory.
-fn outcome(
+fn both(alloc: Global, first: &[u8], second: &[u8]) -> Result<Vec<u8>, AllocError> {
+    let mut bytes = Vec::from_slice(alloc, first)?;
+    bytes.extend_from_slice(second)?;
+    Ok(bytes)
+}
+
+// The status of a run over a keeper and the bytes that it wrote.
+fn outcome<K: Keeper, L: Ledger>(
     alloc: Global,
+    keeper: &mut K,
     script: &[u8],
-    piece: usize,
-    room: usize,
-    read_fails: &[u64],
-    write_fails: &[u64],
+    steps: &mut Steps<L>,
 ) -> Result<(u8, Vec<u8>), Fail> {
     let words = words_of(
         alloc,
-        &["apply", "--key=op-desk000001", "--store", "register.db"],
+        &["apply", "--store", "r", "--key", "op-desk000001"],
     )?;
-    let mut input = MemorySource::new(alloc, script, piece.max(1), read_fails)?;
-    let mut out = MemorySink::new(alloc, piece.max(1), room, write_fails)?;
-    let Status(status) = run(alloc, &words, &mut input, &mut out);
-    Ok((status, out.contents().to_vec(alloc)?))
+    let mut input = MemorySource::new(alloc, script, 4096, &[])?;
+    let mut out = MemorySink::new(alloc, 4096, 65536, &[])?;
+    let Status(status) = run(alloc, &words, keeper, &mut input, &mut out, steps);
+    Ok((status, Vec::from_slice(alloc, out.contents())?))
+}
+
+// A day in two runs over one store, the second with a repeat and refusals.
+fn a_day<L: Ledger>(alloc: Global, blank: Blank) -> Result<bool, Fail>
+    requires name { blank.name ≡ L.name }
+    requires parts { blank.parts ≡ L.parts }
+    requires some { 0 < blank.parts }
+{
+    let mut steps = Steps::<L>::new(blank);
+    let mut keeper = SureKeeper::new(alloc);
+    let first = both(alloc, PREAMBLE, FIRST)?;
+    let first_lines = both(alloc, PREAMBLE_LINES, FIRST_LINES)?;
+    let (status, lines) = outcome(alloc, &mut keeper, &first, &mut steps)?;
+    if status != 0 || lines.as_slice() != first_lines.as_slice() {
+        return Ok(false);
+    }
+    let (status, lines) = outcome(alloc, &mut keeper, SECOND, &mut steps)?;
+    Ok(status == 0 && lines.as_slice() == SECOND_LINES)
 }
 
 #[test]
-fn both_runs_are_answered_in_pieces_of_any_length(rt: HostRuntime) -> Result<(), Fail> {
-    for piece in [1usize, 7, 4096] {
-        let (status, bytes) = outcome(rt.alloc(), FIRST, piece, 4096, &[], &[])?;
-        assert_eq!(rt; status, 0);
-        assert_eq!(rt; bytes.as_slice(), FIRST_LINES);
-        let (status, bytes) = outcome(rt.alloc(), SECOND, piece, 4096, &[], &[])?;
-        assert_eq!(rt; status, 0);
-        assert_eq!(rt; bytes.as_slice(), SECOND_LINES);
-        let (status, bytes) = outcome(rt.alloc(), b"", piece, 4096, &[], &[])?;
-        assert_eq!(rt; status, 0);
-        assert!(rt; bytes.is_empty());
-    }
+fn a_day_in_two_runs_over_one_store(rt: HostRuntime) -> Result<(), Fail> {
+    assert!(rt; a_day::<Brand>(rt.alloc(), Blank::new(1))?);
     Ok(())
 }
 
-// The number of reads that give all bytes and then the end.
-fn reads_of(script: &[u8], piece: usize) -> u64 {
-    let len = script.len() as u64;
-    let piece = piece.max(1) as u64;
-    len / piece + u64::from(len % piece != 0) + 1
-}
-
-// Whether a run whose k-th read fails ends with status 3 and its line, for each k up to the last read.
-fn each_read_fails(alloc: Global, script: &[u8], piece: usize) -> Result<bool, Fail> {
-    for k in 1..=reads_of(script, piece) {
-        let (status, bytes) = outcome(alloc, script, piece, 4096, &[k], &[])?;
-        if status != 3 || bytes.as_slice() != b"read fault\n".as_slice() {
+// A run whose k-th call of the keeper fails ends with status 5, whatever the call; its lines
+// are a front of the day's with `keeper fault`
+// behind them.
+fn each_call_fails<L: Ledger>(alloc: Global, blank: Blank) -> Result<bool, Fail>
+    requires name { blank.name ≡ L.name }
+    requires parts { blank.parts ≡ L.parts }
+    requires some { 0 < blank.parts }
+{
+    let mut steps = Steps::<L>::new(blank);
+    for k in 1..40u64 {
+        let mut keeper = MemoryKeeper::new(alloc, &[k])?;
+        let (status, lines) = outcome(alloc, &mut keeper, PREAMBLE, &mut steps)?;
+        if status == 0 {
+            return Ok(k > 11 && lines.as_slice() == PREAMBLE_LINES);
+        }
+        if status != 5 || !lines.ends_with(b"keeper fault\n") {
             return Ok(false);
         }
-    }
-    Ok(true)
-}
-
-#[test]
-fn a_read_that_fails_is_status_3(rt: HostRuntime) -> Result<(), Fail> {
-    for piece in [1usize, 7, 4096] {
-        assert!(rt;
-            each_read_fails(rt.alloc(), FIRST, piece)?,
-            "in pieces of {piece}"
-        );
-        assert!(rt;
-            each_read_fails(rt.alloc(), SECOND, piece)?,
-            "in pieces of {piece}"
-        );
-    }
-    Ok(())
-}
-
-// Whether a run whose k-th write fails ends with status 4 and a front of the lines, for each k up to the last write.
-fn each_write_fails(
-    alloc: Global,
-    script: &[u8],
-    lines: &[u8],
-    piece: usize,
-) -> Result<bool, Fail> {
-    for k in 1..600u64 {
-        let (status, bytes) = outcome(alloc, script, piece, 4096, &[], &[k])?;
-        if status == 0 {
-            return Ok(k > 4 && bytes.as_slice() == lines);
-        }
-        if status != 4 || bytes.len() >= lines.len() || !lines.starts_with(&bytes) {
+        if !PREAMBLE_LINES.starts_with(&lines[..lines.len() - 13]) {
             return Ok(false);
         }
     }
@@ -131,68 +134,7 @@ fn each_write_fails(
 }
 
 #[test]
-fn a_write_that_fails_is_status_4(rt: HostRuntime) -> Result<(), Fail> {
-    for piece in [1usize, 7, 4096] {
-        assert!(rt;
-            each_write_fails(rt.alloc(), FIRST, FIRST_LINES, piece)?,
-            "in pieces of {piece}"
-        );
-        assert!(rt;
-            each_write_fails(rt.alloc(), SECOND, SECOND_LINES, piece)?,
-            "in pieces of {piece}"
-        );
-    }
-    Ok(())
-}
-
-#[test]
-fn room_that_ends_in_a_line_is_status_4(rt: HostRuntime) -> Result<(), Fail> {
-    for piece in [1usize, 7, 4096] {
-        let (status, bytes) = outcome(rt.alloc(), SECOND, piece, 20, &[], &[])?;
-        assert_eq!(rt; status, 4);
-        assert_eq!(rt; bytes.as_slice(), b"ok,class,14\nok,order".as_slice());
-    }
-    Ok(())
-}
-
-#[test]
-fn a_script_past_16_mebibytes_is_status_2(rt: HostRuntime) -> Result<(), Fail> {
-    let script = vec![in rt.alloc(); b'\n'; 16_777_217]?;
-    let (status, bytes) = outcome(rt.alloc(), &script, 4096, 4096, &[], &[])?;
-    assert_eq!(rt; status, 2);
-    assert_eq!(rt; bytes.as_slice(), b"input too long\n".as_slice());
-    Ok(())
-}
-
-#[test]
-fn words_that_miss_the_rule_are_status_1(rt: HostRuntime) -> Result<(), Fail> {
-    let cases: [&[&str]; 12] = [
-        &[],
-        &["apply"],
-        &["audit", "--store", "r", "--key", "op-desk000001"],
-        &["apply", "--store", "r"],
-        &[
-            "apply",
-            "--store",
-            "r",
-            "--key",
-            "op-desk000001",
-            "--store=r",
-        ],
-        &["apply", "--store", "r", "--store", "r"],
-        &["apply", "--store", "r", "--kee", "op-desk000001"],
-        &["apply", "--store", "r", "--key", "desk000001"],
-        &["apply", "--store", "r", "--key", "op-desk01"],
-        &["apply", "--store=", "--key", "op-desk000001"],
-        &["apply", "--store", "--key", "op-desk000001"],
-        &["apply", "--store", "r", "--key", "op-DESK000001"],
-    ];
-    for texts in &cases {
-        let words = words_of(rt.alloc(), texts)?;
-        let mut input = MemorySource::new(rt.alloc(), FIRST, 4096, &[])?;
-        let mut out = MemorySink::new(rt.alloc(), 4096, 4096, &[])?;
-        assert_eq!(rt; run(rt.alloc(), &words, &mut input, &mut out), Status(1));
-        assert_eq!(rt; out.contents(), b"usage\n".as_slice());
-    }
+fn a_keeper_that_fails_is_status_5(rt: HostRuntime) -> Result<(), Fail> {
+    assert!(rt; each_call_fails::<Brand>(rt.alloc(), Blank::new(1))?);
     Ok(())
 }

@@ -1,1 +1,22 @@
-
+-- what holds of a correction on trial
+pub mod FreshTrials
+-- the facts that serve it
+pub mod ServedTrials
+-- its orders under their sheets
+pub mod TrialOrders
+-- the households reopened so far, with one more
+pub mod ReopenedMore
+-- the least broken trade is the first of all
+pub mod BrokenOfAll
+-- by how much moves change the totals, told by the days that they leave
+pub mod MovedDays
+-- every class that changes is one of the journal
+pub mod ChangedClasses
+-- what the trial makes of the ledger is what the correction does
+pub mod TrialChange
+-- what the steps of a trial need
+pub mod TrialSteps
+-- what the trial says
+pub mod TrialSays
+-- what the replay of one household makes, and what nothing makes
+pub mod OneMore

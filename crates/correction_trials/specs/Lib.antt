@@ -1,2 +1,10 @@
 -- corrections that no rule before the last one refuses, and what their trial says
 pub mod Trials
+-- what holds of them on trial
+pub mod Fresh
+-- the facts by which they are replayed
+pub mod Served
+-- what the households reopened so far come to
+pub mod Reopened
+-- what the trial makes of the ledger
+pub mod Changed

@@ -1,14 +1,36 @@
 //! The trial of a correction.
-ghost use Rattle.std.specs.Prelude.{◌≡◌, ◌≤◌, ◌+◌, ◌*◌, IfOk, OnOk, true, length, ℕ, List};
+ghost use Rattle.std.specs.Prelude.{◌≡◌, ◌≤◌, ◌+◌, ◌*◌, IfOk, OnOk, is_some, true, length, ℕ, List};
+ghost use Rattle.agent_events.specs.declared.event.EventKind.{EventKind as Kind};
+ghost use Rattle.agent_events.specs.declared.reply.Refusal.{Refusal as AnyRefusal};
+ghost use Rattle.checkpoint_replay.specs.Differences.{AreChangesOf};
+ghost use Rattle.checkpoint_replay.specs.declared.part.HouseholdPart.{HouseholdPart};
 ghost use Rattle.correction_effects.specs.Reached.{AreReached};
+ghost use Rattle.correction_trials.specs.Changed.{AreMovesOf, IsMovedWith};
+ghost use Rattle.correction_trials.specs.Reopened.{IsReopenedWhole, IsTriedOver, TakesFewSteps, changes_of, moves_of};
+ghost use Rattle.correction_trials.specs.Served.{known_in};
 ghost use Rattle.correction_trials.specs.Trials.{IsFresh, Says};
+ghost use Rattle.correction_trials.specs.declared.trial.Tried.{Tried as AnyTried};
 ghost use Rattle.desk_books.specs.BooksOfJournals.{AreBooksOf};
 ghost use Rattle.event_laws.specs.EventReplays.{is_correction};
+ghost use Rattle.forward_price.specs.PriceTables.{patched};
+ghost use Rattle.household_fold.specs.Facts.{FactsFit, sheets_known};
+ghost use Rattle.register_laws.specs.CorrectionReach.{order_changed};
 ghost use Rattle.register_laws.specs.Lawful.{book_behind};
 
-use agent_events::{Event, Refusal};
+use crate::moving::{bearer_of, with_gains};
+use crate::nothing::no_change;
+use crate::references::references_in;
+use crate::reopening::{Reopened, reopen_all};
+use agent_events::{
+    Bearer, Event, EventKind, FixPriceForm, FixRateForm, Identifier, Rates, Reference, Refusal,
+    Trade,
+};
+use checkpoint_replay::Change;
+use correction_effects::{BrokenTrade, FirstBroken, households_reached};
 use desk_books::{DeskBooks, LedgerChange};
-use household_fold::Steps;
+use forward_price::{Patch, PriceBook};
+use household_fold::{Facts, Steps};
+use journal_tables::patch_of;
 use money_units::NoMemory;
 use std::alloc::Global;
 use std::sync::ledger::Ledger as StepLedger;
@@ -23,7 +45,7 @@ pub enum Tried {
 }
 
 /// Tries a correction that no rule before the last one refuses: the households that it can reach are replayed with it, by at most
-/// as many steps each as there are sheets, and no others.
+/// as many steps each as there are sheets, and no others. Past the limits of a post it is `NoMemory`.
 pub fn try_correction<L: StepLedger>(
     alloc: Global,
     books: &DeskBooks,
@@ -39,6 +61,218 @@ pub fn try_correction<L: StepLedger>(
         × (steps.new ≤ steps.old
         + length households * length (book_behind books.now.book.journal).table.sheets)) }
 {
-    let _ = (alloc, books, event, steps);
-    Err(NoMemory)
+    match event.kind() {
+        EventKind::FixPrice(form) => try_price(alloc, books, event, form, steps),
+        EventKind::FixRate(form) => try_rate(alloc, books, event, form, steps),
+        EventKind::Enter(_) => try_order(alloc, books, event, steps),
+        EventKind::Replace(_) => try_order(alloc, books, event, steps),
+        EventKind::Void(_) => try_order(alloc, books, event, steps),
+        _ => Err(NoMemory),
+    }
+}
+
+// A corrected price is tried as a patch of the sheet that it fixes.
+fn try_price<L: StepLedger>(
+    alloc: Global,
+    books: &DeskBooks,
+    event: &Event,
+    form: &FixPriceForm,
+    steps: &mut Steps<L>,
+) -> Result<Tried, NoMemory>
+    requires books { AreBooksOf books.now.book.journal books.now }
+    requires correction { is_correction event.now.kind ≡ true }
+    requires fresh { IsFresh books.now.book.journal event.now }
+    requires kind { event.now.kind ≡ Kind.FixPrice form.now }
+    ensures tried { IfOk result (Says books.now.book.journal event.now books.now.ledger.parts) }
+    ensures steps { OnOk result (TakesFewSteps books.now event.now steps.old steps.new) }
+{
+    match patch_of(&books.prices, form) {
+        Some(patch) => try_with(
+            alloc,
+            books,
+            event,
+            books.tables.rates(),
+            Some(patch),
+            steps,
+        ),
+        None => Err(NoMemory),
+    }
+}
+
+// A corrected rate is tried among the others.
+fn try_rate<L: StepLedger>(
+    alloc: Global,
+    books: &DeskBooks,
+    event: &Event,
+    form: &FixRateForm,
+    steps: &mut Steps<L>,
+) -> Result<Tried, NoMemory>
+    requires books { AreBooksOf books.now.book.journal books.now }
+    requires correction { is_correction event.now.kind ≡ true }
+    requires fresh { IsFresh books.now.book.journal event.now }
+    requires kind { event.now.kind ≡ Kind.FixRate form.now }
+    ensures tried { IfOk result (Says books.now.book.journal event.now books.now.ledger.parts) }
+    ensures steps { OnOk result (TakesFewSteps books.now event.now steps.old steps.new) }
+{
+    let _rate = form.rate.millionths();
+    let rates = books.tables.rates_with(alloc, form)?;
+    try_with(alloc, books, event, &rates, None, steps)
+}
+
+// A corrected order is tried by what is kept.
+fn try_order<L: StepLedger>(
+    alloc: Global,
+    books: &DeskBooks,
+    event: &Event,
+    steps: &mut Steps<L>,
+) -> Result<Tried, NoMemory>
+    requires books { AreBooksOf books.now.book.journal books.now }
+    requires correction { is_correction event.now.kind ≡ true }
+    requires fresh { IsFresh books.now.book.journal event.now }
+    requires order { is_some (order_changed event.now.kind) ≡ true }
+    ensures tried { IfOk result (Says books.now.book.journal event.now books.now.ledger.parts) }
+    ensures steps { OnOk result (TakesFewSteps books.now event.now steps.old steps.new) }
+{
+    try_with(alloc, books, event, books.tables.rates(), None, steps)
+}
+
+// By the rates and under the patch of the trial.
+fn try_with<L: StepLedger>(
+    alloc: Global,
+    books: &DeskBooks,
+    event: &Event,
+    rates: &Rates,
+    patch: Option<Patch>,
+    steps: &mut Steps<L>,
+) -> Result<Tried, NoMemory>
+    requires { IsTriedOver books.now event.now (known_in books.now rates.now patch) }
+    ensures tried { IfOk result (Says books.now.book.journal event.now books.now.ledger.parts) }
+    ensures steps { OnOk result (TakesFewSteps books.now event.now steps.old steps.new) }
+{
+    let facts = Facts {
+        prices: &books.prices,
+        terms: books.tables.terms(),
+        accounts: books.tables.accounts(),
+        rates,
+        patch,
+        sheet: last_number(&books.prices)?,
+    };
+    let households = households_reached(alloc, books.book.orders(), &books.orders, event.kind())?;
+    let reopened = reopen_all(alloc, books, event, &facts, &households, steps)?;
+    said(alloc, books, event, &facts, patch, reopened, steps)
+}
+
+// The number of the last sheet, 0 where there is none.
+fn last_number(prices: &PriceBook) -> Result<u32, NoMemory>
+    ensures { IfOk result (λ number. number ≡ length prices.now.table.sheets) }
+{
+    match u32::try_from(prices.sheets().len()) {
+        Ok(number) => Ok(number),
+        Err(_) => Err(NoMemory),
+    }
+}
+
+// What the households that were reopened say.
+fn said<L: StepLedger>(
+    alloc: Global,
+    books: &DeskBooks,
+    event: &Event,
+    facts: &Facts,
+    patch: Option<Patch>,
+    reopened: Reopened,
+    steps: &mut Steps<L>,
+) -> Result<Tried, NoMemory>
+    requires tried { IsTriedOver books.now event.now facts.now }
+    requires sheets { patched patch books.now.prices.table.sheets ≡ sheets_known facts.now }
+    requires reached { IsReopenedWhole books.now event.now facts.now reopened.change
+        reopened.first.least }
+    ensures tried { IfOk result (Says books.now.book.journal event.now books.now.ledger.parts) }
+    ensures steps { OnOk result (steps.new ≡ steps.old) }
+{
+    references_in(books);
+    let Reopened { change, first } = reopened;
+    match least_of(&first) {
+        Some(broken) => breaks(broken),
+        None => moves(alloc, books, event, facts, patch, change, steps),
+    }
+}
+
+fn least_of(first: &FirstBroken) -> Option<BrokenTrade>
+    ensures { result ≡ first.now.least }
+{
+    first.least
+}
+
+// The refusal that names the order which is broken first.
+fn breaks(broken: BrokenTrade) -> Result<Tried, NoMemory>
+    ensures { IfOk result (λ tried. tried
+        ≡ AnyTried.Breaks (AnyRefusal.Breaks broken.trade.account broken.trade.ref_no)) }
+{
+    let refusal = refusal_of(&broken.trade)?;
+    Ok(Tried::Breaks(refusal))
+}
+
+// The change with its gains.
+fn moves<L: StepLedger>(
+    alloc: Global,
+    books: &DeskBooks,
+    event: &Event,
+    facts: &Facts,
+    patch: Option<Patch>,
+    change: Option<Change>,
+    steps: &mut Steps<L>,
+) -> Result<Tried, NoMemory>
+    requires { 1 ≤ facts.now.sheet → FactsFit facts.now }
+    ensures made { IfOk result (AreMovesOf event.now
+        (patched patch books.now.prices.table.sheets) change) }
+    ensures steps { OnOk result (steps.new ≡ steps.old) }
+{
+    let made = change_of(alloc, facts, change, steps)?;
+    match bearer_of(event.kind()) {
+        Some(bearer) => moved_with(alloc, made, bearer, &books.prices, patch),
+        None => Err(NoMemory),
+    }
+}
+
+fn moved_with(
+    alloc: Global,
+    made: Change,
+    bearer: Bearer,
+    prices: &PriceBook,
+    patch: Option<Patch>,
+) -> Result<Tried, NoMemory>
+    ensures { IfOk result (IsMovedWith made bearer (patched patch prices.now.table.sheets)) }
+{
+    let moved = with_gains(alloc, made, bearer, prices, patch)?;
+    Ok(Tried::Moves(moved))
+}
+
+// The refusal that names the order of a trade.
+fn refusal_of(trade: &Trade) -> Result<Refusal, NoMemory>
+    ensures { IfOk result (λ refusal. refusal
+        ≡ AnyRefusal.Breaks trade.now.account trade.now.ref_no) }
+{
+    let account = Identifier::new(trade.account as u64).ok_or(NoMemory)?;
+    let ref_no = Reference::new(trade.ref_no).ok_or(NoMemory)?;
+    Ok(Refusal::Breaks(account, ref_no))
+}
+
+// The change, or the one that moves nothing.
+fn change_of<L: StepLedger>(
+    alloc: Global,
+    facts: &Facts,
+    change: Option<Change>,
+    steps: &mut Steps<L>,
+) -> Result<Change, NoMemory>
+    requires { 1 ≤ facts.now.sheet → FactsFit facts.now }
+    ensures moves { IfOk result (λ made. made.moves ≡ moves_of change) }
+    ensures differences { IfOk result (λ made. (parts : List (ℕ × HouseholdPart))
+        → AreChangesOf (changes_of change) parts (moves_of change)
+        → AreChangesOf made.changes parts made.moves) }
+    ensures steps { OnOk result (steps.new ≡ steps.old) }
+{
+    match change {
+        Some(change) => Ok(change),
+        None => no_change(alloc, facts, steps),
+    }
 }

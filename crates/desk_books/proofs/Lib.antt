@@ -1,1 +1,14 @@
-
+-- the books of no event
+pub mod FirstBooks
+-- the index of orders behind an event
+pub mod IndexAfter
+-- the ledger behind an event
+pub mod LedgerAfter
+-- the cash book behind an event
+pub mod CashAfter
+-- the books behind an event
+pub mod BooksAfter
+-- what moves a ledger with more room
+pub mod MovesStay
+-- the orders that an event names stand
+pub mod NamedOrders

@@ -5,6 +5,8 @@ ghost use Rattle.register_machine.specs.journal.Journals.{with_event};
 
 use crate::books::DeskBooks;
 use crate::change::EventChange;
+use crate::index::apply_orders;
+use crate::posting::post_ledger;
 
 impl DeskBooks {
     /// Notes an event: the books are then those of the journal with the event. It takes no memory: everything that the event
@@ -14,6 +16,18 @@ impl DeskBooks {
         requires ready { IsReady self.old change }
         ensures { AreBooksOf (with_event self.old.book.journal change.event) self.new }
     {
-        match change.never {}
+        let EventChange {
+            event,
+            prices,
+            tables,
+            orders,
+            ledger,
+        } = change;
+        let place = self.book.len();
+        price_changes::apply(&mut self.prices, event.moment(), event.kind(), prices);
+        self.tables.note(tables);
+        post_ledger(&mut self.ledger, &mut self.cash, place, ledger);
+        self.book.note(place, event);
+        apply_orders(&mut self.orders, self.book.orders(), &self.prices, orders);
     }
 }

@@ -1,5 +1,6 @@
 //! What the desk keeps of a journal.
-ghost use Rattle.std.specs.Prelude.{[], IfOk};
+ghost use Rattle.std.specs.Prelude.{◌≡◌, [], IfOk};
+ghost use Rattle.checkpoint_replay.specs.Tallied.{IsTallied};
 ghost use Rattle.desk_books.specs.BooksOfJournals.{AreBooksOf};
 
 use checkpoint_replay::Ledger;
@@ -27,7 +28,29 @@ impl DeskBooks {
     pub fn new(alloc: Global) -> Result<DeskBooks, NoMemory>
         ensures { IfOk result (AreBooksOf []) }
     {
-        let _ = alloc;
+        let prices = PriceBook::new(alloc)?;
+        let ledger = first_ledger(alloc)?;
+        Ok(DeskBooks {
+            book: Book::new(alloc),
+            tables: JournalTables::new(alloc),
+            prices,
+            orders: HouseholdOrders::new(alloc),
+            ledger,
+            cash: CashBook::new(alloc),
+        })
+    }
+}
+
+// A ledger of which nothing is kept. That nothing was installed in it no clause of `Ledger::new` says, so it is asked.
+fn first_ledger(alloc: Global) -> Result<Ledger, NoMemory>
+    ensures parts { IfOk result (λ ledger. ledger.parts ≡ []) }
+    ensures tallied { IfOk result IsTallied }
+    ensures installs { IfOk result (λ ledger. ledger.totals.cash.posts ≡ 0) }
+{
+    let ledger = Ledger::new(alloc);
+    if ledger.installs() == 0 {
+        Ok(ledger)
+    } else {
         Err(NoMemory)
     }
 }

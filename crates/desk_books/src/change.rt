@@ -34,9 +34,4 @@ pub struct EventChange {
     pub tables: TableChange,
     pub orders: OrderChange,
     pub ledger: Option<LedgerChange>,
-    pub(crate) never: Never,
 }
-
-// stand-in of the skeleton
-#[derive(Drop)]
-pub enum Never {}

@@ -4,6 +4,8 @@
 mod applying;
 mod books;
 mod change;
+mod index;
+mod posting;
 mod preparing;
 
 pub use crate::books::DeskBooks;

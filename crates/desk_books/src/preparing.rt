@@ -1,15 +1,19 @@
 //! Makes what an event changes in the books, and room for it.
-ghost use Rattle.std.specs.Prelude.{◌≡◌, IfOk};
+ghost use Rattle.std.specs.Prelude.{◌≡◌, ◌≤◌, IfOk, OnOk};
 ghost use Rattle.desk_books.specs.BooksOfJournals.{AreBooksOf, ShowTheSame};
 ghost use Rattle.desk_books.specs.LedgerChanges.{IsLedgerChange};
-ghost use Rattle.desk_books.specs.ReadyChanges.{IsReady};
+ghost use Rattle.desk_books.specs.ReadyChanges.{HasItsMinute, IsReady};
 ghost use Rattle.register_machine.specs.journal.Journals.{with_event};
 ghost use Rattle.register_machine.specs.journal.Lawful.{IsLawful};
 
 use crate::books::DeskBooks;
 use crate::change::{EventChange, LedgerChange};
-use agent_events::Event;
+use crate::index::order_change;
+use crate::posting::reserve_ledger;
+use agent_events::{Event, EventKind};
 use money_units::NoMemory;
+use order_intake::Book;
+use standing_orders::HouseholdOrders;
 use std::alloc::Global;
 
 impl DeskBooks {
@@ -30,7 +34,43 @@ impl DeskBooks {
         ensures ledger { IfOk result (λ change. change.ledger ≡ ledger) }
         ensures ready { IfOk result (IsReady self.new) }
     {
-        let _ = (alloc, event, ledger);
-        Err(NoMemory)
+        read_minute(event.kind());
+        let prices = price_changes::prepare(alloc, &mut self.prices, event.kind())?;
+        let tables = self.tables.prepare(alloc, event.kind())?;
+        let orders = order_change(self.book.orders(), event.kind());
+        reserve_orders(&mut self.book, &mut self.orders)?;
+        reserve_ledger(&mut self.ledger, &mut self.cash, &ledger)?;
+        Ok(EventChange {
+            event,
+            prices,
+            tables,
+            orders,
+            ledger,
+        })
     }
+}
+
+// The time of day of a calendar that an event brings, which is in range.
+fn read_minute(kind: &EventKind)
+    ensures { HasItsMinute kind.now }
+{
+    match kind {
+        EventKind::Calendar(form) => {
+            let _minute = form.minute.minutes();
+        }
+        _ => {}
+    }
+}
+
+// Makes room for an event in the book, and for an order in the index.
+fn reserve_orders(book: &mut Book, orders: &mut HouseholdOrders) -> Result<(), NoMemory>
+    ensures noted { OnOk result (1 ≤ book.new.spare) }
+    ensures room { OnOk result (1 ≤ orders.new.spare) }
+    ensures journal { book.new.journal ≡ book.old.journal }
+    ensures owners { orders.new.owners ≡ orders.old.owners }
+    ensures waiting { orders.new.waiting ≡ orders.old.waiting }
+{
+    book.reserve(1)?;
+    orders.reserve(1)?;
+    Ok(())
 }

@@ -1,2 +1,5 @@
-pub mod JournalFacts
-pub mod FirstPathFacts
+pub mod RowsOfJournals
+pub mod GoodRows
+pub mod RowByRow
+pub mod KeysOfDealers
+pub mod DesksGoOn

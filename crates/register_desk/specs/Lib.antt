@@ -1,3 +1,6 @@
-pub mod Within
--- what the program runs today: one class without a load. It goes out when the desk is rebuilt on the whole register
-pub mod first_path
+-- the rows of a journal, and the first row that is none of one
+pub mod Rows
+-- what a prepared answer holds
+pub mod PreparedAnswers
+-- what a store gave when it was opened
+pub mod Opening

@@ -1,9 +1,13 @@
-//! The register and order desk: it answers requests as the register machine does and keeps the journal.
+//! The register and order desk: it answers requests as the register machine does, and keeps the journal in a store.
 #![tactic(auto)]
 
-mod copies;
 mod desk;
-pub mod first_path;
-mod register;
+mod faults;
+pub mod laws;
+mod opening;
+mod prepared;
+mod stored;
 
 pub use crate::desk::Desk;
+pub use crate::faults::{LedgerFault, StartFault};
+pub use crate::prepared::Prepared;

@@ -1,21 +1,27 @@
 //! The trial of a sheet.
-ghost use Rattle.std.specs.Prelude.{◌≡◌, IfOk, Some, true};
+ghost use Rattle.std.specs.Prelude.{◌≡◌, ◌≤◌, ◌+◌, IfOk, None, OnOk, Some, length, pos, true};
+ghost use Rattle.agent_events.specs.declared.event.EventKind.{EventKind as Kind};
+ghost use Rattle.checkpoint_replay.specs.Moves.{households_of};
 ghost use Rattle.desk_books.specs.BooksOfJournals.{AreBooksOf, ShowTheSame};
 ghost use Rattle.desk_books.specs.LedgerChanges.{IsLedgerChange};
 ghost use Rattle.event_laws.specs.EventReplays.{is_sheet};
+ghost use Rattle.forward_price.specs.PriceTables.{with_published};
+ghost use Rattle.price_changes.specs.Changes.{IsNextSheet};
 ghost use Rattle.register_machine.specs.journal.Journals.{with_event};
 ghost use Rattle.register_machine.specs.journal.Lawful.{IsLawful};
-ghost use Rattle.sheet_trials.specs.Reached.{CountsMoves};
+ghost use Rattle.sheet_trials.specs.Reached.{TakeOneStepEach};
 
-use agent_events::Event;
+use crate::advance::change_on_trial;
+use agent_events::{Event, EventKind, SheetForm};
 use desk_books::{DeskBooks, LedgerChange};
+use forward_price::PriceBook;
 use household_fold::Steps;
 use money_units::NoMemory;
 use std::alloc::Global;
 use std::sync::ledger::Ledger as StepLedger;
 
-/// What a sheet that follows the journal makes of the ledger: one step for each household that isn't quiet on it. The sheet is
-/// published on trial and withdrawn, so the books show what they showed before, after `NoMemory` too.
+/// What a sheet that follows the journal makes of the ledger: one step for each household that isn't quiet on it, and none for
+/// another. The sheet is published on trial and withdrawn, so the books show what they showed before, after `NoMemory` too.
 pub fn try_sheet<L: StepLedger>(
     alloc: Global,
     books: &mut DeskBooks,
@@ -29,8 +35,59 @@ pub fn try_sheet<L: StepLedger>(
     ensures journal { books.new.book.journal ≡ books.old.book.journal }
     ensures change { IfOk result (λ change. IsLedgerChange books.new.book.journal event.now
         books.new.ledger.parts (Some change)) }
-    ensures steps { IfOk result (λ change. CountsMoves steps.old steps.new change.change.moves) }
+    ensures steps { IfOk result (λ change. TakeOneStepEach books.new.book.journal event.now
+        (households_of change.change.moves) steps.old steps.new) }
 {
-    let _ = (alloc, books, event, steps);
-    Err(NoMemory)
+    let form = sheet_of(event);
+    make_room(&mut books.prices, form)?;
+    let number = publish(&mut books.prices, form);
+    let change = change_on_trial(alloc, books, number, steps);
+    let _withdrawn = books.prices.withdraw();
+    change
+}
+
+// The sheet of an event.
+fn sheet_of(event: &Event) -> &SheetForm
+    requires { is_sheet event.now.kind ≡ true }
+    ensures { event.now.kind ≡ Kind.Sheet result.now }
+{
+    match event.kind() {
+        EventKind::Sheet(form) => form,
+        _ => unreachable!(),
+    }
+}
+
+// How many prices a sheet has; a list that a u32 doesn't count has no memory.
+fn prices_in(form: &SheetForm) -> Result<u32, NoMemory>
+    ensures { IfOk result (λ count. count ≡ length form.now.prices) }
+{
+    match u32::try_from(form.prices.as_slice().len()) {
+        Ok(count) => Ok(count),
+        Err(_) => Err(NoMemory),
+    }
+}
+
+// Makes room for the prices of a sheet.
+fn make_room(prices: &mut PriceBook, form: &SheetForm) -> Result<(), NoMemory>
+    ensures room { OnOk result (length form.now.prices ≤ prices.new.list) }
+    ensures table { prices.new.table ≡ prices.old.table }
+{
+    let count = prices_in(form)?;
+    prices.reserve(count)
+}
+
+// Publishes a sheet behind the others, and answers its number.
+fn publish(prices: &mut PriceBook, form: &SheetForm) -> u32
+    requires fits { IsNextSheet prices.old.table form.now }
+    requires room { length form.now.prices ≤ prices.old.list }
+    ensures number { result ≡ length prices.old.table.sheets + 1 }
+    ensures table { prices.new.table
+        ≡ with_published prices.old.table form.now.calendar (pos form.now.moment) form.now.prices }
+    ensures moment { form.now.moment ≤ 7258118399 }
+{
+    prices.publish(
+        form.calendar.number(),
+        form.moment.seconds(),
+        form.prices.as_slice(),
+    )
 }

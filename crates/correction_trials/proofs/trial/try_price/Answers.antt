@@ -1,0 +1,17 @@
+use Rattle.std.proofs.Common.{List, None, Option, Some, subst, sym, ℕ, ◌∙◌, ◌≤◌}
+use Rattle.agent_events.specs.declared.rows.RateRow.{RateRow}
+use Rattle.correction_trials.specs.Reopened.{IsTriedOver}
+use Rattle.correction_trials.specs.Served.{known_in}
+use Rattle.correction_trials.proofs.FreshTrials.{fresh_is_on_trial}
+use Rattle.correction_trials.proofs.ServedTrials.{price_served}
+use Rattle.correction_trials.proofs.trial.try_price.Goals as goal
+
+pub try_with-requires : goal.try_with-requires
+try_with-requires g c =
+    subst (λ (rates : List RateRow). IsTriedOver c.args.books.now c.args.event.now (known_in c.args.books.now rates (Some c.in-Some.patch))) (sym c.rates.ensures.value)
+    (record {
+      books_are = c.requires.books;
+      corrects = c.requires.correction;
+      trial = (fresh_is_on_trial c.args.books.now.book.journal c.args.event.now c.requires.books.lawful c.requires.correction c.requires.fresh);
+      serve = price_served c.args.books.now c.args.event.now c.args.form.now c.in-Some.patch c.requires.books c.requires.kind (sym c.patch_of.ensures ∙ c.in-Some.is) (fresh_is_on_trial c.args.books.now.book.journal c.args.event.now c.requires.books.lawful c.requires.correction c.requires.fresh);
+    })

@@ -1,0 +1,115 @@
+-- What the households that were reopened so far come to.
+use Rattle.std.specs.List.{Any}
+use Rattle.std.specs.List.Sorted.{IsStrictlyIncreasing}
+use Rattle.std.specs.Prelude.{All, Contains, List, None, Option, Some, [], length, true, ℕ, ◌*◌, ◌+◌, ◌≤◌, ◌++◌, ◌+ℤ◌, ◌∷◌, ◌≡◌}
+use Rattle.agent_events.specs.Events.{Event}
+use Rattle.agent_events.specs.declared.order.OrderRow.{OrderRow}
+use Rattle.agent_events.specs.declared.order.Party.{Party}
+use Rattle.agent_events.specs.declared.totals.Changes.{Changes}
+use Rattle.agent_events.specs.declared.trade.Trade.{Trade}
+use Rattle.checkpoint_replay.specs.Differences.{AreChangesOf}
+use Rattle.checkpoint_replay.specs.Moves.{Moves, households_of, part_after}
+use Rattle.checkpoint_replay.specs.Parts.{first_day}
+use Rattle.checkpoint_replay.specs.declared.change.HouseholdMove.{HouseholdMove}
+use Rattle.correction_effects.specs.FirstOfAll.{IsFirstOfPart, first_in_part}
+use Rattle.correction_effects.specs.Least.{IsLeastOf, with_broken}
+use Rattle.correction_effects.specs.Reached.{AreReached}
+use Rattle.correction_effects.specs.Turns.{turn_in}
+use Rattle.correction_effects.specs.declared.least.BrokenTrade.{BrokenTrade}
+use Rattle.correction_effects.specs.declared.turns.Turn.{Turn}
+use Rattle.correction_trials.specs.Fresh.{IsOnTrial}
+use Rattle.correction_trials.specs.Served.{ServeTrial}
+use Rattle.desk_books.specs.BooksOfJournals.{AreBooksOf}
+use Rattle.desk_books.specs.declared.books.DeskBooks.{DeskBooks}
+use Rattle.event_laws.specs.EventReplays.{is_correction}
+use Rattle.gain_loss_book.specs.ClassGains.{mils_change}
+use Rattle.gain_loss_book.specs.Posted.{cash_change}
+use Rattle.household_fold.specs.Facts.{Known}
+use Rattle.household_replay.specs.Replays.{NumberedOrder, days_behind}
+use Rattle.ledger_laws.specs.PartsByFacts.{AreRowsOf}
+use Rattle.ledger_of_journals.specs.CorrectedLedgers.{AreReopenings}
+use Rattle.register_laws.specs.Lawful.{book_behind}
+use Rattle.register_machine.specs.journal.Journals.{Journal, with_event}
+use Rattle.register_machine.specs.journal.Kinds.{accounts_of}
+use Rattle.register_machine.specs.replay.Replay.{replay}
+use Rattle.register_machine.specs.rules.Breaks.{order_corrected}
+
+-- A correction on trial over the books of a journal, with facts that serve it.
+pub record IsTriedOver (books : DeskBooks) (event : Event) (known : Known) : Type 0 where
+  pub books_are : AreBooksOf books.book.journal books
+  pub corrects : is_correction event.kind ≡ true
+  pub trial : IsOnTrial books.book.journal event
+  pub serve : ServeTrial known books.book.journal event
+
+-- ---- One household.
+
+-- the first trade that the correction breaks in its part
+abbrev pub broken_in : Journal → Event → ℕ → Option Trade
+broken_in journal event household =
+    first_in_part (order_corrected event.kind) (replay (book_behind journal)) (accounts_of journal) household
+    (replay (book_behind (with_event journal event)))
+
+-- The least of the broken trades with that of one household more, where it has one; each with its turn among these orders.
+abbrev pub SeesBroken : List OrderRow → Option Trade → Option BrokenTrade → Option BrokenTrade → Type 0
+SeesBroken orders None old new = new ≡ old
+SeesBroken orders (Some trade) old new =
+    (turn : Turn) × (turn_in orders trade ≡ Some turn) × (new ≡ with_broken (record { turn = turn; trade = trade }) old)
+
+-- ---- All so far.
+
+-- what is moved so far, and what that changes; nothing at first
+abbrev pub moves_of : Option Moves → List HouseholdMove
+moves_of None = []
+moves_of (Some change) = change.moves
+
+abbrev pub changes_of : Option Moves → Changes
+changes_of None = record { outstanding = []; cash = [] }
+changes_of (Some change) = change.changes
+
+-- The households are moved to what their replays on trial leave, with what that changes of the totals; and of the first broken
+-- trades of their parts the least one is known.
+pub record AreReopened (books : DeskBooks) (event : Event) (known : Known) (done : List ℕ) (change : Option Moves) (first : Option BrokenTrade) : Type 0 where
+  pub households : households_of (moves_of change) ≡ done
+  pub reopened : AreReopenings known (book_behind (with_event books.book.journal event)) books.ledger.parts (moves_of change)
+  pub differences : AreChangesOf (changes_of change) books.ledger.parts (moves_of change)
+  pub brokens : List BrokenTrade
+  pub each : All (IsFirstOfPart (book_behind (with_event books.book.journal event)) (order_corrected event.kind) (replay (book_behind books.book.journal)) (accounts_of books.book.journal)) brokens
+  pub seen : (household : ℕ) → Contains done household → (trade : Trade)
+      → broken_in books.book.journal event household ≡ Some trade → Any (λ broken. broken.trade ≡ trade) brokens
+  pub least : IsLeastOf brokens first
+
+-- So they are with one household more.
+abbrev pub ReopensMore : DeskBooks → Event → Known → ℕ → Option Moves → Option BrokenTrade → Option Moves → Option BrokenTrade → Type 0
+ReopensMore books event known household change first more least =
+    (done : List ℕ) → AreReopened books event known done change first
+    → AreReopened books event known (done ++ household ∷ []) more least
+
+-- What the replay of one household makes: it moves that household alone, to what its orders on trial leave.
+pub record IsOneMore (books : DeskBooks) (event : Event) (known : Known) (household : ℕ) (one : Moves) : Type 0 where
+  pub rows : List NumberedOrder
+  pub own : AreRowsOf rows (book_behind (with_event books.book.journal event)) household
+  pub only : households_of one.moves ≡ household ∷ []
+  pub day : part_after one.moves books.ledger.parts household ≡ days_behind known rows 0 known.sheet first_day
+  pub differences : AreChangesOf one.changes books.ledger.parts one.moves
+
+-- the change of both together
+pub record AreJoined (change : Option Moves) (one both : Moves) : Type 0 where
+  pub moves : both.moves ≡ moves_of change ++ one.moves
+  pub cash : (party : Party) → cash_change both.changes.cash party
+      ≡ cash_change (changes_of change).cash party +ℤ cash_change one.changes.cash party
+  pub mils : (class : ℕ) → mils_change both.changes.outstanding class
+      ≡ mils_change (changes_of change).outstanding class +ℤ mils_change one.changes.outstanding class
+
+-- ---- All that the correction reaches.
+
+pub record IsReopenedWhole (books : DeskBooks) (event : Event) (known : Known) (change : Option Moves) (first : Option BrokenTrade) : Type 0 where
+  pub households : List ℕ
+  pub rising : IsStrictlyIncreasing households
+  pub reached : AreReached books.book.journal books.orders.owners event.kind households
+  pub all : AreReopened books event known households change first
+
+-- as many steps as there are sheets for each household that the correction reaches, at most
+abbrev pub TakesFewSteps : DeskBooks → Event → ℕ → ℕ → Type 0
+TakesFewSteps books event before after =
+    (households : List ℕ) × AreReached books.book.journal books.orders.owners event.kind households
+    × (after ≤ before + length households * length (book_behind books.book.journal).table.sheets)

@@ -1,0 +1,123 @@
+//! The trade that a correction breaks first in the part of one household.
+ghost use Rattle.std.specs.Prelude.{◌≡◌, ◌∷◌, ℕ, List, Some, [], IfOk, OnOk, find};
+ghost use Rattle.std.specs.Option.{option_copied};
+ghost use Rattle.checkpoint_replay.specs.Moves.{households_of, part_after};
+ghost use Rattle.checkpoint_replay.specs.Parts.{part_in};
+ghost use Rattle.checkpoint_replay.specs.declared.part.HouseholdPart.{HouseholdPart};
+ghost use Rattle.correction_trials.specs.Reopened.{SeesBroken};
+ghost use Rattle.order_book.specs.Books.{Fits};
+ghost use Rattle.register_machine.specs.journal.Journals.{with_event};
+ghost use Rattle.register_machine.specs.pricing.CorrectedOrders.{orders_of};
+ghost use Rattle.register_machine.specs.rules.Breaks.{is_broken, order_corrected};
+
+use agent_events::{Event, EventKind, Order, Trade};
+use checkpoint_replay::Change;
+use correction_effects::{FirstBroken, first_broken, turn_of};
+use desk_books::DeskBooks;
+use money_units::NoMemory;
+use std::alloc::Global;
+
+/// Sees the first trade that a correction on trial breaks in the part of a household, between its trades so far and those that it
+/// is moved to.
+pub(crate) fn see_broken(
+    alloc: Global,
+    books: &DeskBooks,
+    event: &Event,
+    household: u32,
+    change: &Change,
+    first: &mut FirstBroken,
+) -> Result<(), NoMemory>
+    requires fits { Fits books.now.book.journal event.now }
+    requires only { households_of change.now.moves ≡ household ∷ [] }
+    ensures { OnOk result (SeesBroken (orders_of (with_event books.now.book.journal event.now))
+        (find (is_broken (order_corrected event.now.kind)
+        (part_in books.now.ledger.parts household).trades)
+        (part_after change.now.moves books.now.ledger.parts household).trades)
+        first.old.least first.new.least) }
+{
+    let broken = broken_of(alloc, books, event, household, change)?;
+    see(books, event, broken, first)
+}
+
+fn broken_of<'a>(
+    alloc: Global,
+    books: &DeskBooks,
+    event: &Event,
+    household: u32,
+    change: &'a Change,
+) -> Result<Option<&'a Trade>, NoMemory>
+    requires { households_of change.now.moves ≡ household ∷ [] }
+    ensures { IfOk result (λ broken. option_copied broken
+        ≡ find (is_broken (order_corrected event.now.kind)
+        (part_in books.now.ledger.parts household).trades)
+        (part_after change.now.moves books.now.ledger.parts household).trades) }
+{
+    let after = new_trades(change)?;
+    let before = books.ledger.trades(household);
+    first_broken(alloc, order_corrected(event.kind()), before, after)
+}
+
+// The order that a correction enters or replaces.
+fn order_corrected(kind: &EventKind) -> Option<&Order>
+    ensures { option_copied result ≡ order_corrected kind.now }
+{
+    match kind {
+        EventKind::Enter(form) => Some(&form.order),
+        EventKind::Replace(form) => Some(&form.order),
+        _ => None,
+    }
+}
+
+// The new trades of the one household that a change moves, in the place of all old ones: none of them stays in a household that is
+// reopened.
+fn new_trades(change: &Change) -> Result<&[Trade], NoMemory>
+    ensures { IfOk result (λ trades. (parts : List (ℕ × HouseholdPart)) (household : ℕ)
+        → households_of change.now.moves ≡ household ∷ []
+        → (part_after change.now.moves parts household).trades ≡ trades.now) }
+{
+    match change.moves() {
+        [moved] => {
+            if moved.kept == 0 {
+                Ok(moved.trades.as_slice())
+            } else {
+                Err(NoMemory)
+            }
+        }
+        _ => Err(NoMemory),
+    }
+}
+
+fn see(
+    books: &DeskBooks,
+    event: &Event,
+    broken: Option<&Trade>,
+    first: &mut FirstBroken,
+) -> Result<(), NoMemory>
+    requires { Fits books.now.book.journal event.now }
+    ensures { OnOk result (SeesBroken (orders_of (with_event books.now.book.journal event.now))
+        (option_copied broken.entry) first.old.least first.new.least) }
+{
+    match broken {
+        Some(trade) => see_trade(books, event, trade, first),
+        None => Ok(()),
+    }
+}
+
+fn see_trade(
+    books: &DeskBooks,
+    event: &Event,
+    trade: &Trade,
+    first: &mut FirstBroken,
+) -> Result<(), NoMemory>
+    requires { Fits books.now.book.journal event.now }
+    ensures { OnOk result (SeesBroken (orders_of (with_event books.now.book.journal event.now))
+        (Some trade.now) first.old.least first.new.least) }
+{
+    match turn_of(books.book.orders(), Some(event), trade) {
+        Some(turn) => {
+            first.see(turn, *trade);
+            Ok(())
+        }
+        None => Err(NoMemory),
+    }
+}

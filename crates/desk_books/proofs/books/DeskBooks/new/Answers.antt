@@ -1,0 +1,23 @@
+use Rattle.std.proofs.Common.{ap}
+use Rattle.desk_books.proofs.FirstBooks.{books_of_no_event}
+use Rattle.desk_books.proofs.books.DeskBooks.new.Goals as goal
+use Rattle.order_book.specs.Books.{NotedJournal}
+use Rattle.standing_orders.specs.Index.{OrderPlaces}
+
+pub returns : goal.returns
+returns c =
+    books_of_no_event
+    (record { book = c.new-2.result; tables = c.new-3.result; prices = c.in_ok-prices.prices; orders = c.new-4.result; ledger = c.in_ok-ledger.ledger; cash = c.new-5.result })
+    (record {
+      noted = ap (λ (book : NotedJournal). book.journal) c.new-2.ensures;
+      prices = c.in_ok-prices.ensures;
+      tables = c.new-3.ensures;
+      owners = ap (λ (orders : OrderPlaces). orders.owners) c.new-4.ensures;
+      waiting = ap (λ (orders : OrderPlaces). orders.waiting) c.new-4.ensures;
+      parts = c.in_ok-ledger.ensures.parts;
+      tallied = c.in_ok-ledger.ensures.tallied;
+      installs = c.in_ok-ledger.ensures.installs;
+      balances = c.new-5.ensures.balances;
+      gains = c.new-5.ensures.gains;
+      posts = c.new-5.ensures.posts;
+    })

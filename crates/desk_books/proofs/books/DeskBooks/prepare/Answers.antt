@@ -1,0 +1,52 @@
+use Rattle.std.proofs.Common.{ap, subst, sym, ◌∙◌}
+use Rattle.desk_books.proofs.MovesStay.{stays_a_change}
+use Rattle.desk_books.proofs.NamedOrders.{names_its_order}
+use Rattle.desk_books.proofs.books.DeskBooks.prepare.Goals as goal
+use Rattle.desk_books.specs.LedgerChanges.{IsLedgerChange}
+use Rattle.desk_books.specs.OrderChanges.{ChangesOrders, NamesItsOrder}
+use Rattle.desk_books.specs.ReadyChanges.{HasItsMinute}
+use Rattle.journal_tables.proofs.EventTables.{brings_loads}
+use Rattle.journal_tables.specs.Tables.{IsInRange, brings_good_loads, tables_after}
+use Rattle.order_book.specs.Books.{NotedJournal}
+use Rattle.price_changes.proofs.LawfulChanges.{changes_prices}
+use Rattle.price_changes.specs.Changes.{HasGoodCalendar, HasRoomFor, listing_brought}
+use Rattle.register_machine.specs.journal.Journals.{with_event}
+use Rattle.register_machine.specs.journal.Lawful.{IsLawful}
+
+pub prepare-requires : goal.prepare-requires
+prepare-requires c =
+    subst HasGoodCalendar (sym c.kind-2.ensures.kind) (changes_prices c.args.self.now.book.journal c.args.event c.requires.follows).good
+
+pub prepare-requires-2 : goal.prepare-requires-2
+prepare-requires-2 c =
+    ap brings_good_loads c.kind-3.ensures.kind ∙ brings_loads c.args.self.now.book.journal c.args.event c.requires.follows
+
+pub order_change-orders-requires : goal.order_change-orders-requires
+order_change-orders-requires c =
+    subst (λ (book : NotedJournal). NamesItsOrder book.journal c.kind-4.result.now) (sym c.orders.ensures)
+    (subst (NamesItsOrder c.args.self.now.book.journal) (sym c.kind-4.ensures.kind)
+    (names_its_order c.args.self.now.book.journal c.args.event c.requires.follows))
+
+pub returns-clause-ready : goal.returns-clause-ready
+returns-clause-ready c =
+    let kind = c.args.event.kind in
+    let noted = sym c.reserve_orders.ensures.journal in
+    record {
+      follows = subst (λ journal. IsLawful (with_event journal c.args.event)) noted c.requires.follows;
+      minute = subst HasItsMinute c.kind.ensures.kind c.read_minute.ensures;
+      noted = c.in_ok-reserve_orders.ensures.noted;
+      priced = c.in_ok-prices.ensures.change ∙ ap listing_brought c.kind-2.ensures.kind;
+      price_room = subst (HasRoomFor c.prepare.new.prices) c.kind-2.ensures.kind c.in_ok-prices.ensures.room;
+      tables = c.in_ok-tables.ensures.change ∙ ap (tables_after c.args.self.now.tables) c.kind-3.ensures.kind;
+      table_room = c.in_ok-tables.ensures.room;
+      in_range = subst IsInRange c.kind-3.ensures.kind c.prepare-2.ensures.range;
+      orders =
+          subst (λ journal. ChangesOrders journal kind c.order_change-orders.result)
+          (ap (λ (book : NotedJournal). book.journal) c.orders.ensures ∙ noted)
+          (subst (λ kind. ChangesOrders c.orders.result.now.journal kind c.order_change-orders.result) c.kind-4.ensures.kind c.order_change-orders.ensures);
+      order_room = c.in_ok-reserve_orders.ensures.room;
+      ledger =
+          subst (λ journal. IsLedgerChange journal c.args.event c.reserve_ledger.new.ledger.parts c.args.ledger) noted
+          (stays_a_change c.args.self.now.book.journal c.args.event c.args.self.now.ledger.parts c.reserve_ledger.new.ledger.parts c.args.ledger c.reserve_ledger.ensures.parts c.requires.ledger);
+      ledger_room = c.in_ok-reserve_ledger.ensures.room;
+    }

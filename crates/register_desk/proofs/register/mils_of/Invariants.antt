@@ -1,7 +1,0 @@
-use Rattle.std.proofs.Common.{◌≡◌, ◌*◌, ◌^◌, ◌≤◌, take, sum_by}
-use Rattle.register_desk.specs.first_path.PathReplay.{lot_mils_in as mils_in}
-use Rattle.register_desk.proofs.register.mils_of.Given as goal
-
-abbrev pub invariant-loop-lot : goal.invariant-loop-lot
-invariant-loop-lot l =
-    (l.total ≡ sum_by (mils_in l.account l.class) (take l.lot-index l.register)) × (l.total ≤ 2 ^ 64 * l.lot-index)

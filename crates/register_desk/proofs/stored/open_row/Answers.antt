@@ -1,0 +1,42 @@
+use Rattle.std.proofs.Common.{List, Some, ap, subst, sym, ℕ, ◌≡◌, ◌∙◌}
+use Rattle.agent_keeper.specs.Calls.{Gives, row_is}
+use Rattle.event_rows.specs.InForm.{InForm}
+use Rattle.event_rows.specs.Rows.{event_row}
+use Rattle.register_desk.proofs.DesksGoOn.{desk_more, desk_same}
+use Rattle.register_desk.proofs.RowByRow.{damaged_place}
+use Rattle.register_machine.specs.journal.Journals.{Journal, with_event}
+use Rattle.register_desk.proofs.stored.open_row.Goals as goal
+
+-- The row that was read is the event's that is noted.
+pub returns-clause-opened : goal.returns-clause-opened
+returns-clause-opened g c =
+    let event = c.in-Some.change.event in
+    let fits : InForm event = rw c.in-Some.is at c.in_ok-change.ensures.in_form in
+    let spelling : c.as_slice.result.now ≡ event_row event = rw c.in-Some.is at c.in_ok-change.ensures.row in
+    let row : c.row.new.into.items ≡ event_row event = sym c.as_slice.ensures.value ∙ spelling in
+    record {
+      event = event;
+      shown = record {
+        told = λ kept told. (rw c.if-not-branch.false at (c.in_ok-row.ensures.exact kept told)) ∙ ap Some row;
+        given = subst (λ (bytes : List ℕ). Gives g.K.Keeper.moment g.K.Keeper.gave c.args.keeper.now c.row.new.self (row_is c.args.place (Some bytes))) row
+            (rw c.if-not-branch.false at c.in_ok-row.ensures.given);
+      };
+      noted = c.apply.ensures.noted ∙ ap (λ (journal : Journal). with_event journal event) c.in_ok-change.ensures.journal;
+      desk = desk_more c.change_of_row.new.books c.apply.new.self event
+          (desk_same c.args.books.now c.change_of_row.new.books c.requires.books c.in_ok-change.ensures.same c.in_ok-change.ensures.journal)
+          fits c.apply.ensures;
+    }
+
+-- The row that was read is no event's that follows.
+pub returns-in_default-clause-damaged : goal.returns-in_default-clause-damaged
+returns-in_default-clause-damaged g c = λ at is. (
+  damaged_place c.args.place at is,
+  record {
+    row = Some c.row.new.into.items;
+    shown = record {
+      told = λ kept told. rw c.if-not-branch.false at (c.in_ok-row.ensures.exact kept told);
+      given = rw c.if-not-branch.false at c.in_ok-row.ensures.given;
+    };
+    bad = λ event fits is. c.in_ok-change.ensures.none c.in_default.is event fits (ap Some c.as_slice.ensures.value ∙ is);
+  },
+)

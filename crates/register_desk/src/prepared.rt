@@ -1,0 +1,55 @@
+//! A prepared answer.
+ghost use Rattle.std.specs.Prelude.{◌≡◌, [], All, IfOk};
+ghost use Rattle.desk_answers.specs.Answered.{events_of};
+ghost use Rattle.event_rows.specs.InForm.{InForm};
+ghost use Rattle.register_desk.specs.Rows.{rows_of};
+
+use agent_events::Reply;
+use agent_keeper::Batch;
+use desk_books::EventChange;
+use event_rows::encode;
+use money_units::{Bytes, NoMemory};
+use std::alloc::Global;
+
+/// The reply to a request, and its events with their rows and all that they change: everything that `commit` needs.
+#[derive(Drop)]
+pub struct Prepared {
+    pub reply: Reply,
+    pub base: u64,
+    pub batch: Batch,
+    pub change: Option<EventChange>,
+}
+
+impl Prepared {
+    /// The reply.
+    pub fn reply(&self) -> &Reply
+        ensures { result.now ≡ self.now.reply }
+    {
+        &self.reply
+    }
+
+    /// The number of events before it.
+    pub fn base(&self) -> u64
+        ensures { result ≡ self.now.base }
+    {
+        self.base
+    }
+
+    /// Gives it up.
+    pub fn discard(self) {}
+}
+
+// The rows of the events that a change notes, as what the keeper is to append.
+pub(crate) fn batch_of(alloc: Global, change: &Option<EventChange>) -> Result<Batch, NoMemory>
+    ensures rows { IfOk result (λ batch. batch.rows ≡ rows_of (events_of change.now)) }
+    ensures puts { IfOk result (λ batch. batch.puts ≡ []) }
+    ensures removes { IfOk result (λ batch. batch.removes ≡ []) }
+    ensures in_form { IfOk result (λ batch. All InForm (events_of change.now)) }
+{
+    let mut batch = Batch::new(alloc);
+    if let Some(change) = change {
+        let row = Bytes::from_vec(encode(alloc, &change.event)?);
+        batch.rows.push(row)?;
+    }
+    Ok(batch)
+}
