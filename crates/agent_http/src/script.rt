@@ -77,7 +77,7 @@ fn what_is_asked(
 }
 
 // At most 64 visible bytes.
-pub(crate) fn is_key_text(key: &[u8]) -> bool
+fn is_key_text(key: &[u8]) -> bool
     ensures { result ≡ is_key_text key.now }
 {
     key.len() <= 64 && all_visible(key)

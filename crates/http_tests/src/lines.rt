@@ -4,7 +4,7 @@ use agent_events::{
     ClassGains, CloseForm, DealerBooks, Identifier, Minimum, OrderReply, OrderState, PositionText,
     Positions, Reference, Refusal, Reply, Request, TraceReply,
 };
-use agent_http::{Ask, Fields, Item, append_line, records_of, reply_line, path_items};
+use agent_http::{Fields, ScriptItem, append_line, records_of, reply_line, script_items};
 use fund_calendar::Day;
 use money_units::{Bytes, Cents, Mils, Moment, print_number};
 use std::alloc::Global;
@@ -99,15 +99,14 @@ const SCRIPT: &[u8] = b"\
 1719867700,op-desk000001,class,14,1,3,INDEX-N,0,0,0.01,0.01,0.00:0  1.00:5,\n\
 1719867700,op-desk000001,class,14,1,3,INDEX-N,0,0,0.01,0.01,0.00:0,65536\n";
 
-const WORDS: &[u8] = b"class buy sheet show unbuilt bad bad bad bad bad 0 0 1 3 4 9 10 ";
+const WORDS: &[u8] = b"class buy sheet show books bad bad bad bad bad 0 0 1 3 4 9 10 ";
 
-fn word(item: &Item, out: &mut Vec<u8>) -> Result<(), Fail> {
+fn word(item: &ScriptItem, out: &mut Vec<u8>) -> Result<(), Fail> {
     match item {
-        Item::Bad => out.extend_from_slice(b"bad")?,
-        Item::Good { ask, .. } => match ask {
-            Ask::Request(request) => out.extend_from_slice(verb(request))?,
-            Ask::BadForm(place) => print_number(*place as u64, out)?,
-            Ask::Unbuilt => out.extend_from_slice(b"unbuilt")?,
+        ScriptItem::Bad => out.extend_from_slice(b"bad")?,
+        ScriptItem::Good { asked, .. } => match asked {
+            Ok(request) => out.extend_from_slice(verb(request))?,
+            Err(place) => print_number(*place as u64, out)?,
         },
     }
     out.push(b' ')?;
@@ -120,13 +119,14 @@ fn verb(request: &Request) -> &'static [u8] {
         Request::Sheet(_) => b"sheet",
         Request::Order(_) => b"buy",
         Request::Show(_) => b"show",
+        Request::Books => b"books",
         _ => b"other",
     }
 }
 
 #[test]
 fn a_script_is_read_as_its_items(rt: HostRuntime) -> Result<(), Fail> {
-    let items = path_items(rt.alloc(), SCRIPT)?;
+    let items = script_items(rt.alloc(), SCRIPT)?;
     let mut words = Vec::new(rt.alloc());
     for item in items.as_slice() {
         word(item, &mut words)?;
@@ -137,17 +137,17 @@ fn a_script_is_read_as_its_items(rt: HostRuntime) -> Result<(), Fail> {
 
 #[test]
 fn a_purchase_has_the_values_of_its_fields(rt: HostRuntime) -> Result<(), Fail> {
-    let items = path_items(
+    let items = script_items(
         rt.alloc(),
         b"1719838800,op-desk000001,buy,101,7,14,10000.50",
     )?;
     assert_eq!(rt; items.as_slice().len(), 1);
-    let Item::Good { moment, key, ask } = &items.as_slice()[0] else {
+    let ScriptItem::Good { moment, key, asked } = &items.as_slice()[0] else {
         panic!(rt; "the item is good");
     };
     assert_eq!(rt; moment.number(), 1719838800);
     assert_eq!(rt; key.as_slice(), b"op-desk000001".as_slice());
-    let Ask::Request(Request::Order(order)) = ask else {
+    let Ok(Request::Order(order)) = asked else {
         panic!(rt; "the item asks for an order");
     };
     assert_eq!(rt; order.account.number(), 101);
