@@ -181,10 +181,10 @@ pub next-lines : (operator : List ℕ) (opened : Journal) (items : List ItemRead
 next-lines operator opened items place item journal line old mid new within is same says before after =
     let front = take place (items_seen items) in
     let lines : (run_over operator opened (take (place + 1) (items_seen items))).lines ≡ (run_over operator opened front).lines ++ line =
-        ap (λ read. (run_over operator opened read).lines) (next-items items place item within is)
-        ∙ (lines-more operator opened front (item_seen item)
-        ∙ ap (λ said. (run_over operator opened front).lines ++ said)
-        (sym (says ∙ line-there operator opened front (item_seen item) journal same))) in
+    ap (λ read. (run_over operator opened read).lines) (next-items items place item within is)
+    ∙ (lines-more operator opened front (item_seen item)
+    ∙ ap (λ said. (run_over operator opened front).lines ++ said)
+    (sym (says ∙ line-there operator opened front (item_seen item) journal same))) in
     subst (Appends old new) (sym lines) (Appends-trans old mid new (run_over operator opened front).lines line before after)
 
 pub cut-at : (operator : List ℕ) (opened : Journal) (items : List ItemRead) (place : ℕ) (item : ItemRead) (journal after : Journal) (line : List ℕ) (told : Content → Type 0) (old mid new : Option (List ℕ)) → place < length items → item ≡ get_or items place item → journal ≡ (run_over operator opened (take place (items_seen items))).journal → after ≡ journal ++ (answer_behind operator journal (item_seen item)).events → line ≡ reply_line (answer_behind operator journal (item_seen item)).reply → TellsRowsOf told after → Appends old mid (run_over operator opened (take place (items_seen items))).lines → (count : ℕ) × (count < length line) × Appends mid new (take count line) → IsCutShort operator opened (items_seen items) told old new

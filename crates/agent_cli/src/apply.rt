@@ -152,7 +152,16 @@ fn answer_item<K: Keeper, L: StepLedger>(
     match item {
         ScriptItem::Bad => refusal_line(alloc, Refusal::BadForm(0)),
         ScriptItem::Good { moment, key, asked } => {
-            answer_at(alloc, operator, desk, keeper, *moment, key.as_slice(), asked, steps)
+            answer_at(
+                alloc,
+                operator,
+                desk,
+                keeper,
+                *moment,
+                key.as_slice(),
+                asked,
+                steps,
+            )
         }
     }
 }

@@ -1,5 +1,6 @@
 //! The program `agent`: the register and order desk of a mutual fund transfer agent.
 #![tactic(auto)]
+
 ghost use Rattle.std.specs.Prelude.{◌≡◌, ◌<◌};
 
 mod apply;

@@ -74,10 +74,7 @@ fn outcome<K: Keeper, L: Ledger>(
     script: &[u8],
     steps: &mut Steps<L>,
 ) -> Result<(u8, Vec<u8>), Fail> {
-    let words = words_of(
-        alloc,
-        &["apply", "--store", "r", "--key", "op-desk000001"],
-    )?;
+    let words = words_of(alloc, &["apply", "--store", "r", "--key", "op-desk000001"])?;
     let mut input = MemorySource::new(alloc, script, 4096, &[])?;
     let mut out = MemorySink::new(alloc, 4096, 65536, &[])?;
     let Status(status) = run(alloc, &words, keeper, &mut input, &mut out, steps);

@@ -1,5 +1,5 @@
 -- Rows of events in form are those of one journal alone, so no row of a lawful journal is a bad one.
-use Rattle.std.proofs.Common.{List, None, Some, [], ap, arith, drop, length, option_map, slice_get, subst, suc, sym, take, zero, ℕ, ◌++◌, ◌+◌, ◌<◌, ◌∙◌, ◌∷◌, ◌≡◌, refl}
+use Rattle.std.proofs.Common.{List, Some, [], ap, arith, drop, length, option_map, slice_get, subst, suc, sym, take, zero, ℕ, ◌++◌, ◌+◌, ◌<◌, ◌∙◌, ◌∷◌, ◌≡◌, refl}
 use Rattle.std.specs.Prelude.{All}
 use Rattle.std.proofs.lemmas.List.{length-map, take-append-drop, take-map}
 use Rattle.std.proofs.lemmas.List.Elements.{All-head, All-tail, All-take}

@@ -1,5 +1,5 @@
 -- What several reading calls of a keeper in turn tell and give: the rows of a journal, one more with each call.
-use Rattle.std.proofs.Common.{Bool, Err, List, None, Ok, Option, Result, Some, [], ap, arith, inl, inr, false, length, ltb, ltb-false, ltb-true, refl, slice_get, subst, sym, take, true, zero, ℕ, ◌++◌, ◌+◌, ◌-◌, ◌<◌, ◌^◌, ◌∙◌, ◌∷◌, ◌≡◌, ◌≤◌, ◌⊎◌}
+use Rattle.std.proofs.Common.{Bool, Err, List, Ok, Option, Result, Some, [], ap, arith, inl, inr, false, length, ltb, ltb-false, ltb-true, refl, slice_get, subst, sym, take, true, ℕ, ◌++◌, ◌+◌, ◌<◌, ◌∙◌, ◌∷◌, ◌≡◌, ◌≤◌, ◌⊎◌}
 use Rattle.std.proofs.lemmas.List.{length-map, take_all}
 use Rattle.std.proofs.lemmas.Option.{none-some}
 use Rattle.agent_events.specs.Events.{Event}
@@ -10,7 +10,7 @@ use Rattle.desk_books.specs.declared.books.DeskBooks.{DeskBooks}
 use Rattle.event_rows.specs.Rows.{event_row}
 use Rattle.register_desk.proofs.RowsOfJournals.{last_or_before, length_more, rows_more, take_next}
 use Rattle.register_desk.specs.Opening.{AreAllGiven, AreGiven, FindsNone, IsGivenBadAt, OpensRow, OpensRows, ShowsRow, ShowsRowsOf, StopsAt}
-use Rattle.register_desk.specs.Rows.{FollowsAsNone, IsDamagedAt, IsDesk, IsFirstBad, TellsRowsOf, rows_of}
+use Rattle.register_desk.specs.Rows.{FollowsAsNone, IsDamagedAt, IsDesk, TellsRowsOf, rows_of}
 use Rattle.register_desk.specs.declared.faults.StartFault.{StartFault}
 use Rattle.register_machine.specs.journal.Journals.{Journal, with_event}
 

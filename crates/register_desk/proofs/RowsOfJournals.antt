@@ -1,5 +1,5 @@
 -- The rows of a journal with an event more, and the first rows of a list with a row more.
-use Rattle.std.proofs.Common.{List, None, Option, Some, [], ap, inl, inr, length, length-append, refl, slice_get, suc, sym, take, zero, ℕ, ◌++◌, ◌+◌, ◌∙◌, ◌∷◌, ◌≡◌, ◌⊎◌}
+use Rattle.std.proofs.Common.{List, Some, [], ap, inl, inr, length, length-append, refl, slice_get, suc, sym, take, zero, ℕ, ◌++◌, ◌+◌, ◌∙◌, ◌∷◌, ◌≡◌, ◌⊎◌}
 use Rattle.std.proofs.lemmas.List.{map-append, take_more}
 use Rattle.std.proofs.lemmas.Option.{get_or_from_slice_get, none-some, same_Some, slice_get_within}
 use Rattle.agent_events.specs.Events.{Event}

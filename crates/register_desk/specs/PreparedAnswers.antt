@@ -1,5 +1,5 @@
 -- What a prepared answer holds: its events with their rows, and all that they change.
-use Rattle.std.specs.Prelude.{All, [], length, ℕ, ◌≡◌}
+use Rattle.std.specs.Prelude.{All, [], length, ◌≡◌}
 use Rattle.desk_answers.specs.Answered.{IsReadyToNote, events_of}
 use Rattle.desk_books.specs.declared.books.DeskBooks.{DeskBooks}
 use Rattle.event_rows.specs.InForm.{InForm}
