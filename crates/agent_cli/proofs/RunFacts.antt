@@ -1,5 +1,5 @@
 -- Runs from a journal on, item by item.
-use Rattle.std.proofs.Common.{Err, IfSome, List, None, Ok, OnErr, OnOk, Option, Result, Some, [], ap, append-nil, append_assoc, arith, cond, false, fold, get_or, inl, inr, length, length-append, nat_lt, refl, slice_get, subst, sym, take, true, true≢false, ℕ, ◌+◌, ◌++◌, ◌∙◌, ◌∷◌, ◌<◌, ◌≡◌, ◌≤◌, ◌⊎◌}
+use Rattle.std.proofs.Common.{Err, IfSome, List, None, Ok, OnErr, OnOk, Option, Result, Some, [], ap, append-nil, append_assoc, arith, cond, false, fold, get_or, inl, inr, length, length-append, nat_lt, refl, slice_get, subst, sym, take, true, true≢false, ℕ, ◌+◌, ◌++◌, ◌∙◌, ◌∷◌, ◌<◌, ◌≡◌, ◌≤◌}
 use Rattle.std.proofs.lemmas.List.{get_or-map, length-map, take_more}
 use Rattle.std.proofs.lemmas.List.Sums.{fold-append}
 use Rattle.std.proofs.Math.Seq.{take-append-add}
@@ -7,7 +7,7 @@ use Rattle.std.proofs.lemmas.Option.{slice_get-get_or}
 use Rattle.std.specs.Result.{is_err}
 use Rattle.std.specs.Io.KnownBytes.{Appends}
 use Rattle.std.proofs.KnownBytes.{Appends-trans}
-use Rattle.agent_cli.specs.Runs.{AppendsFront, AreAnswered, AreEndedBy, CutsShort, GrowLawfully, IsCutShort, IsOpened, OfFront, TellSame, answer_behind, items_seen, line_behind, run_at, run_over}
+use Rattle.agent_cli.specs.Runs.{AppendsFront, AreAnswered, AreEndedBy, GrowLawfully, IsCutShort, IsOpened, OfFront, TellSame, answer_behind, items_seen, line_behind, run_at, run_over}
 use Rattle.agent_events.specs.Items.{ScriptItem}
 use Rattle.agent_http.specs.Seen.{item_seen}
 use Rattle.agent_http.specs.declared.script.ScriptItem.{ScriptItem as ItemRead}

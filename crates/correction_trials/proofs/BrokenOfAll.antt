@@ -1,5 +1,5 @@
 -- The least of the broken trades of the households that a correction reaches is the first one of all.
-use Rattle.std.proofs.Common.{All, Bool, Contains, List, None, Option, Some, [], ap, cond, eq-eqb, eqb-true, false, filter, find, get_or, is_some, nat_eq, not, option_map, option_to_list, refl, subst, sym, true, ℕ, ◌&&◌, ◌<◌, ◌==◌, ◌∙◌, ◌∷◌, ◌≡◌, ◌||◌}
+use Rattle.std.proofs.Common.{All, Bool, Contains, List, None, Option, Some, [], ap, cond, eq-eqb, eqb-true, false, find, is_some, nat_eq, not, option_map, option_to_list, refl, sym, true, ℕ, ◌&&◌, ◌<◌, ◌==◌, ◌∙◌, ◌∷◌, ◌≡◌, ◌||◌}
 use Rattle.std.proofs.lemmas.Bool.{and_parts, true≢false}
 use Rattle.std.proofs.lemmas.List.Elements.{All-contains}
 use Rattle.std.proofs.lemmas.List.Folds.{Any-from_list_any}
@@ -12,20 +12,18 @@ use Rattle.agent_events.specs.declared.event.EventKind.{EventKind}
 use Rattle.agent_events.specs.declared.order.Bearer.{Bearer}
 use Rattle.agent_events.specs.declared.order.Order.{Order}
 use Rattle.agent_events.specs.declared.reply.Refusal.{Refusal}
-use Rattle.agent_events.specs.declared.request.AccountForm.{AccountForm}
 use Rattle.agent_events.specs.declared.trade.Trade.{Trade}
 use Rattle.agent_events.specs.declared.verdict.Caller.{Caller}
 use Rattle.correction_effects.proofs.FirstOfAll.{least_is_first, none_is_broken}
 use Rattle.correction_effects.proofs.UnreachedLeft.{leaves_unreached}
 use Rattle.correction_effects.specs.FirstOfAll.{AreFirstOfParts, IsOwned}
 use Rattle.correction_effects.specs.Least.{IsLeastOf}
-use Rattle.correction_effects.specs.Reached.{AreReached, household_alone}
+use Rattle.correction_effects.specs.Reached.{AreReached}
 use Rattle.correction_effects.specs.declared.least.BrokenTrade.{BrokenTrade}
 use Rattle.correction_trials.specs.Fresh.{KnowsItsAccount}
 use Rattle.correction_trials.specs.Reopened.{AreReopened, IsTriedOver, broken_in}
 use Rattle.correction_trials.specs.Trials.{last_says}
 use Rattle.desk_books.specs.declared.books.DeskBooks.{DeskBooks}
-use Rattle.event_laws.specs.EventReplays.{is_correction}
 use Rattle.household_fold.specs.Facts.{Known}
 use Rattle.checkpoint_replay.specs.Moves.{Moves}
 use Rattle.ledger_of_journals.proofs.LedgerTotals.{is_of_households}
@@ -40,11 +38,11 @@ use Rattle.register_machine.specs.corrections.Payments.{bearer_in}
 use Rattle.register_machine.specs.journal.Journals.{Journal, with_event}
 use Rattle.register_machine.specs.journal.Kinds.{accounts_of, household_of}
 use Rattle.register_machine.specs.journal.Lawful.{IsLawful}
-use Rattle.register_machine.specs.pricing.CorrectedBook.{Book, book_of}
+use Rattle.register_machine.specs.pricing.CorrectedBook.{Book}
 use Rattle.register_machine.specs.pricing.CorrectedOrders.{orders_of}
 use Rattle.register_machine.specs.replay.Replay.{replay}
 use Rattle.register_machine.specs.replay.Trades.{Day}
-use Rattle.register_machine.specs.rules.Breaks.{breaks, breaks_between, breaks_by, is_broken, is_filled, is_trade_of, order_corrected, was_filled}
+use Rattle.register_machine.specs.rules.Breaks.{breaks_between, breaks_by, is_broken, is_filled, is_trade_of, order_corrected, was_filled}
 
 -- ---- the household of an account
 

@@ -1,7 +1,6 @@
 -- A correction that no rule before the last one refuses, on trial behind a lawful journal.
-use Rattle.std.proofs.Common.{Bool, None, Option, Some, ap, false, find, is_none, is_some, not, option_map, position, refl, subst, sym, true, ℕ, ◌∙◌, ◌≡◌}
+use Rattle.std.proofs.Common.{None, Option, Some, ap, is_none, is_some, option_map, position, refl, sym, true, ℕ, ◌∙◌, ◌≡◌}
 use Rattle.std.proofs.lemmas.Bool.{true≢false}
-use Rattle.std.specs.List.{AllByRecursion}
 use Rattle.agent_events.specs.Events.{Event, event_of, request_of}
 use Rattle.agent_events.specs.declared.event.EventKind.{EventKind}
 use Rattle.agent_events.specs.declared.order.Order.{Order}
@@ -12,11 +11,9 @@ use Rattle.agent_events.specs.declared.request.EntryForm.{EntryForm}
 use Rattle.agent_events.specs.declared.request.Request.{Request}
 use Rattle.agent_events.specs.declared.verdict.Caller.{Caller}
 use Rattle.agent_events.specs.declared.verdict.Verdict.{Verdict}
-use Rattle.correction_trials.specs.Fresh.{FreshIsOnTrial, IsOnTrial, KnowsItsAccount}
-use Rattle.correction_trials.specs.Trials.{IsFresh}
+use Rattle.correction_trials.specs.Fresh.{FreshIsOnTrial, KnowsItsAccount}
 use Rattle.event_laws.proofs.TriedCorrections.{tried_has_a_book}
 use Rattle.event_laws.specs.EventReplays.{is_correction}
-use Rattle.event_laws.specs.TriedCorrections.{IsTried}
 use Rattle.ledger_laws.proofs.TrialBooks.{trial_is_sound}
 use Rattle.order_book.proofs.BroughtFits.{fresh_fits}
 use Rattle.order_book.specs.Books.{Fits, begins_new_name}
@@ -29,9 +26,7 @@ use Rattle.register_laws.specs.OneEventMore.{TouchesNothing, is_unfixed}
 use Rattle.register_machine.specs.journal.Choices.{first_some}
 use Rattle.register_machine.specs.journal.Journals.{Journal}
 use Rattle.register_machine.specs.journal.Kinds.{account_numbered, accounts_of, household_of}
-use Rattle.register_machine.specs.journal.Lawful.{IsLawful}
 use Rattle.register_machine.specs.pricing.CorrectedOrders.{order_named, orders_of}
-use Rattle.register_machine.specs.rules.Breaks.{order_corrected}
 use Rattle.register_machine.specs.rules.InOrder.{Rule, broken_rule, first_rules}
 use Rattle.register_machine.specs.rules.NamedThings.{none_such, things_named}
 use Rattle.register_machine.specs.rules.Situations.{Situation, event_at}

@@ -1,11 +1,9 @@
 -- What the replay of one household makes, and what nothing makes.
-use Rattle.std.proofs.Common.{All, Err, List, None, Ok, Option, Result, Some, [], ap, arith, length, nat_eq, refl, subst, sym, true, ℕ, ◌+◌, ◌∙◌, ◌∷◌, ◌≡◌}
+use Rattle.std.proofs.Common.{All, Err, List, Ok, Result, [], ap, arith, length, refl, subst, sym, ℕ, ◌+◌, ◌∙◌, ◌∷◌, ◌≡◌}
 use Rattle.std.proofs.lemmas.Bool.{true≢false}
 use Rattle.std.proofs.lemmas.List.Elements.{All-head, All-nil}
 use Rattle.std.specs.Prelude.{IfOk, OnOk}
 use Rattle.agent_events.specs.Events.{Event}
-use Rattle.agent_events.specs.declared.order.Order.{Order}
-use Rattle.agent_events.specs.declared.order.Party.{Party}
 use Rattle.checkpoint_replay.specs.Differences.{AreChangesOf}
 use Rattle.checkpoint_replay.specs.Moves.{Moves, households_of, part_after}
 use Rattle.checkpoint_replay.specs.Parts.{first_day}
@@ -16,7 +14,7 @@ use Rattle.correction_trials.specs.Reopened.{IsOneMore}
 use Rattle.desk_books.specs.declared.books.DeskBooks.{DeskBooks}
 use Rattle.household_fold.proofs.QuietFacts.{quiet-step}
 use Rattle.household_fold.specs.Facts.{Known}
-use Rattle.household_fold.specs.Households.{IsOrderOf, IsOwnPlace, step_known}
+use Rattle.household_fold.specs.Households.{IsOrderOf, IsOwnPlace}
 use Rattle.household_fold.specs.Numbers.{AreNumbersWithin}
 use Rattle.household_replay.specs.Replays.{NumberedOrder, days_behind}
 use Rattle.ledger_laws.specs.PartsByFacts.{AreRowsOf}

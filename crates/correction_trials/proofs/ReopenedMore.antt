@@ -1,19 +1,16 @@
 -- The households that were reopened so far, with one more.
-use Rattle.std.proofs.Common.{All, Bool, Contains, List, None, Option, Some, [], ap, arith, cond, eq-eqb, false, fold, inl, inr, length, map, nat_eq, refl, subst, sym, true, ℕ, ℤ, ◌++◌, ◌+ℤ◌, ◌∙◌, ◌∷◌, ◌≡◌, ◌⊎◌}
+use Rattle.std.proofs.Common.{All, Contains, List, None, Option, Some, [], ap, arith, fold, inl, inr, refl, subst, sym, ℕ, ℤ, ◌++◌, ◌+ℤ◌, ◌∙◌, ◌∷◌, ◌≡◌, ◌⊎◌}
 use Rattle.std.proofs.lemmas.Int.{ints}
-use Rattle.std.proofs.lemmas.Bool.{true≢false}
 use Rattle.std.proofs.lemmas.List.Elements.{All-nil, All-push, Contains-append_left, Contains-push_cases}
 use Rattle.std.proofs.lemmas.List.Quantifiers.{Any-push}
 use Rattle.std.proofs.lemmas.List.Sums.{fold-append}
-use Rattle.std.specs.List.{Any, IsDistinct}
+use Rattle.std.specs.List.{Any}
 use Rattle.agent_events.specs.Events.{Event}
 use Rattle.agent_events.specs.declared.order.Party.{Party}
-use Rattle.agent_events.specs.declared.order.OrderRow.{OrderRow}
 use Rattle.agent_events.specs.declared.totals.Changes.{Changes}
 use Rattle.agent_events.specs.declared.trade.Trade.{Trade}
 use Rattle.checkpoint_replay.specs.Differences.{AreChangesOf, cash_by_moves, mils_by_moves, with_cash_of, with_mils_of}
-use Rattle.checkpoint_replay.specs.Moves.{AreApart, Moves, households_of, part_after}
-use Rattle.checkpoint_replay.specs.Parts.{first_day}
+use Rattle.checkpoint_replay.specs.Moves.{AreApart, Moves, households_of}
 use Rattle.checkpoint_replay.specs.declared.change.HouseholdMove.{HouseholdMove}
 use Rattle.checkpoint_replay.specs.declared.part.HouseholdPart.{HouseholdPart}
 use Rattle.correction_effects.proofs.LeastTurn.{least_stays}
@@ -21,7 +18,6 @@ use Rattle.correction_effects.specs.FirstOfAll.{IsFirstOfPart}
 use Rattle.correction_effects.specs.Least.{IsLeastOf, with_broken}
 use Rattle.correction_effects.specs.Turns.{turn_in}
 use Rattle.correction_effects.specs.declared.least.BrokenTrade.{BrokenTrade}
-use Rattle.correction_effects.specs.declared.turns.Turn.{Turn}
 use Rattle.correction_trials.specs.Reopened.{AreJoined, AreReopened, IsOneMore, SeesBroken, broken_in, changes_of, moves_of}
 use Rattle.desk_books.specs.declared.books.DeskBooks.{DeskBooks}
 use Rattle.gain_loss_book.specs.ClassGains.{mils_change}
@@ -29,12 +25,10 @@ use Rattle.gain_loss_book.specs.Flows.{net, no_flow}
 use Rattle.gain_loss_book.specs.Posted.{cash_change}
 use Rattle.gain_loss_book.specs.declared.flows.Flow.{Flow}
 use Rattle.household_fold.specs.Facts.{Known}
-use Rattle.household_replay.specs.Replays.{NumberedOrder, days_behind}
-use Rattle.ledger_laws.specs.PartsByFacts.{AreRowsOf}
 use Rattle.ledger_of_journals.specs.CorrectedLedgers.{AreReopenings}
 use Rattle.ledger_of_journals.proofs.Reopenings.{none_reopened, one_reopened, reopenings_join}
 use Rattle.register_laws.specs.Lawful.{book_behind}
-use Rattle.register_machine.specs.journal.Journals.{Journal, with_event}
+use Rattle.register_machine.specs.journal.Journals.{with_event}
 use Rattle.register_machine.specs.journal.Kinds.{accounts_of}
 use Rattle.register_machine.specs.replay.Replay.{replay}
 use Rattle.register_machine.specs.rules.Breaks.{order_corrected}

@@ -12,15 +12,14 @@ use Rattle.correction_trials.specs.Served.{OrderIsServed, PriceIsServed, RateIsS
 use Rattle.desk_books.specs.BooksOfJournals.{AreBooksOf}
 use Rattle.desk_books.specs.declared.books.DeskBooks.{DeskBooks}
 use Rattle.event_laws.specs.EventReplays.{is_correction}
-use Rattle.forward_price.specs.PriceTables.{Table, patched}
+use Rattle.forward_price.specs.PriceTables.{Table}
 use Rattle.forward_price.specs.declared.price_sheet.Patch.{Patch}
 use Rattle.forward_price.specs.declared.price_sheet.Sheet.{Sheet}
 use Rattle.household_fold.specs.Facts.{Known}
 use Rattle.journal_tables.specs.Tables.{row_of_fix, with_fixed_rate}
-use Rattle.journal_tables.specs.TablesOfJournals.{IsPricedOn, known_of, known_with_patch, known_with_rates, patch_by, patch_on}
+use Rattle.journal_tables.specs.TablesOfJournals.{IsPricedOn, patch_by, patch_on}
 use Rattle.ledger_of_journals.proofs.FixedPrices.{price_of_one_sheet}
 use Rattle.ledger_of_journals.proofs.ServedBooks.{order_correction_served, price_correction_served, rate_correction_served}
-use Rattle.ledger_of_journals.specs.BookFacts.{ServeLastSheet}
 use Rattle.ledger_of_journals.specs.TableFacts.{IsOnTrial as IsTrialOf}
 use Rattle.register_laws.specs.CorrectionReach.{order_changed}
 use Rattle.register_laws.specs.Lawful.{book_behind}

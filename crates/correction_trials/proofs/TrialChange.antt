@@ -1,22 +1,21 @@
 -- What the trial of a correction makes of the ledger is what the correction does, where it then follows the journal.
-use Rattle.std.proofs.Common.{Bool, List, None, Option, Some, [], ap, cond, eqb-true, false, fold, is_some, nat_eq, refl, subst, sym, true, ℕ, ◌∙◌, ◌∷◌, ◌≡◌, ◌||◌}
+use Rattle.std.proofs.Common.{Bool, List, Option, Some, [], ap, cond, false, fold, nat_eq, refl, sym, true, ℕ, ◌∙◌, ◌∷◌, ◌≡◌, ◌||◌}
 use Rattle.std.proofs.lemmas.Bool.{true≢false}
 use Rattle.std.specs.List.{list_any}
 use Rattle.agent_events.specs.Events.{Event}
 use Rattle.agent_events.specs.declared.event.EventKind.{EventKind}
 use Rattle.agent_events.specs.declared.order.Bearer.{Bearer}
 use Rattle.agent_events.specs.declared.reply_lists.ClassGain.{ClassGain}
-use Rattle.checkpoint_replay.specs.Differences.{AreChangesOf}
-use Rattle.checkpoint_replay.specs.Moves.{AreApart, Moves, day_after_move, day_if_moved, households_of, part_after}
+use Rattle.checkpoint_replay.specs.Moves.{AreApart, Moves, day_after_move, day_if_moved, part_after}
 use Rattle.checkpoint_replay.specs.Parts.{part_in}
 use Rattle.checkpoint_replay.specs.declared.change.HouseholdMove.{HouseholdMove}
 use Rattle.correction_effects.specs.Reached.{AreReached}
 use Rattle.correction_effects.specs.declared.least.BrokenTrade.{BrokenTrade}
 use Rattle.correction_trials.proofs.BrokenOfAll.{part-left}
 use Rattle.correction_trials.proofs.ChangedClasses.{has_changed, numbers_rise}
-use Rattle.correction_trials.proofs.MovedDays.{LeadToDays, differences-by-days}
+use Rattle.correction_trials.proofs.MovedDays.{differences-by-days}
 use Rattle.correction_trials.specs.Changed.{AreGainsOf, AreWithin, change_with}
-use Rattle.correction_trials.specs.Reopened.{AreReopened, IsTriedOver, changes_of, moves_of}
+use Rattle.correction_trials.specs.Reopened.{AreReopened, IsTriedOver}
 use Rattle.desk_books.specs.LedgerChanges.{IsLedgerChange}
 use Rattle.desk_books.specs.declared.books.DeskBooks.{DeskBooks}
 use Rattle.event_laws.specs.EventReplays.{is_correction, is_sheet}
@@ -32,7 +31,6 @@ use Rattle.ledger_of_journals.proofs.CorrectedParts.{keeps_accounts, reopens}
 use Rattle.ledger_of_journals.proofs.LedgerTotals.{is_of_households}
 use Rattle.ledger_of_journals.proofs.Reopenings.{reopenings_correct}
 use Rattle.ledger_of_journals.specs.CorrectedLedgers.{LeavesUnmoved, is_moved}
-use Rattle.ledger_of_journals.specs.Ledgers.{IsLedgerOf}
 use Rattle.register_laws.proofs.OneEventMore.{table_goes_on}
 use Rattle.register_laws.specs.Households.{part_of}
 use Rattle.register_laws.specs.Lawful.{book_behind}

@@ -1,16 +1,14 @@
 -- The orders of a household on trial, under the numbers of their sheets.
-use Rattle.std.proofs.Common.{List, Option, Some, ap, filter, map, refl, subst, sym, true, ℕ, ◌∙◌, ◌≡◌}
+use Rattle.std.proofs.Common.{List, Some, ap, map, refl, sym, true, ℕ, ◌∙◌, ◌≡◌}
 use Rattle.std.proofs.lemmas.Bool.{true≢false}
 use Rattle.agent_events.specs.Events.{Event}
 use Rattle.agent_events.specs.declared.event.EventKind.{EventKind}
-use Rattle.agent_events.specs.declared.order.Order.{Order}
 use Rattle.agent_events.specs.declared.order.OrderRow.{OrderRow}
 use Rattle.agent_events.specs.declared.request.AccountForm.{AccountForm}
 use Rattle.correction_trials.specs.Fresh.{IsOnTrial}
 use Rattle.event_laws.specs.EventReplays.{is_correction}
 use Rattle.forward_price.specs.PriceTables.{Table}
-use Rattle.forward_price.specs.declared.price_sheet.Sheet.{Sheet}
-use Rattle.household_replay.specs.Replays.{NumberedOrder, orders_under}
+use Rattle.household_replay.specs.Replays.{NumberedOrder}
 use Rattle.ledger_laws.specs.PartsByFacts.{AreRowsOf}
 use Rattle.ledger_of_journals.proofs.CorrectedParts.{keeps_accounts, standing_are_rows}
 use Rattle.register_laws.proofs.CorrectionReach.{price-orders}
@@ -20,7 +18,7 @@ use Rattle.register_laws.specs.OneEventMore.{corrected_table, corrected_table_by
 use Rattle.register_machine.specs.journal.Journals.{Journal, with_event}
 use Rattle.register_machine.specs.journal.Kinds.{accounts_of}
 use Rattle.register_machine.specs.pricing.CorrectedBook.{Book}
-use Rattle.register_machine.specs.pricing.CorrectedOrders.{orders_of, stands}
+use Rattle.register_machine.specs.pricing.CorrectedOrders.{orders_of}
 use Rattle.register_machine.specs.replay.Replay.{Priced, orders_on, priced_orders}
 use Rattle.standing_orders.specs.Priced.{AreOwnOnTrial}
 use Rattle.standing_orders.specs.Rows.{AreOwners}

@@ -5,16 +5,14 @@ use Rattle.agent_events.specs.Events.{Event}
 use Rattle.forward_price.specs.declared.price_sheet.Sheet.{Sheet}
 use Rattle.agent_events.specs.declared.order.Bearer.{Bearer}
 use Rattle.agent_events.specs.declared.reply.Refusal.{Refusal}
-use Rattle.checkpoint_replay.specs.Differences.{AreChangesOf}
 use Rattle.checkpoint_replay.specs.Moves.{AreApart, Moves, households_of}
 use Rattle.checkpoint_replay.specs.declared.change.HouseholdMove.{HouseholdMove}
-use Rattle.checkpoint_replay.specs.declared.part.HouseholdPart.{HouseholdPart}
 use Rattle.correction_effects.specs.declared.least.BrokenTrade.{BrokenTrade}
 use Rattle.correction_trials.proofs.BrokenOfAll.{last_is}
 use Rattle.correction_trials.proofs.TrialChange.{changes_ledger}
 use Rattle.correction_trials.proofs.TrialSteps.{rising_differ}
 use Rattle.correction_trials.specs.Changed.{AreMovesOf, IsChangeWith, IsMadeOf}
-use Rattle.correction_trials.specs.Reopened.{AreReopened, IsReopenedWhole, IsTriedOver, changes_of, moves_of}
+use Rattle.correction_trials.specs.Reopened.{AreReopened, IsReopenedWhole, IsTriedOver}
 use Rattle.correction_trials.specs.Trials.{Says}
 use Rattle.correction_trials.specs.declared.trial.Tried.{Tried}
 use Rattle.desk_books.specs.LedgerChanges.{IsLedgerChange}

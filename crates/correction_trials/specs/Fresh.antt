@@ -1,5 +1,5 @@
 -- What holds of a correction on trial before it is known whether it breaks an order.
-use Rattle.std.specs.Prelude.{Some, is_some, true, ℕ, ◌≡◌}
+use Rattle.std.specs.Prelude.{Some, is_some, true, ◌≡◌}
 use Rattle.agent_events.specs.Events.{Event}
 use Rattle.agent_events.specs.declared.event.EventKind.{EventKind}
 use Rattle.agent_events.specs.declared.order.Order.{Order}

@@ -1,6 +1,6 @@
 -- The facts by which a correction on trial is replayed: the tables and the prices that the desk keeps, with a corrected rate among
 -- the others, or under the patch of a corrected price.
-use Rattle.std.specs.Prelude.{None, Option, Some, List, is_some, length, true, ℕ, ◌≡◌, ◌≤◌}
+use Rattle.std.specs.Prelude.{None, Option, Some, List, is_some, length, true, ◌≡◌, ◌≤◌}
 use Rattle.agent_events.specs.Events.{Event}
 use Rattle.agent_events.specs.declared.event.EventKind.{EventKind}
 use Rattle.agent_events.specs.declared.request.FixPriceForm.{FixPriceForm}

@@ -1,6 +1,6 @@
 -- A correction that no rule before the last one refuses, and what its trial says: the order that it breaks first, or what it makes
 -- of the ledger.
-use Rattle.std.specs.Prelude.{List, None, Option, Some, true, ℕ, ◌≡◌}
+use Rattle.std.specs.Prelude.{List, None, Option, Some, ℕ, ◌≡◌}
 use Rattle.agent_events.specs.Events.{Event}
 use Rattle.agent_events.specs.declared.reply.Refusal.{Refusal}
 use Rattle.agent_events.specs.declared.request.Request.{Request}

@@ -1,6 +1,6 @@
 -- The answer to the event that a request brings: its first reply, and the event, which then follows the journal; or the refusal of
 -- the last rule, which is the same whoever asks.
-use Rattle.std.proofs.Common.{None, Option, Some, [], ap, false, is_some, refl, subst, sym, true, ℕ, ◌++◌, ◌∙◌, ◌∷◌, ◌≡◌, ◌≤◌}
+use Rattle.std.proofs.Common.{List, None, Option, Some, [], ap, false, is_some, refl, subst, sym, true, ℕ, ◌++◌, ◌||◌, ◌∙◌, ◌∷◌, ◌≡◌, ◌≤◌}
 use Rattle.std.proofs.lemmas.Bool.{true≢false}
 use Rattle.agent_events.specs.Events.{Event}
 use Rattle.agent_events.specs.declared.event.EventKind.{EventKind}
@@ -10,10 +10,13 @@ use Rattle.agent_events.specs.declared.reply.Reply.{Reply}
 use Rattle.agent_events.specs.declared.request.Request.{Request}
 use Rattle.agent_events.specs.declared.verdict.Caller.{Caller}
 use Rattle.agent_events.specs.declared.verdict.Verdict.{Verdict}
+use Rattle.checkpoint_replay.specs.Moves.{households_of}
 use Rattle.correction_trials.specs.Trials.{IsFresh, last_says}
 use Rattle.desk_answers.proofs.Verdicts.{fresh_moment}
 use Rattle.desk_answers.specs.Answered.{IsCaller}
-use Rattle.desk_answers.specs.Fresh.{FollowsUnlessBroken, first_answer}
+use Rattle.desk_answers.specs.Fresh.{FollowsUnlessBroken, first_answer, ledger_of, moves_in}
+use Rattle.desk_answers.specs.Steps.{TakesSteps}
+use Rattle.desk_books.specs.declared.change.EventChange.{EventChange}
 use Rattle.event_laws.specs.EventReplays.{is_correction, is_sheet}
 use Rattle.register_laws.proofs.CorrectedAgain.{reply-again}
 use Rattle.register_laws.proofs.RunsAreLawful.{IsAmong, answer_is_lawful}
@@ -26,6 +29,7 @@ use Rattle.register_machine.specs.pricing.PublishedTable.{table_of}
 use Rattle.register_machine.specs.rules.Breaks.{breaks, breaks_by}
 use Rattle.register_machine.specs.run.Answers.{Answer, answer, answer_by, fresh_answer}
 use Rattle.register_machine.specs.run.Verdicts.{verdict}
+use Rattle.sheet_trials.specs.Reached.{TakeOneStepEach}
 
 -- ---- the last rule
 
@@ -49,6 +53,14 @@ sheet_is_none (EventKind.Enter form) e = absurd (true≢false (sym e))
 sheet_is_none (EventKind.Replace form) e = absurd (true≢false (sym e))
 sheet_is_none (EventKind.Void form) e = absurd (true≢false (sym e))
 sheet_is_none _ e = refl
+
+-- a sheet takes one step for each household that it moves, and is no correction
+pub sheet_steps : (journal : Journal) (owners : List ℕ) (event : Event) (change : Option EventChange) (before after : ℕ) → is_sheet event.kind ≡ true → TakeOneStepEach journal event (households_of (moves_in (ledger_of change))) before after → TakesSteps journal owners event change before after
+sheet_steps journal owners event change before after e each = record {
+  sheet = λ _. each;
+  correction = λ h. absurd (true≢false (sym h ∙ sheet_is_none event.kind e));
+  other = λ h. absurd (true≢false (sym (ap (λ b. b || is_correction event.kind) e) ∙ h));
+}
 
 -- ---- the answer
 

@@ -3,13 +3,14 @@ use Rattle.std.specs.Prelude.{List, Option, false, length, true, ℕ, ◌*◌, �
 use Rattle.agent_events.specs.Events.{Event}
 use Rattle.agent_events.specs.declared.event.EventKind.{EventKind}
 use Rattle.agent_events.specs.declared.verdict.Verdict.{Verdict}
+use Rattle.checkpoint_replay.specs.Moves.{households_of}
 use Rattle.correction_effects.specs.Reached.{AreReached}
 use Rattle.desk_answers.specs.Fresh.{ledger_of, moves_in}
 use Rattle.desk_books.specs.declared.change.EventChange.{EventChange}
 use Rattle.event_laws.specs.EventReplays.{is_correction, is_sheet}
 use Rattle.register_laws.specs.Lawful.{book_behind}
 use Rattle.register_machine.specs.journal.Journals.{Journal}
-use Rattle.sheet_trials.specs.Reached.{CountsMoves}
+use Rattle.sheet_trials.specs.Reached.{TakeOneStepEach}
 
 -- at most as many steps as there are sheets, for each household that a correction can reach
 abbrev pub StepsWhereReached : Journal → List ℕ → EventKind → ℕ → ℕ → Type 0
@@ -17,10 +18,10 @@ StepsWhereReached journal owners kind before after =
     (households : List ℕ) × AreReached journal owners kind households
     × (after ≤ before + length households * length (book_behind journal).table.sheets)
 
--- a new sheet takes one step for each household that it moves, a new correction those of the households that it can reach, and
+-- a new sheet takes one step for each household that it moves, for which it isn't quiet, a new correction those of the households that it can reach, and
 -- any other new event none
 pub record TakesSteps (journal : Journal) (owners : List ℕ) (event : Event) (change : Option EventChange) (before after : ℕ) : Type 0 where
-  pub sheet : is_sheet event.kind ≡ true → CountsMoves before after (moves_in (ledger_of change))
+  pub sheet : is_sheet event.kind ≡ true → TakeOneStepEach journal event (households_of (moves_in (ledger_of change))) before after
   pub correction : is_correction event.kind ≡ true → StepsWhereReached journal owners event.kind before after
   pub other : (is_sheet event.kind || is_correction event.kind) ≡ false → after ≡ before
 

@@ -1,5 +1,6 @@
 //! The answer to a request that brings an event: a sheet and a correction are tried first.
 ghost use Rattle.std.specs.Prelude.{◌≡◌, IfOk, None, false, true, ◌||◌};
+ghost use Rattle.checkpoint_replay.specs.Moves.{households_of};
 ghost use Rattle.correction_trials.specs.Trials.{IsFresh, last_says};
 ghost use Rattle.desk_answers.specs.Answered.{IsReadyToNote, answer_given};
 ghost use Rattle.desk_answers.specs.Fresh.{FollowsUnlessBroken, first_answer, ledger_of, moves_in};
@@ -8,7 +9,7 @@ ghost use Rattle.desk_books.specs.BooksOfJournals.{AreBooksOf, ShowTheSame};
 ghost use Rattle.event_laws.specs.EventReplays.{is_correction, is_sheet};
 ghost use Rattle.register_machine.specs.journal.Journals.{with_event};
 ghost use Rattle.register_machine.specs.journal.Lawful.{IsLawful};
-ghost use Rattle.sheet_trials.specs.Reached.{CountsMoves};
+ghost use Rattle.sheet_trials.specs.Reached.{TakeOneStepEach};
 
 use crate::answering::{Answered, reply_alone};
 use crate::noting::answer_event;
@@ -60,8 +61,8 @@ fn answer_sheet<L: StepLedger>(
     ensures answer { IfOk result (λ answered. answer_given answered
         ≡ first_answer books.old.book.journal event None) }
     ensures ready { IfOk result (λ answered. IsReadyToNote books.new answered.change) }
-    ensures steps { IfOk result (λ answered. CountsMoves steps.old steps.new
-        (moves_in (ledger_of answered.change))) }
+    ensures steps { IfOk result (λ answered. TakeOneStepEach books.old.book.journal event
+        (households_of (moves_in (ledger_of answered.change))) steps.old steps.new) }
 {
     let ledger = try_sheet(alloc, books, &event, steps)?;
     answer_event(alloc, books, event, Some(ledger))

@@ -1,7 +1,7 @@
-use Rattle.std.proofs.Common.{List, None, Option, Some, subst, sym, ℕ, ◌∙◌, ◌≤◌}
+use Rattle.std.proofs.Common.{List, None, subst, sym}
 use Rattle.agent_events.specs.declared.rows.RateRow.{RateRow}
 use Rattle.correction_trials.specs.Reopened.{IsTriedOver}
-use Rattle.correction_trials.specs.Served.{ServeTrial, known_in}
+use Rattle.correction_trials.specs.Served.{known_in}
 use Rattle.correction_trials.proofs.FreshTrials.{fresh_is_on_trial}
 use Rattle.correction_trials.proofs.ServedTrials.{order_served}
 use Rattle.correction_trials.proofs.trial.try_order.Goals as goal

@@ -1,4 +1,4 @@
-use Rattle.std.proofs.Common.{List, None, Option, Some, subst, sym, ℕ, ◌∙◌, ◌≤◌}
+use Rattle.std.proofs.Common.{List, Some, subst, sym, ◌∙◌}
 use Rattle.agent_events.specs.declared.rows.RateRow.{RateRow}
 use Rattle.correction_trials.specs.Reopened.{IsTriedOver}
 use Rattle.correction_trials.specs.Served.{known_in}

@@ -1,6 +1,5 @@
-use Rattle.std.proofs.Common.{List, None, Option, Some, subst, sym, ℕ, ◌∙◌, ◌≤◌}
+use Rattle.std.proofs.Common.{List, None, subst, sym, ℕ, ◌≤◌}
 use Rattle.agent_events.specs.declared.rows.RateRow.{RateRow}
-use Rattle.correction_trials.specs.Reopened.{IsTriedOver}
 use Rattle.correction_trials.specs.Served.{ServeTrial, known_in}
 use Rattle.correction_trials.proofs.FreshTrials.{fresh_is_on_trial}
 use Rattle.correction_trials.proofs.ServedTrials.{rate_served}
