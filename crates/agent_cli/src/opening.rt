@@ -1,7 +1,7 @@
 //! Opens the store, before anything is read.
 ghost use Rattle.std.specs.Prelude.{◌≡◌, ◌≤◌, Err, IfOk, IsTrue, OnErr, OnOk, ℕ};
 ghost use Rattle.agent_cli.specs.Runs.{TellSame};
-ghost use Rattle.agent_keeper.specs.Calls.{Rose};
+ghost use Rattle.agent_keeper.specs.Calls.{OnlyReads, Rose};
 ghost use Rattle.agent_keeper.specs.Content.{Content};
 ghost use Rattle.register_desk.specs.Rows.{IsDamagedAt, TellsRowsOf};
 ghost use Rattle.register_desk.specs.declared.faults.StartFault.{StartFault as Fault};
@@ -34,6 +34,35 @@ fn attach<K: Keeper>(alloc: Global, path: &[u8], keeper: &mut K) -> Result<(), S
     }
 }
 
+// The desk of the journal whose rows an attached keeper keeps.
+fn started<K: Keeper, L: StepLedger>(
+    alloc: Global,
+    keeper: &mut K,
+    steps: &mut Steps<L>,
+) -> Result<Desk, StartFault>
+    requires { IsTrue (K.is_attached keeper.old) }
+    ensures attached { IsTrue (K.is_attached keeper.new) }
+    ensures told { IfOk result (λ desk. TellsRowsOf (K.tells keeper.new) desk.book.journal) }
+    ensures lawful { IfOk result (λ desk. IsLawful desk.book.journal) }
+    ensures reads { OnlyReads K.tells K.may_leave K.is_honest keeper.old keeper.new }
+    ensures speaks { OnOk result
+        (K.is_honest keeper.new → (kept : Content) → K.tells keeper.old kept
+        → K.tells keeper.new kept) }
+    ensures damaged { (place : ℕ) → result ≡ Err (Fault.Damaged place) → (kept : Content)
+        → K.tells keeper.new kept
+        → IsDamagedAt place kept.rows }
+    ensures fault { result ≡ Err Fault.Keeper → Rose (K.faults keeper.old) (K.faults keeper.new) }
+    ensures never_falls { K.faults keeper.old ≤ K.faults keeper.new }
+{
+    match Desk::start(alloc, keeper, steps) {
+        Ok(desk) => {
+            desk.journal_is_lawful();
+            Ok(desk)
+        }
+        Err(fault) => Err(fault),
+    }
+}
+
 /// Opens the store at a path: the desk of the journal whose rows it keeps.
 pub fn open<K: Keeper, L: StepLedger>(
     alloc: Global,
@@ -55,11 +84,5 @@ pub fn open<K: Keeper, L: StepLedger>(
     ensures never_falls { K.faults keeper.old ≤ K.faults keeper.new }
 {
     attach(alloc, path, keeper)?;
-    match Desk::start(alloc, keeper, steps) {
-        Ok(desk) => {
-            desk.journal_is_lawful();
-            Ok(desk)
-        }
-        Err(fault) => Err(fault),
-    }
+    started(alloc, keeper, steps)
 }

@@ -80,6 +80,9 @@ fn line_of_damage(alloc: Global, place: u64) -> Result<Vec<u8>, NoMemory>
     Ok(line)
 }
 
+// Gives the desk up, whose journal lies in the store.
+fn close(_desk: Desk) {}
+
 // Answers a script that was read to its end, behind the journal of the desk.
 fn answered<K: Keeper, O: Sink, L: StepLedger>(
     alloc: Global,
@@ -117,6 +120,7 @@ fn answered<K: Keeper, O: Sink, L: StepLedger>(
 {
     let ends = answer_script(alloc, operator, &mut desk, keeper, script, out, steps);
     desk.journal_is_lawful();
+    close(desk);
     match ends {
         Ok(()) => Status(0),
         Err(AnswerFault::Write) => Status(4),
