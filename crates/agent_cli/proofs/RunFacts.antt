@@ -1,5 +1,5 @@
 -- Runs from a journal on, item by item.
-use Rattle.std.proofs.Common.{Err, IfSome, List, None, Ok, OnErr, OnOk, Option, Result, Some, [], ap, append-nil, append_assoc, arith, cond, false, fold, get_or, inl, inr, length, length-append, nat_lt, refl, slice_get, subst, sym, take, true, true≢false, ℕ, ◌+◌, ◌++◌, ◌∙◌, ◌∷◌, ◌<◌, ◌≡◌, ◌≤◌}
+use Rattle.std.proofs.Common.{Err, IfSome, List, None, Ok, OnErr, OnOk, Option, Result, Some, [], ap, append-nil, append_assoc, arith, cond, false, fold, get_or, inl, inr, length, length-append, nat_lt, refl, slice_get, subst, sym, take, true, true≢false, ℕ, ◌+◌, ◌++◌, ◌==◌, ◌∙◌, ◌∷◌, ◌<◌, ◌≡◌, ◌≤◌}
 use Rattle.std.proofs.lemmas.List.{get_or-map, length-map, take_more}
 use Rattle.std.proofs.lemmas.List.Sums.{fold-append}
 use Rattle.std.proofs.Math.Seq.{take-append-add}
@@ -7,10 +7,16 @@ use Rattle.std.proofs.lemmas.Option.{slice_get-get_or}
 use Rattle.std.specs.Result.{is_err}
 use Rattle.std.specs.Io.KnownBytes.{Appends}
 use Rattle.std.proofs.KnownBytes.{Appends-trans}
-use Rattle.agent_cli.specs.Runs.{AppendsFront, AreAnswered, AreEndedBy, GrowLawfully, IsCutShort, IsOpened, OfFront, TellSame, answer_behind, items_seen, line_behind, run_at, run_over}
+use Rattle.agent_cli.specs.Runs.{AppendsFront, AreAnswered, AreEndedBy, CountsEnds, EndsAs, EndsWithLine, GrowLawfully, IsCutShort, IsOpened, IsStopped, OfFront, TellSame, answer_behind, items_seen, line_behind, run_at, run_over, status_line, status_of}
+use Rattle.agent_cli.specs.declared.apply.AnswerFault.{AnswerFault}
+use Rattle.agent_cli.specs.declared.apply.AnswerFault.TheVariants.{Keeper, NoMemory, Write}
 use Rattle.agent_events.specs.Items.{ScriptItem}
 use Rattle.agent_http.specs.Seen.{item_seen}
 use Rattle.agent_http.specs.declared.script.ScriptItem.{ScriptItem as ItemRead}
+use Rattle.agent_cli.specs.declared.run.TheConstants.{MAX_SCRIPT}
+use Rattle.agent_edge.specs.Counts.{Rose}
+use Rattle.std.specs.List.{list_any}
+use Rattle.agent_keeper.specs.Calls.{Rose as KeeperRose}
 use Rattle.agent_keeper.specs.Content.{Content}
 use Rattle.agent_events.specs.declared.reply.Refusal.{Refusal}
 use Rattle.agent_events.specs.VerbForms.{Asked}
@@ -25,7 +31,7 @@ use Rattle.register_machine.specs.pricing.PublishedTable.{empty_table, table_aft
 use Rattle.register_machine.specs.rules.Callers.{caller_of}
 use Rattle.register_machine.specs.rules.Situations.{situation_at}
 use Rattle.register_machine.specs.run.Answers.{answer, answer_asked, refuses}
-use Rattle.register_machine.specs.run.Scripts.{Run, all_verbs_built, item_answer, item_step, reply_line, run_from, situation_in}
+use Rattle.register_machine.specs.run.Scripts.{Run, all_verbs_built, item_answer, item_step, reply_line, run_from, script_items, situation_in}
 
 table-more : (table : Table) (journal events : Journal) → table ≡ table_of journal → table_behind table events ≡ table_of (journal ++ events)
 unfolding table_behind
@@ -126,6 +132,82 @@ pub front-ended : (said operator : List ℕ) (opened : Journal) (items : List Sc
 front-ended said operator opened items told old mid new (count, within, answered) front =
     (count, within, ended-by said operator opened (take count items) told old mid new answered front)
 
+-- what a status says of answers that ended early
+pub ended-cut : (operator : List ℕ) (opened : Journal) (items : List ScriptItem) (told : Content → Type 0) (old mid new : Option (List ℕ)) (ends : Result Unit AnswerFault) (fault : AnswerFault) (status : ℕ) → EndsAs operator opened items told old mid ends → ends ≡ Err fault → status ≡ status_of fault → EndsWithLine fault mid new → status ≡ 4 → IsCutShort operator opened items told old new
+ended-cut operator opened items told old mid new ends Write status held is known line e =
+    subst (λ out. IsCutShort operator opened items told old out) (sym line) (subst (EndsAs operator opened items told old mid) is held)
+ended-cut operator opened items told old mid new ends Keeper status held is known line e = absurd (wrong e known)
+  where
+    wrong : status ≡ 4 → status ≡ 5 → ⊥
+    wrong a b = omega (arith, a, b)
+ended-cut operator opened items told old mid new ends NoMemory status held is known line e = absurd (wrong e known)
+  where
+    wrong : status ≡ 4 → status ≡ 7 → ⊥
+    wrong a b = omega (arith, a, b)
+
+pub ended-failed : (operator : List ℕ) (opened : Journal) (items : List ScriptItem) (told : Content → Type 0) (old mid new : Option (List ℕ)) (ends : Result Unit AnswerFault) (fault : AnswerFault) (status : ℕ) → EndsAs operator opened items told old mid ends → ends ≡ Err fault → status ≡ status_of fault → EndsWithLine fault mid new → status ≡ 5 → OfFront (λ front. AreEndedBy (status_line 5) operator opened front told old new) items
+ended-failed operator opened items told old mid new ends Keeper status held is known line e =
+    front-ended (status_line 5) operator opened items told old mid new (subst (EndsAs operator opened items told old mid) is held) line
+ended-failed operator opened items told old mid new ends Write status held is known line e = absurd (wrong e known)
+  where
+    wrong : status ≡ 5 → status ≡ 4 → ⊥
+    wrong a b = omega (arith, a, b)
+ended-failed operator opened items told old mid new ends NoMemory status held is known line e = absurd (wrong e known)
+  where
+    wrong : status ≡ 5 → status ≡ 7 → ⊥
+    wrong a b = omega (arith, a, b)
+
+pub ended-short : (operator : List ℕ) (opened : Journal) (items : List ScriptItem) (told : Content → Type 0) (old mid new : Option (List ℕ)) (ends : Result Unit AnswerFault) (fault : AnswerFault) (status : ℕ) → EndsAs operator opened items told old mid ends → ends ≡ Err fault → status ≡ status_of fault → EndsWithLine fault mid new → status ≡ 7 → OfFront (λ front. AreEndedBy (status_line 7) operator opened front told old new) items
+ended-short operator opened items told old mid new ends NoMemory status held is known line e =
+    front-ended (status_line 7) operator opened items told old mid new (subst (EndsAs operator opened items told old mid) is held) line
+ended-short operator opened items told old mid new ends Write status held is known line e = absurd (wrong e known)
+  where
+    wrong : status ≡ 7 → status ≡ 4 → ⊥
+    wrong a b = omega (arith, a, b)
+ended-short operator opened items told old mid new ends Keeper status held is known line e = absurd (wrong e known)
+  where
+    wrong : status ≡ 7 → status ≡ 5 → ⊥
+    wrong a b = omega (arith, a, b)
+
+-- and of the counts
+pub counts-write : (kb ka before after new : ℕ) (ends : Result Unit AnswerFault) (fault : AnswerFault) (status : ℕ) → CountsEnds kb ka before after ends → ends ≡ Err fault → status ≡ status_of fault → (fault ≡ Write → new ≡ after) → status ≡ 4 → Rose before new
+counts-write kb ka before after new ends Write status held is known silent e =
+    subst (Rose before) (sym (silent refl)) (subst (CountsEnds kb ka before after) is held)
+counts-write kb ka before after new ends Keeper status held is known silent e = absurd (wrong e known)
+  where
+    wrong : status ≡ 4 → status ≡ 5 → ⊥
+    wrong a b = omega (arith, a, b)
+counts-write kb ka before after new ends NoMemory status held is known silent e = absurd (wrong e known)
+  where
+    wrong : status ≡ 4 → status ≡ 7 → ⊥
+    wrong a b = omega (arith, a, b)
+
+pub counts-keeper : (kb ka before after : ℕ) (ends : Result Unit AnswerFault) (fault : AnswerFault) (status : ℕ) → CountsEnds kb ka before after ends → ends ≡ Err fault → status ≡ status_of fault → status ≡ 5 → KeeperRose kb ka
+counts-keeper kb ka before after ends Keeper status held is known e = (subst (CountsEnds kb ka before after) is held).0
+counts-keeper kb ka before after ends Write status held is known e = absurd (wrong e known)
+  where
+    wrong : status ≡ 5 → status ≡ 4 → ⊥
+    wrong a b = omega (arith, a, b)
+counts-keeper kb ka before after ends NoMemory status held is known e = absurd (wrong e known)
+  where
+    wrong : status ≡ 5 → status ≡ 7 → ⊥
+    wrong a b = omega (arith, a, b)
+
+-- no such status is 0
+pub never-done : (fault : AnswerFault) (status : ℕ) → status ≡ status_of fault → status ≡ 0 → ⊥
+never-done Write status known e = wrong e known
+  where
+    wrong : status ≡ 0 → status ≡ 4 → ⊥
+    wrong a b = omega (arith, a, b)
+never-done Keeper status known e = wrong e known
+  where
+    wrong : status ≡ 0 → status ≡ 5 → ⊥
+    wrong a b = omega (arith, a, b)
+never-done NoMemory status known e = wrong e known
+  where
+    wrong : status ≡ 0 → status ≡ 7 → ⊥
+    wrong a b = omega (arith, a, b)
+
 pub none-answered : (operator : List ℕ) (opened : Journal) (items : List ScriptItem) (told : Content → Type 0) (out : Option (List ℕ)) → TellsRowsOf told opened → OfFront (λ front. AreAnswered operator opened front told out out) items
 none-answered operator opened items told out kept = (0, omega arith, answered-none operator opened told out kept)
 
@@ -210,6 +292,11 @@ pub all-answered : (operator : List ℕ) (opened : Journal) (items : List Script
 all-answered operator opened items journal told old new same kept lines =
     record { lines = lines; kept = subst (TellsRowsOf told) same kept }
 
+-- a keeper that speaks when it is attached and when the store is opened speaks on
+pub opened-speaks : {T E : Type 0} (result : Result T E) (before mid now : Content → Type 0) (honest_mid honest_now : Type 0) → (honest_mid → (kept : Content) → before kept → mid kept) → (honest_now → honest_mid) → OnOk result (honest_now → (kept : Content) → mid kept → now kept) → OnOk result (honest_now → (kept : Content) → before kept → now kept)
+opened-speaks (Ok x) before mid now honest_mid honest_now attached was opened = λ honest kept is. opened honest kept (attached (was honest) kept is)
+opened-speaks (Err e) before mid now honest_mid honest_now attached was opened = tt
+
 -- what is true of the bytes that were read is true of the script, where it is told
 pub over-script : (P : List ℕ → Type 0) (left : Option (List ℕ)) (bytes : List ℕ) → IfSome left (λ text. bytes ≡ text) → P bytes → IfSome left P
 over-script P None bytes e holds = tt
@@ -223,6 +310,17 @@ over-whole Q P (Some text) bytes e q holds = (q, subst P e holds)
 pub over-any : (P : List ℕ → Type 0) (left : Option (List ℕ)) → ((script : List ℕ) → P script) → IfSome left P
 over-any P None holds = tt
 over-any P (Some text) holds = holds text
+
+-- a status that is known ends a script that is too long
+pub ends-too-long : (status known : ℕ) (left : Option (List ℕ)) → status ≡ known → list_any (λ n. known == n) (2 ∷ 3 ∷ 7 ∷ []) ≡ true → IfSome left (λ script. MAX_SCRIPT < length script → list_any (λ n. status == n) (2 ∷ 3 ∷ 7 ∷ []) ≡ true)
+ends-too-long status known left e is =
+    over-any (λ script. MAX_SCRIPT < length script → list_any (λ n. status == n) (2 ∷ 3 ∷ 7 ∷ []) ≡ true) left
+    (λ script long. ap (λ s. list_any (λ n. s == n) (2 ∷ 3 ∷ 7 ∷ [])) e ∙ is)
+
+-- a run that ended behind some items, from the journal that was opened
+pub stopped : (line operator : List ℕ) (before now : Content → Type 0) (left old new : Option (List ℕ)) (opened : Journal) → IsOpened before now opened → IfSome left (λ script. OfFront (λ front. AreEndedBy line operator opened front now old new) (script_items script)) → IsStopped line operator before now left old new
+stopped line operator before now None old new opened is held = tt
+stopped line operator before now (Some script) old new opened is held = (opened, is, held)
 
 -- a request in its form that isn't before the last event gets the machine's answer
 pub answered-in-turn : (operator : List ℕ) (journal : Journal) (now : ℕ) (key : List ℕ) (asked : Asked) (request : Request) (caller : Caller) → nat_lt now (last_moment journal) ≡ false → asked ≡ Ok request → caller ≡ caller_of journal operator key → answer (own_at journal now caller) request ≡ answer_behind operator journal (ScriptItem.Good now key asked)

@@ -138,3 +138,14 @@ status_line status =
 -- the line of a store that is damaged at this row
 abbrev pub damaged_line : ℕ → List ℕ
 damaged_line place = codes "damaged " ++ (decimal place ++ 10 ∷ [])
+
+-- the status of answers that ended early, and the line with which they end
+abbrev pub status_of : AnswerFault → ℕ
+status_of Write = 4
+status_of Keeper = 5
+status_of NoMemory = 7
+
+abbrev pub EndsWithLine : AnswerFault → Option (List ℕ) → Option (List ℕ) → Type 0
+EndsWithLine Write old new = new ≡ old
+EndsWithLine Keeper old new = AppendsFront old new (status_line 5)
+EndsWithLine NoMemory old new = AppendsFront old new (status_line 7)

@@ -8,7 +8,8 @@ ghost use Rattle.agent_keeper.specs.Calls.{Rose as KeeperRose};
 ghost use Rattle.agent_keeper.specs.Content.{Content};
 ghost use Rattle.agent_cli.specs.Words.{options_of};
 ghost use Rattle.agent_cli.specs.WordViews.{options_view};
-ghost use Rattle.agent_cli.specs.Runs.{AppendsFront, GrowLawfully, IsCut, IsDone, AreAnswered, AreEndedBy, IsCutShort, IsStopped, IsUntouched, OfFront, damaged_line, is_status, status_line};
+ghost use Rattle.agent_cli.specs.Runs.{AppendsFront, EndsWithLine, GrowLawfully, IsCut, IsDone, AreAnswered, AreEndedBy, IsCutShort, IsStopped, IsUntouched, OfFront, damaged_line, is_status, status_line, status_of};
+ghost use Rattle.agent_cli.specs.declared.apply.AnswerFault.TheVariants as Fault;
 ghost use Rattle.agent_cli.specs.declared.run.TheConstants.{MAX_SCRIPT};
 ghost use Rattle.register_desk.specs.Rows.{IsDamagedAt, TellsRowsOf, rows_of};
 ghost use Rattle.register_machine.specs.journal.Journals.{Journal};
@@ -80,6 +81,20 @@ fn line_of_damage(alloc: Global, place: u64) -> Result<Vec<u8>, NoMemory>
     Ok(line)
 }
 
+// Ends where the answers of a script ended early; a line that a write cut short is the last.
+fn ended<O: Sink>(fault: AnswerFault, out: &mut O) -> Status
+    ensures status { result.0 ≡ status_of fault }
+    ensures line { EndsWithLine fault (O.contents out.old) (O.contents out.new) }
+    ensures never_falls { O.faults out.old ≤ O.faults out.new }
+    ensures silent { fault ≡ Fault.Write → O.faults out.new ≡ O.faults out.old }
+{
+    match fault {
+        AnswerFault::Write => Status(4),
+        AnswerFault::Keeper => keeper_fault(out),
+        AnswerFault::NoMemory => no_memory(out),
+    }
+}
+
 // Gives the desk up, whose journal lies in the store.
 fn close(_desk: Desk) {}
 
@@ -123,9 +138,7 @@ fn answered<K: Keeper, O: Sink, L: StepLedger>(
     close(desk);
     match ends {
         Ok(()) => Status(0),
-        Err(AnswerFault::Write) => Status(4),
-        Err(AnswerFault::Keeper) => keeper_fault(out),
-        Err(AnswerFault::NoMemory) => no_memory(out),
+        Err(fault) => ended(fault, out),
     }
 }
 
@@ -178,9 +191,18 @@ fn read_and_answer<K: Keeper, S: Source, O: Sink, L: StepLedger>(
     desk.journal_is_lawful();
     match read_up_to(alloc, input, MAX_SCRIPT) {
         Ok(script) => answered(alloc, operator, desk, keeper, &script, out, steps),
-        Err(ReadFault::TooLong) => end(out, 2, b"input too long\n"),
-        Err(ReadFault::Fault) => end(out, 3, b"read fault\n"),
-        Err(ReadFault::NoMemory) => no_memory(out),
+        Err(ReadFault::TooLong) => {
+            close(desk);
+            end(out, 2, b"input too long\n")
+        }
+        Err(ReadFault::Fault) => {
+            close(desk);
+            end(out, 3, b"read fault\n")
+        }
+        Err(ReadFault::NoMemory) => {
+            close(desk);
+            no_memory(out)
+        }
     }
 }
 
