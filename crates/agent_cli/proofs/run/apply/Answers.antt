@@ -30,7 +30,7 @@ returns-in-Ok-clause-failed g c = λ e.
     let opened = c.in-Ok.desk.book.journal in
     inr (stopped (status_line 5) c.args.options.now.key.now before now (g.S.Source.left c.args.input.now) (g.O.Sink.contents c.args.out.now) (g.O.Sink.contents c.read_and_answer.new.out) opened
     (is-opened before (g.K.Keeper.tells c.open.new.keeper) now opened
-    (λ last is first was. c.in-Ok.ensures.speaks (c.read_and_answer.ensures.was_honest (g.K.Keeper.honest c.read_and_answer.new.keeper last is)) first was)
+    (λ last is first was. c.in-Ok.ensures.speaks (c.read_and_answer.ensures.was_honest (g.met.K.Keeper.honest c.read_and_answer.new.keeper last is)) first was)
     c.in-Ok.ensures.told c.in-Ok.ensures.lawful)
     (c.read_and_answer.ensures.failed e))
 
@@ -41,6 +41,6 @@ returns-in-Ok-clause-no_memory g c = λ e.
     let opened = c.in-Ok.desk.book.journal in
     inr (stopped (status_line 7) c.args.options.now.key.now before now (g.S.Source.left c.args.input.now) (g.O.Sink.contents c.args.out.now) (g.O.Sink.contents c.read_and_answer.new.out) opened
     (is-opened before (g.K.Keeper.tells c.open.new.keeper) now opened
-    (λ last is first was. c.in-Ok.ensures.speaks (c.read_and_answer.ensures.was_honest (g.K.Keeper.honest c.read_and_answer.new.keeper last is)) first was)
+    (λ last is first was. c.in-Ok.ensures.speaks (c.read_and_answer.ensures.was_honest (g.met.K.Keeper.honest c.read_and_answer.new.keeper last is)) first was)
     c.in-Ok.ensures.told c.in-Ok.ensures.lawful)
     (c.read_and_answer.ensures.no_memory e))
