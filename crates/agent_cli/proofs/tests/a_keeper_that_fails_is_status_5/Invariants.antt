@@ -1,4 +1,4 @@
 use Rattle.agent_cli.proofs.tests.a_keeper_that_fails_is_status_5.Given as goal
 
 abbrev pub ghosts-each_call_fails : goal.ghosts-each_call_fails
-ghosts-each_call_fails a = record { name = a.blank.name; parts = a.blank.parts }
+ghosts-each_call_fails g a = record { name = a.blank.name; parts = a.blank.parts }
