@@ -6,8 +6,7 @@ use Rattle.agent_cli.proofs.run.read_and_answer.Goals as goal
 
 pub returns-in-Ok-clause-cut : goal.returns-in-Ok-clause-cut
 returns-in-Ok-clause-cut g c = λ e.
-    let cut = λ (script : List ℕ). IsCutShort c.args.operator.now c.args.desk.book.journal (script_items script) (g.K.Keeper.tells c.answered.new.keeper)
-        (g.O.Sink.contents c.args.out.now) (g.O.Sink.contents c.answered.new.out) in
+    let cut = λ (script : List ℕ). IsCutShort c.args.operator.now c.args.desk.book.journal (script_items script) (g.K.Keeper.tells c.answered.new.keeper) (g.O.Sink.contents c.args.out.now) (g.O.Sink.contents c.answered.new.out) in
     over-whole (g.S.Source.left c.read_up_to.new.input ≡ Some []) cut (g.S.Source.left c.args.input.now) c.in-Ok.script.items
     c.in-Ok.ensures.all c.in-Ok.ensures.end (subst cut c.deref.ensures.value (c.answered.ensures.cut e))
 
