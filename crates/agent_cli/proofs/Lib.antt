@@ -1,1 +1,3 @@
 pub mod RunFacts
+pub mod CommandBounds
+pub mod EndsOfLoads

@@ -3,14 +3,16 @@
 
 ghost use Rattle.std.specs.Prelude.{◌≡◌, ◌<◌};
 
-mod apply;
+mod applying;
+mod ends;
+mod loading;
 mod opening;
 mod run;
 #[cfg(test)]
 mod tests;
-mod words;
 
-use crate::run::{Status, no_memory, run};
+use crate::ends::{Status, no_memory};
+use crate::run::run;
 use agent_edge::{StdinSource, StdoutSink};
 use household_fold::Steps;
 use money_units::NoMemory;

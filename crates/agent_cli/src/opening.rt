@@ -14,7 +14,7 @@ use std::alloc::Global;
 use std::sync::ledger::Ledger as StepLedger;
 
 // Attaches the keeper to the store at a path.
-fn attach<K: Keeper>(alloc: Global, path: &[u8], keeper: &mut K) -> Result<(), StartFault>
+fn attach<K: Keeper>(path: &str, keeper: &mut K) -> Result<(), StartFault>
     ensures attached { OnOk result (IsTrue (K.is_attached keeper.new)) }
     ensures same { TellSame (K.tells keeper.old) (K.tells keeper.new) }
     ensures speaks { OnOk result
@@ -24,10 +24,7 @@ fn attach<K: Keeper>(alloc: Global, path: &[u8], keeper: &mut K) -> Result<(), S
     ensures fault { result ≡ Err Fault.Keeper → Rose (K.faults keeper.old) (K.faults keeper.new) }
     ensures never_falls { K.faults keeper.old ≤ K.faults keeper.new }
 {
-    let Ok(path) = String::from_utf8_lossy(alloc, path) else {
-        return Err(StartFault::NoMemory);
-    };
-    match keeper.attach(path.as_str()) {
+    match keeper.attach(path) {
         Ok(()) => Ok(()),
         Err(KeepFault::Failed) => Err(StartFault::Keeper),
         Err(KeepFault::NoMemory) => Err(StartFault::NoMemory),
@@ -66,7 +63,7 @@ fn started<K: Keeper, L: StepLedger>(
 /// Opens the store at a path: the desk of the journal whose rows it keeps.
 pub fn open<K: Keeper, L: StepLedger>(
     alloc: Global,
-    path: &[u8],
+    path: &str,
     keeper: &mut K,
     steps: &mut Steps<L>,
 ) -> Result<Desk, StartFault>
@@ -83,6 +80,6 @@ pub fn open<K: Keeper, L: StepLedger>(
     ensures fault { result ≡ Err Fault.Keeper → Rose (K.faults keeper.old) (K.faults keeper.new) }
     ensures never_falls { K.faults keeper.old ≤ K.faults keeper.new }
 {
-    attach(alloc, path, keeper)?;
+    attach(path, keeper)?;
     started(alloc, keeper, steps)
 }

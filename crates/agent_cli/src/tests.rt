@@ -1,7 +1,8 @@
 //! What no clause says: that runs succeed with ample memory, and the printed lines of a day.
 ghost use Rattle.std.specs.Prelude.{◌≡◌, ◌<◌};
 
-use crate::run::{Status, run};
+use crate::ends::Status;
+use crate::run::run;
 use agent_edge::{MemorySink, MemorySource};
 use agent_keeper::{Keeper, MemoryKeeper, SureKeeper};
 use household_fold::Steps;
@@ -68,17 +69,28 @@ fn both(alloc: Global, first: &[u8], second: &[u8]) -> Result<Vec<u8>, AllocErro
 }
 
 // The status of a run over a keeper and the bytes that it wrote.
+fn outcome_of<K: Keeper, L: Ledger>(
+    alloc: Global,
+    texts: &[&str],
+    keeper: &mut K,
+    script: &[u8],
+    steps: &mut Steps<L>,
+) -> Result<(u8, Vec<u8>), Fail> {
+    let words = words_of(alloc, texts)?;
+    let mut input = MemorySource::new(alloc, script, 4096, &[])?;
+    let mut out = MemorySink::new(alloc, 4096, 65536, &[])?;
+    let Status(status) = run(alloc, &words, keeper, &mut input, &mut out, steps);
+    Ok((status, Vec::from_slice(alloc, out.contents())?))
+}
+
 fn outcome<K: Keeper, L: Ledger>(
     alloc: Global,
     keeper: &mut K,
     script: &[u8],
     steps: &mut Steps<L>,
 ) -> Result<(u8, Vec<u8>), Fail> {
-    let words = words_of(alloc, &["apply", "--store", "r", "--key", "op-desk000001"])?;
-    let mut input = MemorySource::new(alloc, script, 4096, &[])?;
-    let mut out = MemorySink::new(alloc, 4096, 65536, &[])?;
-    let Status(status) = run(alloc, &words, keeper, &mut input, &mut out, steps);
-    Ok((status, Vec::from_slice(alloc, out.contents())?))
+    let texts = ["apply", "--store", "r", "--key", "op-desk000001"];
+    outcome_of(alloc, &texts, keeper, script, steps)
 }
 
 // A day in two runs over one store, the second with a repeat and refusals.
@@ -105,9 +117,20 @@ fn a_day_in_two_runs_over_one_store(rt: HostRuntime) -> Result<(), Fail> {
     Ok(())
 }
 
-// A run whose k-th call of the keeper fails ends with status 5, whatever the call; its lines
-// are a front of the day's with `keeper fault`
-// behind them.
+// A run whose k-th call of the keeper fails ends with status 5, whatever the call; its lines are a front of the day's with
+// `keeper fault` behind them. As a stop leaves the store, with its last commit or without, the same script answers each
+// item as if it came for the first time.
+fn answers_again<L: Ledger>(
+    alloc: Global,
+    keeper: &MemoryKeeper,
+    with_last: bool,
+    steps: &mut Steps<L>,
+) -> Result<bool, Fail> {
+    let mut left = keeper.after_stop(alloc, with_last)?;
+    let (status, lines) = outcome(alloc, &mut left, PREAMBLE, steps)?;
+    Ok(status == 0 && lines.as_slice() == PREAMBLE_LINES)
+}
+
 fn each_call_fails<L: Ledger>(alloc: Global, blank: Blank) -> Result<bool, Fail>
     requires name { blank.name ≡ L.name }
     requires parts { blank.parts ≡ L.parts }
@@ -126,6 +149,11 @@ fn each_call_fails<L: Ledger>(alloc: Global, blank: Blank) -> Result<bool, Fail>
         if !PREAMBLE_LINES.starts_with(&lines[..lines.len() - 13]) {
             return Ok(false);
         }
+        if !answers_again(alloc, &keeper, false, &mut steps)?
+            || !answers_again(alloc, &keeper, true, &mut steps)?
+        {
+            return Ok(false);
+        }
     }
     Ok(false)
 }
@@ -133,5 +161,35 @@ fn each_call_fails<L: Ledger>(alloc: Global, blank: Blank) -> Result<bool, Fail>
 #[test]
 fn a_keeper_that_fails_is_status_5(rt: HostRuntime) -> Result<(), Fail> {
     assert!(rt; each_call_fails::<Brand>(rt.alloc(), Blank::new(1))?);
+    Ok(())
+}
+
+const LOADED: &[u8] = b"events 7\nsheets 1\nrefused 0\nfilled 1\nunfilled 0\n\
+class 11 shares 0.000 cash 0.00\nclass 12 shares 39.433 cash 793.00\n";
+
+const LOADED_NOTHING: &[u8] = b"events 5\nsheets 0\nrefused 0\nfilled 0\nunfilled 0\n\
+class 11 shares 0.000 cash 0.00\nclass 12 shares 0.000 cash 0.00\n";
+
+// A load of one household over one day, and over none.
+fn loads<L: Ledger>(alloc: Global, blank: Blank) -> Result<bool, Fail>
+    requires name { blank.name ≡ L.name }
+    requires parts { blank.parts ≡ L.parts }
+    requires some { 0 < blank.parts }
+{
+    let mut steps = Steps::<L>::new(blank);
+    let mut keeper = SureKeeper::new(alloc);
+    let texts = ["load", "--number", "1", "--households", "1", "--days", "1"];
+    let (status, lines) = outcome_of(alloc, &texts, &mut keeper, b"", &mut steps)?;
+    if status != 0 || lines.as_slice() != LOADED {
+        return Ok(false);
+    }
+    let texts = ["load", "--days=0", "--households=1", "--number=1"];
+    let (status, lines) = outcome_of(alloc, &texts, &mut keeper, b"", &mut steps)?;
+    Ok(status == 0 && lines.as_slice() == LOADED_NOTHING)
+}
+
+#[test]
+fn a_load_prints_its_summary(rt: HostRuntime) -> Result<(), Fail> {
+    assert!(rt; loads::<Brand>(rt.alloc(), Blank::new(1))?);
     Ok(())
 }

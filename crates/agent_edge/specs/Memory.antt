@@ -26,8 +26,8 @@ abbrev pub read_count : SourceState → ℕ → ℕ
 read_count source len = min source.piece (min len (length source.left))
 
 -- a source after a read that gave this many bytes
-abbrev pub after_read : SourceState → ℕ → SourceState
-after_read source count = record source { left = drop count source.left; calls = next_count source.calls }
+abbrev pub source_after_read : SourceState → ℕ → SourceState
+source_after_read source count = record source { left = drop count source.left; calls = next_count source.calls }
 
 -- a source after a read that failed
 abbrev pub after_read_fault : SourceState → SourceState
@@ -46,8 +46,8 @@ abbrev pub write_count : SinkState → List ℕ → ℕ
 write_count sink from = min sink.piece (min (length from) (room_left sink))
 
 -- a sink after a write that took this many of these bytes
-abbrev pub after_write : SinkState → List ℕ → ℕ → SinkState
-after_write sink from count = record sink {
+abbrev pub sink_after_write : SinkState → List ℕ → ℕ → SinkState
+sink_after_write sink from count = record sink {
   contents = sink.contents
       ++ take count from;
   calls = next_count sink.calls;

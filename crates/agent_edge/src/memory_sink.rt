@@ -1,6 +1,6 @@
 //! A sink in memory. It tells all, and fails exactly where it is told to.
 ghost use Rattle.std.specs.Prelude.{◌≡◌, ℕ, ◌<◌, ◌≤◌, ◌↔◌, [], length, Some, IfOk, OnErr, IsErr};
-ghost use Rattle.agent_edge.specs.Memory.{write_count, after_write, after_write_fault, FailsToWrite};
+ghost use Rattle.agent_edge.specs.Memory.{write_count, sink_after_write, after_write_fault, FailsToWrite};
 
 use super::{Sink, SinkFault};
 use money_units::NoMemory;
@@ -89,7 +89,7 @@ impl Sink for MemorySink {
         ensures fails { IsErr result ↔ FailsToWrite self.old from.now }
         ensures fault { OnErr result (self.new ≡ after_write_fault self.old) }
         ensures count { IfOk result (λ count. count ≡ write_count self.old from.now) }
-        ensures taken { IfOk result (λ count. self.new ≡ after_write self.old from.now count) }
+        ensures taken { IfOk result (λ count. self.new ≡ sink_after_write self.old from.now count) }
         ensures some { IfOk result (λ count. 0 < length from.now → 0 < count) }
         ensures never_falls { self.old.faults ≤ self.new.faults }
     {

@@ -1,6 +1,6 @@
 //! A source in memory. It tells all, and fails exactly where it is told to.
 ghost use Rattle.std.specs.Prelude.{◌≡◌, ℕ, ◌<◌, ◌≤◌, ◌↔◌, min, [], length, take, Some, IfOk, OnErr, IsErr};
-ghost use Rattle.agent_edge.specs.Memory.{read_count, after_read, after_read_fault, FailsToRead};
+ghost use Rattle.agent_edge.specs.Memory.{read_count, source_after_read, after_read_fault, FailsToRead};
 
 use super::{Source, SourceFault};
 use money_units::NoMemory;
@@ -85,7 +85,7 @@ impl Source for MemorySource {
         ensures fault { OnErr result (self.new ≡ after_read_fault self.old) }
         ensures count { IfOk result (λ count. count ≡ read_count self.old (length into.old)) }
         ensures bytes { IfOk result (λ count. take count into.new ≡ take count self.old.left) }
-        ensures rest { IfOk result (λ count. self.new ≡ after_read self.old count) }
+        ensures rest { IfOk result (λ count. self.new ≡ source_after_read self.old count) }
         ensures only_at_end { IfOk result (λ count. count ≡ 0 → 0 < length into.new
             → self.old.left ≡ []) }
         ensures never_falls { self.old.faults ≤ self.new.faults }
@@ -102,7 +102,7 @@ impl Source for MemorySource {
 }
 
 // Copies bytes from the front of `from` to the front of `into`, at most this many.
-fn copy_front(from: &[u8], into: &mut [u8], most: usize) -> usize
+pub(crate) fn copy_front(from: &[u8], into: &mut [u8], most: usize) -> usize
     ensures count { result ≡ min most (min (length into.old) (length from.now)) }
     ensures copied { take result into.new ≡ take result from.now }
 {

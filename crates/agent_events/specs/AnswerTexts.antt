@@ -16,7 +16,6 @@ use Rattle.agent_events.specs.declared.reply.Reply.{Reply}
 use Rattle.agent_events.specs.declared.reply.TraceReply.{TraceReply}
 
 abbrev pub refusal_values : Refusal → List (List ℕ)
-refusal_values Refusal.Unbuilt = codes "0" ∷ []
 refusal_values Refusal.NoRight = codes "1" ∷ []
 refusal_values (Refusal.BadForm place) = codes "2" ∷ number_text place ∷ []
 refusal_values (Refusal.NoSuch place) = codes "3" ∷ number_text place ∷ []

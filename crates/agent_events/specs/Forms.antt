@@ -5,11 +5,7 @@ use Rattle.std.specs.List.{list_any, list_all}
 use Rattle.class_terms.specs.declared.lists.Bracket.{Bracket}
 use Rattle.agent_events.specs.declared.request.ClassForm.{ClassForm}
 use Rattle.agent_events.specs.declared.request.SheetForm.{SheetForm}
-use Rattle.agent_events.specs.declared.order.Body.TheVariants as Body
-use Rattle.agent_events.specs.declared.order.Order.{Order}
 use Rattle.agent_events.specs.declared.request.Request.{Request}
-use Rattle.agent_events.specs.declared.item.Ask.{Ask}
-use Rattle.agent_events.specs.declared.item.Item.{Item}
 use Rattle.agent_events.specs.Fields.{identifier, identifier_or_none, reference, moment, amount, minimum, flag, label, brackets, rates, prices}
 use Rattle.money_units.specs.ByteTexts.{is_visible}
 
@@ -71,63 +67,10 @@ sheet_form fields = do
   listed ← at 3 (prices (field fields 3))
   Ok (record { calendar = calendar; moment = priced; prices = listed })
 
--- a purchase
-unfoldable pub buy_form : List (List ℕ) → Result Order ℕ
-buy_form fields = do
-  account ← at 1 (identifier (field fields 1))
-  ref_no ← at 2 (reference (field fields 2))
-  class ← at 3 (identifier (field fields 3))
-  gross ← at 4 (amount (field fields 4))
-  Ok (record { account = account; ref_no = ref_no; body = Body.Buy class gross })
-
--- what the right number of fields asks, by each verb that is built
-abbrev pub class_request : List (List ℕ) → Result Request ℕ
-class_request fields = class_form fields >>= λ form. Ok (Request.Class form)
-
-abbrev pub sheet_request : List (List ℕ) → Result Request ℕ
-sheet_request fields = sheet_form fields >>= λ form. Ok (Request.Sheet form)
-
-abbrev pub buy_request : List (List ℕ) → Result Request ℕ
-buy_request fields = buy_form fields >>= λ order. Ok (Request.Order order)
-
-abbrev pub show_request : List (List ℕ) → Result Request ℕ
-show_request fields = at 1 (identifier (field fields 1)) >>= λ account. Ok (Request.Show account)
-
 -- a wrong number of fields is place 0
 abbrev pub of_length : ℕ → (List (List ℕ) → Result Request ℕ) → List (List ℕ) → Result Request ℕ
 of_length count form fields = if length fields == count then form fields else Err 0
 
-abbrev pub asked : Result Request ℕ → Ask
-asked (Ok asks) = Ask.Request asks
-asked (Err place) = Ask.BadForm place
-
--- the verbs that aren't built yet; their fields aren't read
-abbrev pub unbuilt_verbs : List (List ℕ)
-unbuilt_verbs =
-    codes "calendar" ∷ codes "close" ∷ codes "dealer" ∷ codes "household" ∷ codes "account" ∷ codes "dividend"
-    ∷ codes "fixprice" ∷ codes "fixrate" ∷ codes "enter" ∷ codes "replace" ∷ codes "void" ∷ codes "sell"
-    ∷ codes "sellcash" ∷ codes "sellall" ∷ codes "exchange" ∷ codes "exchangeall" ∷ codes "letter" ∷ codes "elect"
-    ∷ codes "cancel" ∷ codes "trace" ∷ codes "statement" ∷ codes "books" ∷ codes "line" ∷ []
-
-abbrev pub ask_of : List ℕ → List (List ℕ) → Ask
-ask_of verb fields =
-    if bytes_eq verb (codes "class") then asked (of_length 10 class_request fields)
-    else if bytes_eq verb (codes "sheet") then asked (of_length 3 sheet_request fields)
-    else if bytes_eq verb (codes "buy") then asked (of_length 4 buy_request fields)
-    else if bytes_eq verb (codes "show") then asked (of_length 1 show_request fields)
-    else if list_any (λ known. bytes_eq verb known) unbuilt_verbs then Ask.Unbuilt
-    else Ask.BadForm 0
-
 -- at most 64 visible bytes, none too
 abbrev pub is_key_text : List ℕ → Bool
 is_key_text key = nat_le (length key) 64 && list_all is_visible key
-
-abbrev pub item_at : Option ℕ → List ℕ → Ask → Item
-item_at None key asks = Item.Bad
-item_at (Some now) key asks = if is_key_text key then Item.Good now key asks else Item.Bad
-
--- an item of a script: a moment, a key, a verb and the verb's fields
-abbrev pub item_of : List (List ℕ) → Item
-item_of fields =
-    if nat_lt (length fields) 3 then Item.Bad
-    else item_at (moment (field fields 1)) (field fields 2) (ask_of (field fields 3) (drop 3 fields))

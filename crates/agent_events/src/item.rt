@@ -1,31 +1,10 @@
-//! An item of a script.
+//! What an item asks: its key, and the request or the place of a field that isn't in its form.
 use crate::request::Request;
-use money_units::{List, Moment};
+use money_units::List;
 
 /// The key of a caller as it was sent, which contracts see as its bytes.
 pub type KeyText = List<u8>;
 
-/// What the fields of a verb ask.
-#[derive(Debug, Drop)]
-pub enum Ask {
-    Request(Request),
-    /// The verb isn't known (place 0), or this is the place of the first field that isn't in its form.
-    BadForm(u8),
-    /// A verb that is known but not built yet; its fields aren't read.
-    Unbuilt,
-}
-
-/// An item of a script.
-#[derive(Debug, Drop)]
-pub enum Item {
-    /// A record that has no moment, key and verb.
-    Bad,
-    Good {
-        moment: Moment,
-        key: KeyText,
-        ask: Ask,
-    },
-}
-
-/// The items of a script in order.
-pub type Items = List<Item>;
+/// What the fields of a verb ask, or the place of the first field that isn't in its form; place 0 is an unknown verb or a wrong
+/// number of fields.
+pub type Asked = Result<Request, u8>;

@@ -26,7 +26,7 @@ pub use crate::fields::{
     Amount, CorrectedRate, DividendRate, Identifier, Minimum, Quantity, Reference, TimeOfDay,
     Window,
 };
-pub use crate::item::{Ask, Item, Items, KeyText};
+pub use crate::item::{Asked, KeyText};
 pub use crate::lists::{Days, FrontBrackets, Holidays, RisingPrices, SheetPrices};
 pub use crate::order::{Bearer, Body, Order, OrderRow, Party, Standing};
 pub use crate::reply::{BooksReply, OrderReply, OrderState, Refusal, Reply, TraceReply};

@@ -7,8 +7,6 @@ use money_units::{Bytes, Cents, Mils, Moment};
 /// Why a request is refused.
 #[derive(Clone, Copy, Debug, PartialEq, Eq)]
 pub enum Refusal {
-    /// The request meets its form but needs a part of the register that isn't built yet; answered `no,0`.
-    Unbuilt,
     /// The key has no right to the verb or to the account.
     NoRight,
     /// The text isn't the verb's form; the value is the place of the first field that isn't, 0 for the whole.

@@ -1,15 +1,16 @@
 //! The items of a script.
-ghost use Rattle.std.specs.Prelude.{◌≡◌, map, IfOk, Result};
+ghost use Rattle.std.specs.Prelude.{◌≡◌, drop, map, option_map, slice_get, IfOk, OnOk, Result};
 ghost use Rattle.csv.specs.Reading.{records, default_config, strip_bom};
 ghost use Rattle.agent_events.specs.Forms.{is_key_text};
 ghost use Rattle.agent_events.specs.Items.{asked_by, script_item};
 ghost use Rattle.agent_http.specs.Seen.{item_seen};
 
-use agent_events::{KeyText, Request};
-use csv_rows::{Fields, records_of, slices_of};
-use money_units::{List, Moment, NoMemory, all_visible};
+use agent_events::{Asked, KeyText};
+use csv_rows::{Fields, Records, slices_of};
+use money_units::{Moment, NoMemory, all_visible};
 use request_fields::{FormFault, asked_by, moment_of};
 use std::alloc::Global;
+use std::marker::Model;
 
 /// An item of a script, whichever verb it asks.
 #[derive(Debug, Drop)]
@@ -20,26 +21,47 @@ pub enum ScriptItem {
         moment: Moment,
         key: KeyText,
         /// What is asked, or the place of the first field that isn't in its form.
-        asked: Result<Request, u8>,
+        asked: Asked,
     },
 }
 
-/// The items of a script in order.
-pub type ScriptItems = List<ScriptItem>;
+/// The items of a script that are still to come, which contracts see as the list of them: each record of the text is a moment, a
+/// key, a verb and the verb's fields. A record of fewer fields, or whose moment or key isn't in its form, is a bad item. No more
+/// than one is in memory.
+#[derive(Drop)]
+pub struct ScriptItems<'a> {
+    records: Records<'a>,
+}
 
-/// The items of a script in order: each record of the text is a moment, a key, a verb and the verb's fields. A record
-/// of fewer fields, or whose moment or key isn't in its form, is a bad item.
-pub fn script_items(alloc: Global, bytes: &[u8]) -> Result<ScriptItems, NoMemory>
-    ensures { IfOk result
-        (λ items. map item_seen items
-        ≡ map script_item (records default_config (strip_bom bytes.now))) }
-{
-    let rows = records_of(alloc, bytes)?;
-    let mut items = ScriptItems::new(alloc);
-    for row in &rows {
-        items.push(item_of(alloc, row)?)?;
+impl<'a> Model for ScriptItems<'a> {
+    ghost use Rattle.std.specs.Prelude.{List, map};
+    ghost use Rattle.agent_events.specs.Items.{ScriptItem, script_item};
+
+    ghost Value = { List ScriptItem };
+
+    ghost view = { λ items. map script_item items.records };
+}
+
+impl<'a> ScriptItems<'a> {
+    /// All items of a script.
+    pub fn new(alloc: Global, bytes: &'a [u8]) -> ScriptItems<'a>
+        ensures { result ≡ map script_item (records default_config (strip_bom bytes.now)) }
+    {
+        ScriptItems {
+            records: Records::new(alloc, bytes),
+        }
     }
-    Ok(items)
+
+    /// The next item, or `None` exactly where none is to come. After `NoMemory` it may be passed over.
+    pub fn next(&mut self, alloc: Global) -> Result<Option<ScriptItem>, NoMemory>
+        ensures next { IfOk result (λ item. option_map item_seen item ≡ slice_get self.old 0) }
+        ensures rest { OnOk result (self.new ≡ drop 1 self.old) }
+    {
+        match self.records.next(alloc)? {
+            Some(row) => Ok(Some(item_of(alloc, &row)?)),
+            None => Ok(None),
+        }
+    }
 }
 
 fn item_of(alloc: Global, row: &Fields) -> Result<ScriptItem, NoMemory>
@@ -61,11 +83,7 @@ fn item_of(alloc: Global, row: &Fields) -> Result<ScriptItem, NoMemory>
 }
 
 // What a verb asks by its fields, or the place of the first field that isn't in its form.
-fn what_is_asked(
-    alloc: Global,
-    verb: &[u8],
-    fields: &[&[u8]],
-) -> Result<Result<Request, u8>, NoMemory>
+fn what_is_asked(alloc: Global, verb: &[u8], fields: &[&[u8]]) -> Result<Asked, NoMemory>
     ensures { IfOk result (λ asked. asked
         ≡ asked_by verb.now (map (λ text. text.now) fields.now)) }
 {

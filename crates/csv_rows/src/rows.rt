@@ -90,8 +90,8 @@ pub fn records_of(alloc: Global, text: &[u8]) -> Result<Vec<Fields>, NoMemory>
     Ok(rows)
 }
 
-// The fields of a record that was read.
-fn fields_of_row(alloc: Global, row: &ByteRecord) -> Result<Fields, NoMemory>
+/// The fields of a record that was read.
+pub(crate) fn fields_of_row(alloc: Global, row: &ByteRecord) -> Result<Fields, NoMemory>
     ensures { IfOk result (λ fields. fields ≡ fields_of row.now) }
 {
     let mut fields = Fields::new(alloc);

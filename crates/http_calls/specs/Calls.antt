@@ -1,13 +1,12 @@
 -- What an item of a stream asks: its route by the path and the method, and then the verb by its body or by the parts of the path.
-use Rattle.std.specs.Prelude.{◌≡◌, ℕ, Bool, true, false, ◌&&◌, ◌||◌, not, ◌==◌, nat_le, List, [], ◌∷◌, length, drop, map, if◌then◌else◌, Option, Some, None, Result, Ok, Err, codes, bytes_eq, is_some}
+use Rattle.std.specs.Prelude.{ℕ, Bool, true, false, ◌&&◌, ◌||◌, not, ◌==◌, nat_le, List, [], length, drop, map, if◌then◌else◌, Option, Result, Ok, Err, codes, bytes_eq, is_some}
 use Rattle.std.specs.List.{before_first, list_all, slice_split}
 use Rattle.csv_rows.specs.Rows.{records_of}
-use Rattle.agent_events.specs.Forms.{asked, field}
+use Rattle.agent_events.specs.Forms.{field}
 use Rattle.agent_events.specs.Items.{asked_by, batch_line}
 use Rattle.agent_events.specs.JsonForms.{is_posted}
-use Rattle.agent_events.specs.declared.item.Ask.{Ask}
 use Rattle.http_stream.specs.declared.fault.HttpFault.{HttpFault}
-use Rattle.http_stream.specs.Stream.{IsItem, Message, Stream, StreamItem, Undecided}
+use Rattle.http_stream.specs.Stream.{Message, StreamItem}
 use Rattle.http_calls.specs.Bodies.{asked_by_body}
 use Rattle.http_calls.specs.declared.calls.CallAsk.{CallAsk}
 use Rattle.http_calls.specs.declared.routes.Route.{Route}
@@ -62,8 +61,8 @@ route_of parts =
 abbrev pub batch_ask : List ℕ → CallAsk
 batch_ask body =
     if nat_le (length (records_of body)) 4096
-    then CallAsk.Batch (map (λ row. asked (batch_line row)) (records_of body))
-    else CallAsk.One (Ask.BadForm 0)
+    then CallAsk.Batch (map batch_line (records_of body))
+    else CallAsk.One (Err 0)
 
 -- a POST says how long its body is
 abbrev pub with_length : Option ℕ → CallAsk → Result CallAsk HttpFault
@@ -76,10 +75,10 @@ answered_at Route.Batch parts method size body =
     if bytes_eq method (codes "POST") then with_length size (batch_ask body) else Err HttpFault.S405
 answered_at Route.Posted parts method size body =
     if bytes_eq method (codes "POST")
-    then with_length size (CallAsk.One (asked (asked_by_body (field parts 3) body)))
+    then with_length size (CallAsk.One (asked_by_body (field parts 3) body))
     else Err HttpFault.S405
 answered_at Route.Look parts method size body =
-    if bytes_eq method (codes "GET") then Ok (CallAsk.One (asked (asked_by (field parts 3) (drop 3 parts)))) else Err HttpFault.S405
+    if bytes_eq method (codes "GET") then Ok (CallAsk.One (asked_by (field parts 3) (drop 3 parts))) else Err HttpFault.S405
 
 abbrev pub answered_by : List (List ℕ) → List ℕ → Option ℕ → List ℕ → Result CallAsk HttpFault
 answered_by parts method size body = answered_at (route_of parts) parts method size body

@@ -8,7 +8,7 @@ ghost use Rattle.http_calls.specs.Calls as spec;
 
 use crate::body::asked_by_body;
 use crate::routes::{Route, behind, part, parts_of, route_of};
-use agent_events::{Ask, Request};
+use agent_events::{Asked, Request};
 use csv_rows::{Fields, records_of, slices_of};
 use http_stream::HttpFault;
 use money_units::{List, NoMemory};
@@ -16,12 +16,12 @@ use request_fields::{FormFault, asked_by, line_asked, same_bytes};
 use std::alloc::Global;
 
 /// What the lines of a batch ask in order.
-pub type BatchAsks = List<Ask>;
+pub type BatchAsks = List<Asked>;
 
 /// What a request over HTTP asks.
 #[derive(Debug, Drop)]
 pub enum CallAsk {
-    One(Ask),
+    One(Asked),
     /// A dealer's lines, each by itself.
     Batch(BatchAsks),
 }
@@ -89,7 +89,7 @@ fn posted_answer(
     body: &[u8],
 ) -> Result<Result<CallAsk, HttpFault>, NoMemory>
     ensures { IfOk result (λ answer. answer ≡ (if bytes_eq method.now (codes "POST")
-        then spec.with_length size (CallAsk.One (form.asked (asked_by_body (form.field (map (λ part. part.now) parts.now) 3) body.now)))
+        then spec.with_length size (CallAsk.One (asked_by_body (form.field (map (λ part. part.now) parts.now) 3) body.now))
         else Err HttpFault.S405)) }
 {
     if !same_bytes(method, b"POST") {
@@ -108,7 +108,7 @@ fn look_answer(
     method: &[u8],
 ) -> Result<Result<CallAsk, HttpFault>, NoMemory>
     ensures { IfOk result (λ answer. answer ≡ (if bytes_eq method.now (codes "GET")
-        then Ok (CallAsk.One (form.asked (asked_by (form.field (map (λ part. part.now) parts.now) 3) (drop 3 (map (λ part. part.now) parts.now)))))
+        then Ok (CallAsk.One (asked_by (form.field (map (λ part. part.now) parts.now) 3) (drop 3 (map (λ part. part.now) parts.now))))
         else Err HttpFault.S405)) }
 {
     if !same_bytes(method, b"GET") {
@@ -118,13 +118,13 @@ fn look_answer(
     Ok(Ok(CallAsk::One(asks)))
 }
 
-// What was read is asked, and a fault of the form is a bad form.
-fn asked(read: Result<Request, FormFault>) -> Result<Ask, NoMemory>
-    ensures { (want : Result Request ℕ) → Gives read want → IfOk result (λ asks. asks ≡ form.asked want) }
+// What was read is asked, or the place of the field that isn't in its form.
+fn asked(read: Result<Request, FormFault>) -> Result<Asked, NoMemory>
+    ensures { (want : Result Request ℕ) → Gives read want → IfOk result (λ asks. asks ≡ want) }
 {
     match read {
-        Ok(request) => Ok(Ask::Request(request)),
-        Err(FormFault::Place(place)) => Ok(Ask::BadForm(place)),
+        Ok(request) => Ok(Ok(request)),
+        Err(FormFault::Place(place)) => Ok(Err(place)),
         Err(FormFault::NoMemory) => Err(NoMemory),
     }
 }
@@ -134,13 +134,13 @@ fn batch_ask(alloc: Global, body: &[u8]) -> Result<CallAsk, NoMemory>
 {
     let rows = records_of(alloc, body)?;
     if rows.len() > 4096 {
-        return Ok(CallAsk::One(Ask::BadForm(0)));
+        return Ok(CallAsk::One(Err(0)));
     }
     Ok(CallAsk::Batch(line_asks(alloc, &rows)?))
 }
 
 fn line_asks(alloc: Global, rows: &[Fields]) -> Result<BatchAsks, NoMemory>
-    ensures { IfOk result (λ asks. asks ≡ map (λ row. form.asked (batch_line row)) rows.now) }
+    ensures { IfOk result (λ asks. asks ≡ map batch_line rows.now) }
 {
     let mut asks = BatchAsks::new(alloc);
     for row in rows {
@@ -149,8 +149,8 @@ fn line_asks(alloc: Global, rows: &[Fields]) -> Result<BatchAsks, NoMemory>
     Ok(asks)
 }
 
-fn line_ask(alloc: Global, row: &Fields) -> Result<Ask, NoMemory>
-    ensures { IfOk result (λ asks. asks ≡ form.asked (batch_line row.now)) }
+fn line_ask(alloc: Global, row: &Fields) -> Result<Asked, NoMemory>
+    ensures { IfOk result (λ asks. asks ≡ batch_line row.now) }
 {
     let texts = slices_of(alloc, row.texts())?;
     asked(line_asked(&texts))

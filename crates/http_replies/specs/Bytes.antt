@@ -8,7 +8,6 @@ use Rattle.http_replies.specs.Bodies.{json_body, plain_text}
 
 -- what a refusal is answered with: no right, no form, nothing there, a conflict with what is there, or a rule that is broken
 abbrev pub refusal_status : Refusal → ℕ
-refusal_status Refusal.Unbuilt = 422
 refusal_status Refusal.NoRight = 403
 refusal_status (Refusal.BadForm place) = 400
 refusal_status (Refusal.NoSuch place) = 404

@@ -83,7 +83,6 @@ fn refusal_status(refusal: Refusal) -> u16
         Refusal::TooSoon(_) => 409,
         Refusal::JournalFull => 409,
         Refusal::StampBack(_) => 409,
-        Refusal::Unbuilt => 422,
         Refusal::CalendarEnded => 422,
         Refusal::BelowMinimum(_) => 422,
         Refusal::NotOffered => 422,

@@ -204,7 +204,6 @@ fn refusal_texts(alloc: Global, refusal: Refusal) -> Result<Fields, NoMemory>
     ensures { IfOk result (λ fields. fields ≡ codes "no" ∷ refusal_values refusal) }
 {
     match refusal {
-        Refusal::Unbuilt => no_value(alloc, b"0"),
         Refusal::NoRight => no_value(alloc, b"1"),
         Refusal::BadForm(place) => one_value(alloc, b"2", place as u64),
         Refusal::NoSuch(place) => one_value(alloc, b"3", place as u64),

@@ -1,5 +1,5 @@
 //! Streams of bytes, each in one piece and cut in many, and what the feed tells of them.
-use agent_events::{Ask, Request};
+use agent_events::{Asked, Request};
 use http_calls::{Call, CallAsk, Feed, Step};
 use http_replies::fault_bytes;
 use money_units::NoMemory;
@@ -54,11 +54,10 @@ fn tell_call(alloc: Global, call: &Call, out: &mut Vec<u8>) -> Result<(), NoMemo
     tell_end(call.last, out)
 }
 
-fn tell_ask(alloc: Global, ask: &Ask, out: &mut Vec<u8>) -> Result<(), NoMemory> {
+fn tell_ask(alloc: Global, ask: &Asked, out: &mut Vec<u8>) -> Result<(), NoMemory> {
     match ask {
-        Ask::Request(request) => out.extend_from_slice(word_of(request))?,
-        Ask::BadForm(place) => out.extend_from_slice(place.to_string(alloc)?.as_bytes())?,
-        Ask::Unbuilt => out.push(b'?')?,
+        Ok(request) => out.extend_from_slice(word_of(request))?,
+        Err(place) => out.extend_from_slice(place.to_string(alloc)?.as_bytes())?,
     }
     Ok(())
 }

@@ -1,7 +1,7 @@
 -- The books of a desk with an event more, and those that show the same.
-use Rattle.std.proofs.Common.{Option, Some, [], subst, sym, ◌≡◌}
+use Rattle.std.proofs.Common.{List, Option, Some, [], subst, sym, ◌++◌, ◌≡◌}
 use Rattle.std.specs.Prelude.{All}
-use Rattle.std.proofs.lemmas.List.Elements.{All-head, All-push}
+use Rattle.std.proofs.lemmas.List.Elements.{All-append, All-head, All-push}
 use Rattle.agent_events.specs.Events.{Event}
 use Rattle.desk_answers.specs.Answered.{events_of}
 use Rattle.desk_books.specs.BooksOfJournals.{AreBooksOf, ShowTheSame}
@@ -15,6 +15,13 @@ pub desk_more : (books new : DeskBooks) (event : Event) → IsDesk books → InF
 desk_more books new event desk fits applied = record {
   of_journal = subst (λ (journal : Journal). AreBooksOf journal new) (sym applied.noted) applied;
   in_form = subst (All InForm) (sym applied.noted) (All-push InForm books.book.journal event desk.in_form fits);
+}
+
+-- and with several events more
+pub desk_behind : (books new : DeskBooks) (events : List Event) → IsDesk books → All InForm events → AreBooksOf (books.book.journal ++ events) new → IsDesk new
+desk_behind books new events desk fit applied = record {
+  of_journal = subst (λ (journal : Journal). AreBooksOf journal new) (sym applied.noted) applied;
+  in_form = subst (All InForm) (sym applied.noted) (All-append InForm books.book.journal events desk.in_form fit);
 }
 
 pub desk_same : (books new : DeskBooks) → IsDesk books → ShowTheSame books new → new.book.journal ≡ books.book.journal → IsDesk new

@@ -3,3 +3,4 @@ pub mod GoodRows
 pub mod RowByRow
 pub mod KeysOfDealers
 pub mod DesksGoOn
+pub mod LinesInRows

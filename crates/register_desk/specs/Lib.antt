@@ -4,3 +4,5 @@ pub mod Rows
 pub mod PreparedAnswers
 -- what a store gave when it was opened
 pub mod Opening
+-- what a prepared batch holds
+pub mod PreparedBatches

@@ -1,5 +1,5 @@
 -- What a batch of a dealer's lines brings behind a lawful journal leaves it lawful.
-use Rattle.std.proofs.Common.{Bool, Err, List, None, Ok, Result, Some, [], ap, append-nil, append_assoc, arith, cond, false, fold, is_some, not, option_to_list, refl, subst, sym, true, ℕ, ◌++◌, ◌∙◌, ◌∷◌, ◌≡◌, ◌≤◌}
+use Rattle.std.proofs.Common.{Bool, Err, List, None, Ok, Result, Some, [], ap, append-nil, append_assoc, arith, false, fold, is_some, not, option_to_list, refl, subst, sym, true, ℕ, ◌++◌, ◌∙◌, ◌∷◌, ◌≡◌, ◌≤◌}
 use Rattle.std.proofs.lemmas.Bool.{not-false, true≢false}
 use Rattle.std.specs.Option.{option_map_or}
 use Rattle.agent_events.specs.Events.{Event, event_of}
@@ -27,7 +27,7 @@ use Rattle.agent_events.specs.declared.verdict.Caller.{Caller}
 use Rattle.register_machine.specs.rules.Callers.{caller_of, dealer_may, serves}
 use Rattle.register_machine.specs.rules.InOrder.{first_rules}
 use Rattle.register_machine.specs.rules.Situations.{situation_at}
-use Rattle.register_machine.specs.run.Answers.{answer, answer_asked, refuses}
+use Rattle.register_machine.specs.run.Answers.{answer, answer_asked}
 use Rattle.register_machine.specs.run.Batches.{BatchAnswer, batch_after_line, batch_answer, situation_behind}
 use Rattle.register_machine.specs.run.Scripts.{Run}
 use Rattle.register_machine.specs.run.Verdicts.{due_now}
@@ -108,9 +108,9 @@ own-behind journal now caller events same =
     ap (λ (book : Book). record { journal = journal ++ events; book = book; now = now; caller = caller })
     (book-again (table_of journal) journal events ∙ ap (λ table. book_of table (journal ++ events)) (sym same))
 
-behind-line : (built : Request → Bool) (journal : Journal) (now dealer : ℕ) (so_far : BatchAnswer) (asked : Asked) → is_some (dealer_numbered (dealers_of journal) dealer) ≡ true → IsBehind journal now so_far.events → IsBehind journal now (batch_after_line built (own_at journal now (Caller.Dealer dealer)) so_far asked).events
-behind-line built journal now dealer so_far asked among behind =
-    subst (λ situation. IsBehind journal now (so_far.events ++ (answer_asked built situation asked).events))
+behind-line : (journal : Journal) (now dealer : ℕ) (so_far : BatchAnswer) (asked : Asked) → is_some (dealer_numbered (dealers_of journal) dealer) ≡ true → IsBehind journal now so_far.events → IsBehind journal now (batch_after_line (own_at journal now (Caller.Dealer dealer)) so_far asked).events
+behind-line journal now dealer so_far asked among behind =
+    subst (λ situation. IsBehind journal now (so_far.events ++ (answer_asked situation asked).events))
     (sym (own-behind journal now (Caller.Dealer dealer) so_far.events behind.table)) (by_asked asked)
   where
     said-none : IsBehind journal now (so_far.events ++ [])
@@ -130,23 +130,19 @@ behind-line built journal now dealer so_far asked among behind =
           dealers = ap dealers_of (sym same) ∙ (keeps.dealers ∙ behind.dealers);
         }
 
-    by_built : (request : Request) (is : Bool) → IsBehind journal now (so_far.events ++ (cond is (answer (own_at (journal ++ so_far.events) now (Caller.Dealer dealer)) request) (refuses Refusal.Unbuilt)).events)
-    by_built request true = said-more request
-    by_built request false = said-none
-
-    by_asked : (asked : Asked) → IsBehind journal now (so_far.events ++ (answer_asked built (own_at (journal ++ so_far.events) now (Caller.Dealer dealer)) asked).events)
-    by_asked (Ok request) = by_built request (built request)
+    by_asked : (asked : Asked) → IsBehind journal now (so_far.events ++ (answer_asked (own_at (journal ++ so_far.events) now (Caller.Dealer dealer)) asked).events)
+    by_asked (Ok request) = said-more request
     by_asked (Err place) = said-none
 
-behind-lines : (built : Request → Bool) (journal : Journal) (now dealer : ℕ) (so_far : BatchAnswer) (lines : List Asked) → is_some (dealer_numbered (dealers_of journal) dealer) ≡ true → IsBehind journal now so_far.events → IsBehind journal now (fold (batch_after_line built (own_at journal now (Caller.Dealer dealer))) so_far lines).events
-behind-lines built journal now dealer so_far [] among behind = behind
-behind-lines built journal now dealer so_far (asked ∷ lines) among behind =
-    behind-lines built journal now dealer (batch_after_line built (own_at journal now (Caller.Dealer dealer)) so_far asked) lines among
-    (behind-line built journal now dealer so_far asked among behind)
+behind-lines : (journal : Journal) (now dealer : ℕ) (so_far : BatchAnswer) (lines : List Asked) → is_some (dealer_numbered (dealers_of journal) dealer) ≡ true → IsBehind journal now so_far.events → IsBehind journal now (fold (batch_after_line (own_at journal now (Caller.Dealer dealer))) so_far lines).events
+behind-lines journal now dealer so_far [] among behind = behind
+behind-lines journal now dealer so_far (asked ∷ lines) among behind =
+    behind-lines journal now dealer (batch_after_line (own_at journal now (Caller.Dealer dealer)) so_far asked) lines among
+    (behind-line journal now dealer so_far asked among behind)
 
-batch-by : (built : Request → Bool) (journal : Journal) (now : ℕ) (caller : Caller) (lines : List Asked) → IsAmong (dealers_of journal) caller → IsLawful journal → last_moment journal ≤ now → IsLawful (journal ++ batch_events (batch_answer built (own_at journal now caller) (Ok lines)))
-batch-by built journal now (Caller.Dealer dealer) lines among lawful late =
-    (behind-lines built journal now dealer (record { replies = []; events = [] }) lines among first).lawful
+batch-by : (journal : Journal) (now : ℕ) (caller : Caller) (lines : List Asked) → IsAmong (dealers_of journal) caller → IsLawful journal → last_moment journal ≤ now → IsLawful (journal ++ batch_events (batch_answer (own_at journal now caller) (Ok lines)))
+batch-by journal now (Caller.Dealer dealer) lines among lawful late =
+    (behind-lines journal now dealer (record { replies = []; events = [] }) lines among first).lawful
   where
     none : Keeps journal now []
     none = keeps-none journal now late
@@ -158,16 +154,16 @@ batch-by built journal now (Caller.Dealer dealer) lines among lawful late =
       table = none.table;
       dealers = none.dealers;
     }
-batch-by built journal now Caller.Operator lines among lawful late = subst IsLawful (sym (append-nil journal)) lawful
-batch-by built journal now (Caller.Household household) lines among lawful late = subst IsLawful (sym (append-nil journal)) lawful
-batch-by built journal now Caller.Stranger lines among lawful late = subst IsLawful (sym (append-nil journal)) lawful
+batch-by journal now Caller.Operator lines among lawful late = subst IsLawful (sym (append-nil journal)) lawful
+batch-by journal now (Caller.Household household) lines among lawful late = subst IsLawful (sym (append-nil journal)) lawful
+batch-by journal now Caller.Stranger lines among lawful late = subst IsLawful (sym (append-nil journal)) lawful
 
-pub batch_leaves_lawful : (built : Request → Bool) (operator : List ℕ) (journal : Journal) (now : ℕ) (key : List ℕ) (lines : Result (List Asked) ℕ) → BatchLeavesLawful built operator journal now key lines
-batch_leaves_lawful built operator journal now key (Ok lines) lawful late =
-    batch-by built journal now (caller_of journal operator key) lines (keyed-among journal operator key) lawful late
-batch_leaves_lawful built operator journal now key (Err place) lawful late = subst IsLawful (sym (append-nil journal)) lawful
+pub batch_leaves_lawful : (operator : List ℕ) (journal : Journal) (now : ℕ) (key : List ℕ) (lines : Result (List Asked) ℕ) → BatchLeavesLawful operator journal now key lines
+batch_leaves_lawful operator journal now key (Ok lines) lawful late =
+    batch-by journal now (caller_of journal operator key) lines (keyed-among journal operator key) lawful late
+batch_leaves_lawful operator journal now key (Err place) lawful late = subst IsLawful (sym (append-nil journal)) lawful
 
-pub batch_leaves_run_lawful : (built : Request → Bool) (operator : List ℕ) (run : Run) (now : ℕ) (key : List ℕ) (lines : Result (List Asked) ℕ) → BatchLeavesRunLawful built operator run now key lines
-batch_leaves_run_lawful built operator run now key lines own lawful late =
-    subst (λ table. IsLawful (run.journal ++ batch_events (batch_answer built (situation_at table run.journal now (caller_of run.journal operator key)) lines))) (sym own)
-    (batch_leaves_lawful built operator run.journal now key lines lawful late)
+pub batch_leaves_run_lawful : (operator : List ℕ) (run : Run) (now : ℕ) (key : List ℕ) (lines : Result (List Asked) ℕ) → BatchLeavesRunLawful operator run now key lines
+batch_leaves_run_lawful operator run now key lines own lawful late =
+    subst (λ table. IsLawful (run.journal ++ batch_events (batch_answer (situation_at table run.journal now (caller_of run.journal operator key)) lines))) (sym own)
+    (batch_leaves_lawful operator run.journal now key lines lawful late)

@@ -39,7 +39,7 @@ use Rattle.register_machine.specs.replay.Trades.{Day}
 use Rattle.register_machine.specs.rules.Breaks.{is_trade_of}
 use Rattle.register_machine.specs.rules.Callers.{caller_of, may, owns}
 use Rattle.register_machine.specs.rules.Situations.{Situation, situation_at}
-use Rattle.register_machine.specs.run.Answers.{Answer, answer, refuses}
+use Rattle.register_machine.specs.run.Answers.{Answer, answer}
 use Rattle.register_machine.specs.run.Batches.{BatchAnswer, batch_answer, is_dealer_caller}
 
 -- ---- what is found where one at most passes
@@ -266,26 +266,24 @@ behind-nothing journal now caller =
     ∙ ap (λ (book : Book). let s : Situation = record { journal = journal; book = book; now = now; caller = caller } in s) (book-same-again (table_of journal) journal)
 
 -- what a batch of one line says, by the answer to it
-abbrev batch_by : Bool → (Request → Bool) → LineForm → Answer → Result BatchAnswer Refusal
-batch_by dealer built line said =
-    cond dealer
-    (Ok (record { replies = (cond (built (Request.Line line)) said (refuses Refusal.Unbuilt)).reply ∷ []; events = (cond (built (Request.Line line)) said (refuses Refusal.Unbuilt)).events }))
-    (Err Refusal.NoRight)
+abbrev batch_by : Bool → Answer → Result BatchAnswer Refusal
+batch_by dealer said =
+    cond dealer (Ok (record { replies = said.reply ∷ []; events = said.events })) (Err Refusal.NoRight)
 
-one-line : (journal : Journal) (now : ℕ) (caller : Caller) (built : Request → Bool) (line : LineForm) → batch_answer built (own_at journal now caller) (Ok (Ok (Request.Line line) ∷ [])) ≡ batch_by (is_dealer_caller caller) built line (answer (own_at journal now caller) (Request.Line line))
-one-line journal now caller built line =
-    ap (λ s. batch_by (is_dealer_caller caller) built line (answer s (Request.Line line))) (behind-nothing journal now caller)
+one-line : (journal : Journal) (now : ℕ) (caller : Caller) (line : LineForm) → batch_answer (own_at journal now caller) (Ok (Ok (Request.Line line) ∷ [])) ≡ batch_by (is_dealer_caller caller) (answer (own_at journal now caller) (Request.Line line))
+one-line journal now caller line =
+    ap (λ s. batch_by (is_dealer_caller caller) (answer s (Request.Line line))) (behind-nothing journal now caller)
 
 dealers-alike : (household : ℕ) (caller seen : Caller) → CallsAlike household caller seen → is_dealer_caller caller ≡ is_dealer_caller seen
 dealers-alike household caller seen (CallsAlike.Same is) = ap is_dealer_caller is
 dealers-alike household caller seen (CallsAlike.Other other is apart stranger) = ap is_dealer_caller is ∙ sym (ap is_dealer_caller stranger)
 
 pub batches_isolated : (journal : Journal) (household : ℕ) → IsolatesBatches journal household
-batches_isolated journal household lawful short built operator key now line asked =
+batches_isolated journal household lawful short operator key now line asked =
     let caller = caller_of journal operator key in
     let seen = caller_of (view household journal) operator key in
     let alike = calls-alike journal household lawful operator key in
-    one-line journal now caller built line
-    ∙ (ap (λ dealer. batch_by dealer built line (answer (own_at journal now caller) (Request.Line line))) (dealers-alike household caller seen alike)
-    ∙ (ap (batch_by (is_dealer_caller seen) built line) (by-callers journal household now caller seen lawful short (Request.Line line) asked alike)
-    ∙ sym (one-line (view household journal) now seen built line)))
+    one-line journal now caller line
+    ∙ (ap (λ dealer. batch_by dealer (answer (own_at journal now caller) (Request.Line line))) (dealers-alike household caller seen alike)
+    ∙ (ap (batch_by (is_dealer_caller seen)) (by-callers journal household now caller seen lawful short (Request.Line line) asked alike)
+    ∙ sym (one-line (view household journal) now seen line)))

@@ -6,7 +6,6 @@ pub mod RulesByName
 pub mod CorrectedAgain
 pub mod AnswersByCases
 pub mod RefusedByFirst
-pub mod NeverUnbuilt
 pub mod LawfulJournals
 pub mod MomentsNeverFall
 pub mod ForwardPriced

@@ -5,7 +5,7 @@ use Rattle.std.proofs.lemmas.List.Folds.{list_all-append}
 use Rattle.std.specs.List.{list_all}
 use Rattle.agent_events.specs.Events.{fits_row, order_request, request_of}
 use Rattle.agent_events.specs.Fields.{moment}
-use Rattle.agent_events.specs.Forms.{asked, field, is_key_text}
+use Rattle.agent_events.specs.Forms.{field, is_key_text}
 use Rattle.agent_events.specs.Items.{ScriptItem, asked_by, script_item, script_item_at}
 use Rattle.agent_events.specs.VerbForms.{Asked}
 use Rattle.agent_events.specs.declared.event.EventKind.{EventKind}
@@ -22,7 +22,7 @@ use Rattle.register_laws.specs.LawfulLimits.{has_list_forms}
 use Rattle.register_laws.specs.RowForms.{BringsListForms, LawfulFitsRows, ScriptFitsRows, asked_has_list_forms, event_fits_row, event_has_list_forms, request_has_list_forms}
 use Rattle.register_machine.specs.journal.Journals.{Journal, last_moment}
 use Rattle.register_machine.specs.rules.Situations.{Situation}
-use Rattle.register_machine.specs.run.Answers.{answer, answer_asked, refuses}
+use Rattle.register_machine.specs.run.Answers.{answer_asked, refuses}
 use Rattle.register_machine.specs.run.Scripts.{Run, empty_run, item_answer, item_step, run_from, script_items, situation_in}
 use Rattle.register_machine.specs.run.Verdicts.{due_now}
 
@@ -79,34 +79,30 @@ items-forms : (rows : List (List (List ℕ))) → list_all item_has_list_forms (
 items-forms [] = refl
 items-forms (row ∷ rows) = ap (λ b. b && list_all item_has_list_forms (map script_item rows)) (item-forms row) ∙ items-forms rows
 
-answer-forms : (built : Request → Bool) (operator : List ℕ) (run : Run) (item : ScriptItem) → item_has_list_forms item ≡ true → list_all event_has_list_forms (item_answer built operator run item).events ≡ true
-answer-forms built operator run ScriptItem.Bad forms = refl
-answer-forms built operator run (ScriptItem.Good now key asked) forms = by_moment (nat_lt now (last_moment run.journal))
+answer-forms : (operator : List ℕ) (run : Run) (item : ScriptItem) → item_has_list_forms item ≡ true → list_all event_has_list_forms (item_answer operator run item).events ≡ true
+answer-forms operator run ScriptItem.Bad forms = refl
+answer-forms operator run (ScriptItem.Good now key asked) forms = by_moment (nat_lt now (last_moment run.journal))
   where
-    by_built : (request : Request) (is : Bool) → request_has_list_forms request ≡ true → list_all event_has_list_forms (cond is (answer (situation_in operator run now key) request) (refuses Refusal.Unbuilt)).events ≡ true
-    by_built request true held = brings_list_forms (situation_in operator run now key) request held
-    by_built request false held = refl
-
-    by_asked : (asks : Asked) → asked_has_list_forms asks ≡ true → list_all event_has_list_forms (answer_asked built (situation_in operator run now key) asks).events ≡ true
-    by_asked (Ok request) held = by_built request (built request) held
+    by_asked : (asks : Asked) → asked_has_list_forms asks ≡ true → list_all event_has_list_forms (answer_asked (situation_in operator run now key) asks).events ≡ true
+    by_asked (Ok request) held = brings_list_forms (situation_in operator run now key) request held
     by_asked (Err place) held = refl
 
-    by_moment : (early : Bool) → list_all event_has_list_forms (cond early (refuses (Refusal.StampBack (last_moment run.journal))) (answer_asked built (situation_in operator run now key) asked)).events ≡ true
+    by_moment : (early : Bool) → list_all event_has_list_forms (cond early (refuses (Refusal.StampBack (last_moment run.journal))) (answer_asked (situation_in operator run now key) asked)).events ≡ true
     by_moment true = refl
     by_moment false = by_asked asked forms
 
-run-forms : (built : Request → Bool) (operator : List ℕ) (run : Run) (items : List ScriptItem) → list_all item_has_list_forms items ≡ true → list_all event_has_list_forms run.journal ≡ true → list_all event_has_list_forms (fold (item_step built operator) run items).journal ≡ true
+run-forms : (operator : List ℕ) (run : Run) (items : List ScriptItem) → list_all item_has_list_forms items ≡ true → list_all event_has_list_forms run.journal ≡ true → list_all event_has_list_forms (fold (item_step operator) run items).journal ≡ true
 unfolding item_step
-run-forms built operator run [] all held = held
-run-forms built operator run (item ∷ items) all held =
+run-forms operator run [] all held = held
+run-forms operator run (item ∷ items) all held =
     let both = and_parts (item_has_list_forms item) (list_all item_has_list_forms items) all in
-    run-forms built operator (item_step built operator run item) items both.1
-    (list_all-append event_has_list_forms run.journal (item_answer built operator run item).events
-    ∙ (ap (λ b. b && list_all event_has_list_forms (item_answer built operator run item).events) held
-    ∙ answer-forms built operator run item both.0))
+    run-forms operator (item_step operator run item) items both.1
+    (list_all-append event_has_list_forms run.journal (item_answer operator run item).events
+    ∙ (ap (λ b. b && list_all event_has_list_forms (item_answer operator run item).events) held
+    ∙ answer-forms operator run item both.0))
 
-pub script_fits_rows : (built : Request → Bool) (operator script : List ℕ) → ScriptFitsRows built operator script
+pub script_fits_rows : (operator script : List ℕ) → ScriptFitsRows operator script
 unfolding run_from
-script_fits_rows built operator script =
-    fits_rows (run_from built operator empty_run (script_items script)).journal (run_is_lawful built operator (script_items script))
-    (run-forms built operator empty_run (script_items script) (items-forms (records default_config (strip_bom script))) refl)
+script_fits_rows operator script =
+    fits_rows (run_from operator empty_run (script_items script)).journal (run_is_lawful operator (script_items script))
+    (run-forms operator empty_run (script_items script) (items-forms (records default_config (strip_bom script))) refl)

@@ -3,7 +3,6 @@ use Rattle.std.proofs.Common.{Bool, Err, List, Ok, [], ap, append-nil, cond, fal
 use Rattle.std.proofs.lemmas.Bool.{ltb-false}
 use Rattle.std.proofs.lemmas.List.Sums.{fold-append}
 use Rattle.agent_events.specs.Events.{Event}
-use Rattle.agent_events.specs.Forms.{asked}
 use Rattle.agent_events.specs.Items.{ScriptItem}
 use Rattle.agent_events.specs.VerbForms.{Asked}
 use Rattle.agent_events.specs.declared.reply.Refusal.{Refusal}
@@ -27,49 +26,45 @@ unfolding table_behind
 table-more table journal events e =
     ap (λ known. fold table_after known events) e ∙ sym (fold-append table_after empty_table journal events)
 
-table-run : (built : Request → Bool) (operator : List ℕ) (run : Run) (items : List ScriptItem) → KeepsItsTable run → KeepsItsTable (fold (item_step built operator) run items)
+table-run : (operator : List ℕ) (run : Run) (items : List ScriptItem) → KeepsItsTable run → KeepsItsTable (fold (item_step operator) run items)
 unfolding item_step
-table-run built operator run [] keeps = keeps
-table-run built operator run (first ∷ items) keeps =
-    table-run built operator (item_step built operator run first) items (table-more run.table run.journal (item_answer built operator run first).events keeps)
+table-run operator run [] keeps = keeps
+table-run operator run (first ∷ items) keeps =
+    table-run operator (item_step operator run first) items (table-more run.table run.journal (item_answer operator run first).events keeps)
 
-pub run_keeps_its_table : (built : Request → Bool) (operator : List ℕ) (items : List ScriptItem) → KeepsItsTable (run_from built operator empty_run items)
+pub run_keeps_its_table : (operator : List ℕ) (items : List ScriptItem) → KeepsItsTable (run_from operator empty_run items)
 unfolding run_from table_behind
-run_keeps_its_table built operator items = table-run built operator empty_run items refl
+run_keeps_its_table operator items = table-run operator empty_run items refl
 
 -- what holds of every refusal, and of the answer to a request that doesn't come before the last event, holds of an item's
-each-item : (C : Answer → Type 0) (built : Request → Bool) (operator : List ℕ) (run : Run) (item : ScriptItem) → ((refusal : Refusal) → C (refuses refusal)) → ((now : ℕ) (key : List ℕ) (request : Request) → last_moment run.journal ≤ now → C (answer (situation_in operator run now key) request)) → C (item_answer built operator run item)
-each-item C built operator run ScriptItem.Bad refused answered = refused (Refusal.BadForm 0)
-each-item C built operator run (ScriptItem.Good now key asked) refused answered = by_moment (nat_lt now (last_moment run.journal)) refl
+each-item : (C : Answer → Type 0) (operator : List ℕ) (run : Run) (item : ScriptItem) → ((refusal : Refusal) → C (refuses refusal)) → ((now : ℕ) (key : List ℕ) (request : Request) → last_moment run.journal ≤ now → C (answer (situation_in operator run now key) request)) → C (item_answer operator run item)
+each-item C operator run ScriptItem.Bad refused answered = refused (Refusal.BadForm 0)
+each-item C operator run (ScriptItem.Good now key asked) refused answered = by_moment (nat_lt now (last_moment run.journal)) refl
   where
-    by_request : (request : Request) → last_moment run.journal ≤ now → (is_built : Bool) → C (cond is_built (answer (situation_in operator run now key) request) (refuses Refusal.Unbuilt))
-    by_request request late true = answered now key request late
-    by_request request late false = refused Refusal.Unbuilt
-
-    by_asked : (asked : Asked) → last_moment run.journal ≤ now → C (answer_asked built (situation_in operator run now key) asked)
-    by_asked (Ok request) late = by_request request late (built request)
+    by_asked : (asked : Asked) → last_moment run.journal ≤ now → C (answer_asked (situation_in operator run now key) asked)
+    by_asked (Ok request) late = answered now key request late
     by_asked (Err place) late = refused (Refusal.BadForm place)
 
-    by_moment : (early : Bool) → nat_lt now (last_moment run.journal) ≡ early → C (cond early (refuses (Refusal.StampBack (last_moment run.journal))) (answer_asked built (situation_in operator run now key) asked))
+    by_moment : (early : Bool) → nat_lt now (last_moment run.journal) ≡ early → C (cond early (refuses (Refusal.StampBack (last_moment run.journal))) (answer_asked (situation_in operator run now key) asked))
     by_moment true e = refused (Refusal.StampBack (last_moment run.journal))
     by_moment false e = by_asked asked (ltb-false now (last_moment run.journal) e)
 
 -- so what each answer to a caller by its key keeps, in a situation with its journal's own table, a run keeps
-run-with-table : (P : Journal → Type 0) (operator : List ℕ) → ((journal : Journal) (now : ℕ) (key : List ℕ) (request : Request) → last_moment journal ≤ now → P journal → P (journal ++ (answer (situation_at (table_of journal) journal now (caller_of journal operator key)) request).events)) → (built : Request → Bool) (run : Run) (items : List ScriptItem) → KeepsItsTable run → P run.journal → P (fold (item_step built operator) run items).journal
+run-with-table : (P : Journal → Type 0) (operator : List ℕ) → ((journal : Journal) (now : ℕ) (key : List ℕ) (request : Request) → last_moment journal ≤ now → P journal → P (journal ++ (answer (situation_at (table_of journal) journal now (caller_of journal operator key)) request).events)) → (run : Run) (items : List ScriptItem) → KeepsItsTable run → P run.journal → P (fold (item_step operator) run items).journal
 unfolding item_step
-run-with-table P operator keeps built run [] own holds = holds
-run-with-table P operator keeps built run (first ∷ items) own holds =
-    run-with-table P operator keeps built (item_step built operator run first) items
-    (table-more run.table run.journal (item_answer built operator run first).events own)
-    (each-item (λ said. P (run.journal ++ said.events)) built operator run first
+run-with-table P operator keeps run [] own holds = holds
+run-with-table P operator keeps run (first ∷ items) own holds =
+    run-with-table P operator keeps (item_step operator run first) items
+    (table-more run.table run.journal (item_answer operator run first).events own)
+    (each-item (λ said. P (run.journal ++ said.events)) operator run first
     (λ refusal. subst P (sym (append-nil run.journal)) holds)
     (λ now key request late.
     subst (λ table. P (run.journal ++ (answer (situation_at table run.journal now (caller_of run.journal operator key)) request).events)) (sym own)
     (keeps run.journal now key request late holds)))
 
-pub run-keeps-its : (P : Journal → Type 0) (operator : List ℕ) → ((journal : Journal) (now : ℕ) (key : List ℕ) (request : Request) → last_moment journal ≤ now → P journal → P (journal ++ (answer (situation_at (table_of journal) journal now (caller_of journal operator key)) request).events)) → (built : Request → Bool) (items : List ScriptItem) → P [] → P (run_from built operator empty_run items).journal
+pub run-keeps-its : (P : Journal → Type 0) (operator : List ℕ) → ((journal : Journal) (now : ℕ) (key : List ℕ) (request : Request) → last_moment journal ≤ now → P journal → P (journal ++ (answer (situation_at (table_of journal) journal now (caller_of journal operator key)) request).events)) → (items : List ScriptItem) → P [] → P (run_from operator empty_run items).journal
 unfolding run_from table_behind
-run-keeps-its P operator keeps built items holds = run-with-table P operator keeps built empty_run items refl holds
+run-keeps-its P operator keeps items holds = run-with-table P operator keeps empty_run items refl holds
 
 pub answers_by_the_journal : (operator : List ℕ) (run : Run) (now : ℕ) (key : List ℕ) (request : Request) → AnswersByTheJournal operator run now key request
 answers_by_the_journal operator run now key request own =

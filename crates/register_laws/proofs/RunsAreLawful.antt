@@ -236,9 +236,9 @@ answer_is_lawful journal now caller request among late lawful =
 
 -- ---- runs
 
-pub run_is_lawful : (built : Request → Bool) (operator : List ℕ) (items : List ScriptItem) → IsLawful (run_from built operator empty_run items).journal
-run_is_lawful built operator items =
+pub run_is_lawful : (operator : List ℕ) (items : List ScriptItem) → IsLawful (run_from operator empty_run items).journal
+run_is_lawful operator items =
     run-keeps-its IsLawful operator
     (λ journal now key request late.
     answer_is_lawful journal now (caller_of journal operator key) request (keyed-among journal operator key) late)
-    built items tt
+    items tt

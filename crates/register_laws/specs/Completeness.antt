@@ -1,10 +1,7 @@
 -- Completeness: which rule refuses a request, and that a request which no rule refuses gets what it asks for.
-use Rattle.std.specs.List.{list_any}
 use Rattle.std.specs.Option.{option_or}
-use Rattle.std.specs.Prelude.{Bool, Err, List, None, Ok, Option, Result, Some, [], false, if◌then◌else◌, is_some, option_and_then, option_map, position, slice_get, take, true, ℕ, ◌∷◌, ◌≡◌}
+use Rattle.std.specs.Prelude.{Bool, None, Option, Some, false, if◌then◌else◌, is_some, option_and_then, option_map, position, slice_get, take, true, ℕ, ◌≡◌}
 use Rattle.agent_events.specs.Events.{Event, event_of}
-use Rattle.agent_events.specs.Items.{ScriptItem}
-use Rattle.agent_events.specs.VerbForms.{Asked}
 use Rattle.agent_events.specs.declared.event.EventKind.{EventKind}
 use Rattle.agent_events.specs.declared.reply.Refusal.{Refusal}
 use Rattle.agent_events.specs.declared.reply.Reply.{Reply}
@@ -16,10 +13,8 @@ use Rattle.register_machine.specs.pricing.PublishedTable.{table_of}
 use Rattle.register_machine.specs.rules.Breaks.{breaks}
 use Rattle.register_machine.specs.rules.InOrder.{broken_rule, first_rules}
 use Rattle.register_machine.specs.rules.Situations.{Situation, event_at}
-use Rattle.register_machine.specs.run.Answers.{answer, answer_asked, appends, query_reply, refuses, says}
-use Rattle.register_machine.specs.run.Batches.{BatchAnswer, batch_answer}
+use Rattle.register_machine.specs.run.Answers.{answer, appends, query_reply, refuses, says}
 use Rattle.register_machine.specs.run.Replies.{first_reply}
-use Rattle.register_machine.specs.run.Scripts.{Run, all_verbs_built, item_answer}
 use Rattle.register_machine.specs.run.Verdicts.{due_now, repeats}
 
 -- the event that a request would bring, and the last rule, which looks at it
@@ -84,25 +79,3 @@ pub record IsShown (situation : Situation) (request : Request) : Type 0 where
 abbrev pub ShowsWhatIsAsked : Situation → Request → Type 0
 ShowsWhatIsAsked situation request =
     refusal_of situation request ≡ None → is_query request ≡ true → IsShown situation request
-
--- ---- Where all verbs are built.
-
-abbrev pub is_unbuilt : Reply → Bool
-is_unbuilt (Reply.Refused Refusal.Unbuilt) = true
-is_unbuilt _ = false
-
--- No request is answered as one whose verb isn't built.
-abbrev pub IsBuilt : Situation → Asked → Type 0
-IsBuilt situation asked = is_unbuilt (answer_asked all_verbs_built situation asked).reply ≡ false
-
--- No item of a script is, and no line of a batch.
-abbrev pub ItemIsBuilt : List ℕ → Run → ScriptItem → Type 0
-ItemIsBuilt operator run item = is_unbuilt (item_answer all_verbs_built operator run item).reply ≡ false
-
-abbrev pub batch_replies : Result BatchAnswer Refusal → List Reply
-batch_replies (Ok answered) = answered.replies
-batch_replies (Err refusal) = Reply.Refused refusal ∷ []
-
-abbrev pub BatchIsBuilt : Situation → Result (List Asked) ℕ → Type 0
-BatchIsBuilt situation lines =
-    list_any is_unbuilt (batch_replies (batch_answer all_verbs_built situation lines)) ≡ false

@@ -1,5 +1,5 @@
 -- Isolation: what one holder asks is answered by nothing but the household's view of the journal.
-use Rattle.std.specs.Prelude.{Bool, List, None, Ok, Option, Result, Some, [], length, true, ℕ, ◌<◌, ◌∷◌, ◌≡◌}
+use Rattle.std.specs.Prelude.{List, None, Ok, Option, Result, Some, [], length, true, ℕ, ◌<◌, ◌∷◌, ◌≡◌}
 use Rattle.agent_events.specs.declared.reply.Refusal.{Refusal}
 use Rattle.agent_events.specs.declared.request.LineForm.{LineForm}
 use Rattle.agent_events.specs.declared.request.Request.{Request}
@@ -43,14 +43,14 @@ abbrev pub situation_by_key : Journal → ℕ → List ℕ → List ℕ → Situ
 situation_by_key journal now operator key =
     situation_at (table_of journal) journal now (caller_of journal operator key)
 
-abbrev pub one_line_answer : (Request → Bool) → Situation → LineForm → Result BatchAnswer Refusal
-one_line_answer built situation line = batch_answer built situation (Ok (Ok (Request.Line line) ∷ []))
+abbrev pub one_line_answer : Situation → LineForm → Result BatchAnswer Refusal
+one_line_answer situation line = batch_answer situation (Ok (Ok (Request.Line line) ∷ []))
 
 -- And so is a dealer's batch of one line.
 abbrev pub IsolatesBatches : Journal → ℕ → Type 0
 IsolatesBatches journal household =
     IsLawful journal → length journal < 100000000
-    → (built : Request → Bool) (operator key : List ℕ) (now : ℕ) (line : LineForm)
+    → (operator key : List ℕ) (now : ℕ) (line : LineForm)
     → IsAskedOf journal household (Request.Line line)
-    → one_line_answer built (situation_by_key journal now operator key) line
-    ≡ one_line_answer built (situation_by_key (view household journal) now operator key) line
+    → one_line_answer (situation_by_key journal now operator key) line
+    ≡ one_line_answer (situation_by_key (view household journal) now operator key) line

@@ -44,6 +44,6 @@ LawfulFitsRows journal =
     IsLawful journal → list_all event_has_list_forms journal ≡ true → list_all event_fits_row journal ≡ true
 
 -- and so does the journal of a script's run
-abbrev pub ScriptFitsRows : (Request → Bool) → List ℕ → List ℕ → Type 0
-ScriptFitsRows built operator script =
-    list_all event_fits_row (run_from built operator empty_run (script_items script)).journal ≡ true
+abbrev pub ScriptFitsRows : List ℕ → List ℕ → Type 0
+ScriptFitsRows operator script =
+    list_all event_fits_row (run_from operator empty_run (script_items script)).journal ≡ true

@@ -1,11 +1,7 @@
 //! Laws of answers: which rule refuses a request, and that a request which no rule refuses gets what it asks for.
-ghost use Rattle.std.specs.Prelude.{ℕ, List, Result};
-ghost use Rattle.agent_events.specs.Items.{ScriptItem};
-ghost use Rattle.agent_events.specs.VerbForms.{Asked};
 ghost use Rattle.agent_events.specs.declared.request.Request.{Request};
 ghost use Rattle.register_machine.specs.rules.Situations.{Situation};
-ghost use Rattle.register_machine.specs.run.Scripts.{Run};
-ghost use Rattle.register_laws.specs.Completeness.{IsRefusedByFirst, BringsItsEvent, GetsFirstReplyAgain, ShowsWhatIsAsked, IsBuilt, ItemIsBuilt, BatchIsBuilt};
+ghost use Rattle.register_laws.specs.Completeness.{IsRefusedByFirst, BringsItsEvent, GetsFirstReplyAgain, ShowsWhatIsAsked};
 
 /// A request is refused only where it breaks a rule, and then by the first that it breaks: the rules on the right and on
 /// terms, then, unless its content is known, those in order, and last the one on what a correction may not break.
@@ -31,23 +27,4 @@ pub fn known_requests_get_their_first_reply()
 #[tactic(auto, using(crate::proofs::RefusedByFirst::shows_what_is_asked))]
 pub fn queries_that_break_no_rule_are_shown()
     ensures { (situation : Situation) (request : Request) → ShowsWhatIsAsked situation request }
-{}
-
-/// Where all verbs are built no request is answered as one whose verb isn't built: no rule says so.
-#[tactic(auto, using(crate::proofs::NeverUnbuilt::is_built))]
-pub fn no_answer_says_unbuilt()
-    ensures { (situation : Situation) (asked : Asked) → IsBuilt situation asked }
-{}
-
-/// Nor is an item of a script.
-#[tactic(auto, using(crate::proofs::NeverUnbuilt::item_is_built))]
-pub fn no_item_is_answered_unbuilt()
-    ensures { (operator : List ℕ) (run : Run) (item : ScriptItem) → ItemIsBuilt operator run item }
-{}
-
-/// Nor is a line of a batch.
-#[tactic(auto, using(crate::proofs::NeverUnbuilt::batch_is_built))]
-pub fn no_line_is_answered_unbuilt()
-    ensures { (situation : Situation) (lines : Result (List Asked) ℕ)
-        → BatchIsBuilt situation lines }
 {}

@@ -9,14 +9,14 @@ ghost use Rattle.register_laws.specs.LawfulBatches.{BatchLeavesLawful, BatchLeav
 /// Behind a lawful journal, at a moment that isn't before its last, the events of a batch leave it lawful, whoever sends it
 /// and whatever its lines: only a dealer's lines are answered, each behind those before it, and none of them changes a price.
 pub fn batches_leave_journals_lawful()
-    ensures { (built : Request → Bool) (operator : List ℕ) (journal : Journal) (now : ℕ)
+    ensures { (operator : List ℕ) (journal : Journal) (now : ℕ)
         (key : List ℕ) (lines : Result (List Asked) ℕ)
-        → BatchLeavesLawful built operator journal now key lines }
+        → BatchLeavesLawful operator journal now key lines }
 {}
 
 /// And so behind a run that keeps the price table of its journal.
 pub fn batches_leave_runs_lawful()
-    ensures { (built : Request → Bool) (operator : List ℕ) (run : Run) (now : ℕ)
+    ensures { (operator : List ℕ) (run : Run) (now : ℕ)
         (key : List ℕ) (lines : Result (List Asked) ℕ)
-        → BatchLeavesRunLawful built operator run now key lines }
+        → BatchLeavesRunLawful operator run now key lines }
 {}

@@ -47,8 +47,8 @@ pub fn refusals_append_nothing()
 /// The price table that a run carries is that of its journal.
 #[tactic(auto, using(crate::proofs::Runs::run_keeps_its_table))]
 pub fn runs_keep_their_table()
-    ensures { (built : Request → Bool) (operator : List ℕ) (items : List ScriptItem)
-        → KeepsItsTable (run_from built operator empty_run items) }
+    ensures { (operator : List ℕ) (items : List ScriptItem)
+        → KeepsItsTable (run_from operator empty_run items) }
 {}
 
 /// So an answer depends on the operator's key, the journal, the moment, the caller's key and the request alone.
@@ -63,8 +63,8 @@ pub fn answers_depend_on_the_journal()
 /// and by the operator for all else. So all laws of lawful journals hold of it.
 #[tactic(auto, using(crate::proofs::RunsAreLawful::run_is_lawful))]
 pub fn journals_of_runs_are_lawful()
-    ensures { (built : Request → Bool) (operator : List ℕ) (items : List ScriptItem)
-        → IsLawful (run_from built operator empty_run items).journal }
+    ensures { (operator : List ℕ) (items : List ScriptItem)
+        → IsLawful (run_from operator empty_run items).journal }
 {}
 
 /// An order that has its sheet has the first price computed after its receipt (17 CFR 270.22c-1(a)).

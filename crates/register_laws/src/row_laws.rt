@@ -26,6 +26,6 @@ pub fn lawful_journals_fit_rows()
 /// And so does the journal of every script's run.
 #[tactic(auto, using(crate::proofs::RowsFit::script_fits_rows))]
 pub fn journals_of_scripts_fit_rows()
-    ensures { (built : Request → Bool) (operator script : List ℕ)
-        → ScriptFitsRows built operator script }
+    ensures { (operator script : List ℕ)
+        → ScriptFitsRows operator script }
 {}

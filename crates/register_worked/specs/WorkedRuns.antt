@@ -17,7 +17,7 @@ use Rattle.money_units.specs.Texts.{number_text}
 use Rattle.register_machine.specs.pricing.PublishedTable.{empty_table}
 use Rattle.agent_events.specs.declared.verdict.Caller.{Caller}
 use Rattle.register_machine.specs.rules.Situations.{Situation, situation_at}
-use Rattle.register_machine.specs.run.Scripts.{Run, all_verbs_built, batch_text, empty_run, run_from, script_items, script_text}
+use Rattle.register_machine.specs.run.Scripts.{Run, batch_text, empty_run, run_from, script_items, script_text}
 
 abbrev pub operator_key : List ℕ
 operator_key = codes "op-desk000001"
@@ -144,7 +144,7 @@ record_line text = text ++ 13 ∷ 10 ∷ []
 -- the run over the preamble and these lines
 abbrev pub run_over : List (List ℕ) → Run
 run_over items =
-    run_from all_verbs_built operator_key empty_run (script_items (text_of (calendar_line ∷ openings ++ items)))
+    run_from operator_key empty_run (script_items (text_of (calendar_line ∷ openings ++ items)))
 
 -- a batch, sent with a key behind the preamble and these lines, gets these answers
 abbrev pub BatchAnswers : List (List ℕ) → ℕ → List ℕ → List ℕ → List (List ℕ) → Type 0
@@ -209,5 +209,5 @@ with_orders count run =
 -- these lines get these answers behind the preamble and so many such orders
 abbrev pub AnswersWithOrders : ℕ → List (List ℕ) → List (List ℕ) → Type 0
 AnswersWithOrders count items lines =
-    (run_from all_verbs_built operator_key (with_orders count (run_over [])) (script_items (text_of items))).lines
+    (run_from operator_key (with_orders count (run_over [])) (script_items (text_of items))).lines
     ≡ text_of lines

@@ -13,5 +13,5 @@ mod verb_forms;
 pub use crate::fault::FormFault;
 pub use crate::field_forms::moment_of;
 pub use crate::order_forms::{line_asked, order_count};
-pub use crate::verb_forms::{asked_by, buy_request, class_request, sheet_request, show_request};
+pub use crate::verb_forms::asked_by;
 pub use money_units::same_bytes;

@@ -18,9 +18,9 @@ use crate::text_forms::{
     window_of, zone_of,
 };
 use agent_events::{
-    AccountForm, Body, CalendarForm, CancelForm, ClassForm, CloseForm, DealerForm, DividendForm,
-    FixPriceForm, FixRateForm, FrontBrackets, HouseholdForm, Identifier, Minimum, Name, Order,
-    Request, SheetForm, StatementForm, TraceForm, VoidForm,
+    AccountForm, CalendarForm, CancelForm, ClassForm, CloseForm, DealerForm, DividendForm,
+    FixPriceForm, FixRateForm, FrontBrackets, HouseholdForm, Identifier, Minimum, Name, Request,
+    SheetForm, StatementForm, TraceForm, VoidForm,
 };
 use class_terms::Schedule;
 use fund_calendar::read_day;
@@ -91,45 +91,20 @@ fn sheet_form(alloc: Global, fields: &[&[u8]]) -> Result<SheetForm, FormFault>
     })
 }
 
-#[tactic(auto, unfolding(agent_events::specs::Forms::buy_form))]
-fn buy_form(fields: &[&[u8]]) -> Result<Order, FormFault>
-    ensures { Gives result (form.buy_form (map (λ text. text.now) fields.now)) }
-{
-    let account = at(1, identifier_of(field(fields, 1)))?;
-    let ref_no = at(2, reference_of(field(fields, 2)))?;
-    let class = at(3, identifier_of(field(fields, 3)))?;
-    let gross = at(4, amount_of(field(fields, 4)))?;
-    Ok(Order {
-        account,
-        ref_no,
-        body: Body::Buy { class, gross },
-    })
-}
-
-/// What the fields of a class ask.
-pub fn class_request(alloc: Global, fields: &[&[u8]]) -> Result<Request, FormFault>
-    ensures { Gives result (form.class_request (map (λ text. text.now) fields.now)) }
+fn class_request(alloc: Global, fields: &[&[u8]]) -> Result<Request, FormFault>
+    ensures { Gives result (verb_form.class_asked (map (λ text. text.now) fields.now)) }
 {
     Ok(Request::Class(class_form(alloc, fields)?))
 }
 
-/// What the fields of a sheet ask.
-pub fn sheet_request(alloc: Global, fields: &[&[u8]]) -> Result<Request, FormFault>
-    ensures { Gives result (form.sheet_request (map (λ text. text.now) fields.now)) }
+fn sheet_request(alloc: Global, fields: &[&[u8]]) -> Result<Request, FormFault>
+    ensures { Gives result (verb_form.sheet_asked (map (λ text. text.now) fields.now)) }
 {
     Ok(Request::Sheet(sheet_form(alloc, fields)?))
 }
 
-/// What the fields of a purchase ask.
-pub fn buy_request(fields: &[&[u8]]) -> Result<Request, FormFault>
-    ensures { Gives result (form.buy_request (map (λ text. text.now) fields.now)) }
-{
-    Ok(Request::Order(buy_form(fields)?))
-}
-
-/// What the fields of a look at an account ask.
-pub fn show_request(fields: &[&[u8]]) -> Result<Request, FormFault>
-    ensures { Gives result (form.show_request (map (λ text. text.now) fields.now)) }
+fn show_request(fields: &[&[u8]]) -> Result<Request, FormFault>
+    ensures { Gives result (verb_form.show_asked (map (λ text. text.now) fields.now)) }
 {
     Ok(Request::Show(at(1, identifier_of(field(fields, 1)))?))
 }

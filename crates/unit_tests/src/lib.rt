@@ -1,4 +1,4 @@
-//! What no clause says of units, calendars and terms: that calls succeed with ample memory, and what texts mean.
+//! What no clause says of units, calendars, terms and words: that calls succeed with ample memory, and what texts mean.
 #![tactic(auto)]
 
 #[cfg(test)]
@@ -7,3 +7,5 @@ mod calendars;
 mod terms;
 #[cfg(test)]
 mod units;
+#[cfg(test)]
+mod words;

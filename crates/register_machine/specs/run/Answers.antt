@@ -1,7 +1,7 @@
 -- The register machine: what it answers to a request, and what it appends to the journal. A refused request, a repeat and a
 -- query append nothing.
 use Rattle.std.specs.Option.{option_map_or}
-use Rattle.std.specs.Prelude.{Bool, Err, List, None, Ok, Option, Some, [], ℕ, ◌∷◌, if◌then◌else◌, slice_get, take}
+use Rattle.std.specs.Prelude.{Err, List, None, Ok, Option, Some, [], ℕ, ◌∷◌, slice_get, take}
 use Rattle.agent_events.specs.Events.{Event}
 use Rattle.agent_events.specs.VerbForms.{Asked}
 use Rattle.agent_events.specs.declared.reply.Refusal.{Refusal}
@@ -63,14 +63,10 @@ answer_by situation request (Verdict.Refused refusal) = refuses refusal
 abbrev pub answer : Situation → Request → Answer
 answer situation request = answer_by situation request (verdict situation request)
 
--- a stage of the program answers only the verbs that are built
-abbrev pub staged_answer : (Request → Bool) → Situation → Request → Answer
-staged_answer built situation request = if built request then answer situation request else refuses Refusal.Unbuilt
-
 -- what is asked, or the place of a field that isn't in its form
-abbrev pub answer_asked : (Request → Bool) → Situation → Asked → Answer
-answer_asked built situation (Ok request) = staged_answer built situation request
-answer_asked built situation (Err place) = refuses (Refusal.BadForm place)
+abbrev pub answer_asked : Situation → Asked → Answer
+answer_asked situation (Ok request) = answer situation request
+answer_asked situation (Err place) = refuses (Refusal.BadForm place)
 
 -- the machine's answer to a request with a key, by the operator's key, the journal and the moment alone
 abbrev pub machine_answer : List ℕ → Journal → ℕ → List ℕ → Request → Answer

@@ -5,7 +5,6 @@ use Rattle.agent_events.specs.Events.{Event}
 use Rattle.agent_events.specs.VerbForms.{Asked}
 use Rattle.agent_events.specs.declared.reply.Refusal.{Refusal}
 use Rattle.agent_events.specs.declared.reply.Reply.{Reply}
-use Rattle.agent_events.specs.declared.request.Request.{Request}
 use Rattle.agent_events.specs.declared.verdict.Caller.{Caller}
 use Rattle.register_machine.specs.rules.Situations.{Situation, situation_at}
 use Rattle.register_machine.specs.run.Answers.{answer_asked}
@@ -20,21 +19,21 @@ abbrev pub situation_behind : Situation → List Event → Situation
 situation_behind situation events =
     situation_at situation.book.table (situation.journal ++ events) situation.now situation.caller
 
-abbrev pub batch_after_line : (Request → Bool) → Situation → BatchAnswer → Asked → BatchAnswer
-batch_after_line built situation so_far asked =
-    let said = answer_asked built (situation_behind situation so_far.events) asked in
+abbrev pub batch_after_line : Situation → BatchAnswer → Asked → BatchAnswer
+batch_after_line situation so_far asked =
+    let said = answer_asked (situation_behind situation so_far.events) asked in
     record { replies = so_far.replies ++ said.reply ∷ []; events = so_far.events ++ said.events }
 
-abbrev pub batch_after_lines : (Request → Bool) → Situation → List Asked → BatchAnswer
-batch_after_lines built situation lines =
-    fold (batch_after_line built situation) (record { replies = []; events = [] }) lines
+abbrev pub batch_after_lines : Situation → List Asked → BatchAnswer
+batch_after_lines situation lines =
+    fold (batch_after_line situation) (record { replies = []; events = [] }) lines
 
 abbrev pub is_dealer_caller : Caller → Bool
 is_dealer_caller (Caller.Dealer dealer) = true
 is_dealer_caller _ = false
 
 -- only a dealer sends a batch
-abbrev pub batch_answer : (Request → Bool) → Situation → Result (List Asked) ℕ → Result BatchAnswer Refusal
-batch_answer built situation (Err place) = Err (Refusal.BadForm place)
-batch_answer built situation (Ok lines) =
-    if is_dealer_caller situation.caller then Ok (batch_after_lines built situation lines) else Err Refusal.NoRight
+abbrev pub batch_answer : Situation → Result (List Asked) ℕ → Result BatchAnswer Refusal
+batch_answer situation (Err place) = Err (Refusal.BadForm place)
+batch_answer situation (Ok lines) =
+    if is_dealer_caller situation.caller then Ok (batch_after_lines situation lines) else Err Refusal.NoRight

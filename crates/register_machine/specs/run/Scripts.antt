@@ -1,11 +1,10 @@
 -- A run over a script: its records by CSV (RFC 4180), read and written by the crate `csv`'s own words, each answered by one
 -- line in turn. The moments of the items are their own, and none may be smaller than the journal's last.
-use Rattle.std.specs.Prelude.{Bool, Err, List, Ok, Result, [], ℕ, ◌++◌, flat_map, fold, if◌then◌else◌, map, nat_lt, true}
+use Rattle.std.specs.Prelude.{Err, List, Ok, Result, [], ℕ, ◌++◌, flat_map, fold, if◌then◌else◌, map, nat_lt}
 use Rattle.agent_events.specs.AnswerTexts.{answer_texts}
 use Rattle.agent_events.specs.Items.{ScriptItem, batch_lines, script_item}
 use Rattle.agent_events.specs.declared.reply.Refusal.{Refusal}
 use Rattle.agent_events.specs.declared.reply.Reply.{Reply}
-use Rattle.agent_events.specs.declared.request.Request.{Request}
 use Rattle.csv.specs.Reading.{default_config, records, strip_bom}
 use Rattle.csv.specs.Writing.{default_writer, row_text}
 use Rattle.forward_price.specs.PriceTables.{Table}
@@ -42,28 +41,24 @@ situation_in operator run now key =
     situation_at run.table run.journal now (caller_of run.journal operator key)
 
 -- an item by its moment: one smaller than the journal's last is refused before its verb is read
-abbrev pub item_answer : (Request → Bool) → List ℕ → Run → ScriptItem → Answer
-item_answer built operator run ScriptItem.Bad = refuses (Refusal.BadForm 0)
-item_answer built operator run (ScriptItem.Good now key asked) =
+abbrev pub item_answer : List ℕ → Run → ScriptItem → Answer
+item_answer operator run ScriptItem.Bad = refuses (Refusal.BadForm 0)
+item_answer operator run (ScriptItem.Good now key asked) =
     if nat_lt now (last_moment run.journal) then refuses (Refusal.StampBack (last_moment run.journal))
-    else answer_asked built (situation_in operator run now key) asked
+    else answer_asked (situation_in operator run now key) asked
 
-unfoldable pub item_step : (Request → Bool) → List ℕ → Run → ScriptItem → Run
-item_step built operator run item = run_after run (item_answer built operator run item)
+unfoldable pub item_step : List ℕ → Run → ScriptItem → Run
+item_step operator run item = run_after run (item_answer operator run item)
 
 abbrev pub empty_run : Run
 empty_run = record { journal = []; table = empty_table; lines = [] }
 
-unfoldable pub run_from : (Request → Bool) → List ℕ → Run → List ScriptItem → Run
-run_from built operator run items = fold (item_step built operator) run items
-
--- every verb is built
-abbrev pub all_verbs_built : Request → Bool
-all_verbs_built request = true
+unfoldable pub run_from : List ℕ → Run → List ScriptItem → Run
+run_from operator run items = fold (item_step operator) run items
 
 -- the lines of a script, from the operator's key and the script's bytes, behind the empty journal
 abbrev pub script_text : List ℕ → List ℕ → List ℕ
-script_text operator script = (run_from all_verbs_built operator empty_run (script_items script)).lines
+script_text operator script = (run_from operator empty_run (script_items script)).lines
 
 -- the lines that a batch gets behind a run: those of its replies, or that of the refusal of the whole batch
 abbrev pub batch_reply : Result BatchAnswer Refusal → List ℕ
@@ -79,5 +74,5 @@ pub record BatchSent : Type 0 where
 abbrev pub batch_text : List ℕ → Run → BatchSent → List ℕ
 batch_text operator run sent =
     batch_reply
-    (batch_answer all_verbs_built (situation_in operator run sent.now sent.key)
+    (batch_answer (situation_in operator run sent.now sent.key)
     (batch_lines (records default_config (strip_bom sent.bytes))))

@@ -1,7 +1,6 @@
 use Rattle.std.proofs.Common.{◌≡◌, map, take}
-use Rattle.agent_events.specs.Forms.{asked}
 use Rattle.agent_events.specs.Items.{batch_line}
 use Rattle.http_calls.proofs.calls.line_asks.Given as goal
 
 abbrev pub invariant-loop-row : goal.invariant-loop-row
-invariant-loop-row l = l.asks ≡ map (λ row. asked (batch_line row)) (take l.row-index l.rows)
+invariant-loop-row l = l.asks ≡ map batch_line (take l.row-index l.rows)

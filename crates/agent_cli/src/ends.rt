@@ -1,0 +1,61 @@
+//! The ends of a run: its statuses, and the line of each.
+ghost use Rattle.std.specs.Prelude.{◌≡◌, ◌≤◌, IfOk};
+ghost use Rattle.agent_cli.specs.Runs.{damaged_line, status_line};
+ghost use Rattle.script_answers.specs.Runs.{AppendsFront};
+
+use agent_edge::{Sink, write_whole};
+use money_units::{NoMemory, print_number};
+use std::alloc::Global;
+
+/// The number with which the program ends.
+#[derive(Clone, Copy, Debug, PartialEq, Eq)]
+pub struct Status(pub u8);
+
+// Ends with a status and its line, whether or not the line can be written.
+pub(crate) fn end<O: Sink>(out: &mut O, status: u8, line: &[u8]) -> Status
+    ensures status { result.0 ≡ status }
+    ensures line { AppendsFront (O.contents out.old) (O.contents out.new) line.now }
+    ensures never_falls { O.faults out.old ≤ O.faults out.new }
+{
+    let _ = write_whole(out, line);
+    Status(status)
+}
+
+/// Ends for want of memory.
+pub fn no_memory<O: Sink>(out: &mut O) -> Status
+    ensures status { result.0 ≡ 7 }
+    ensures line { AppendsFront (O.contents out.old) (O.contents out.new) (status_line 7) }
+    ensures never_falls { O.faults out.old ≤ O.faults out.new }
+{
+    end(out, 7, b"no memory\n")
+}
+
+/// Ends for a fault of the keeper.
+pub(crate) fn keeper_fault<O: Sink>(out: &mut O) -> Status
+    ensures status { result.0 ≡ 5 }
+    ensures line { AppendsFront (O.contents out.old) (O.contents out.new) (status_line 5) }
+    ensures never_falls { O.faults out.old ≤ O.faults out.new }
+{
+    end(out, 5, b"keeper fault\n")
+}
+
+/// Ends where a row of the store is damaged.
+pub(crate) fn damaged<O: Sink>(alloc: Global, out: &mut O, place: u64) -> Status
+    ensures status { result.0 ≡ 6 }
+    ensures line { AppendsFront (O.contents out.old) (O.contents out.new) (damaged_line place) }
+    ensures never_falls { O.faults out.old ≤ O.faults out.new }
+{
+    match line_of_damage(alloc, place) {
+        Ok(line) => end(out, 6, &line),
+        Err(NoMemory) => Status(6),
+    }
+}
+
+fn line_of_damage(alloc: Global, place: u64) -> Result<Vec<u8>, NoMemory>
+    ensures { IfOk result (λ line. line.items ≡ damaged_line place) }
+{
+    let mut line = Vec::from_slice(alloc, b"damaged ")?;
+    print_number(place, &mut line)?;
+    line.push(b'\n')?;
+    Ok(line)
+}

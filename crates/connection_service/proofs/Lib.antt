@@ -1,0 +1,7 @@
+pub mod ShortStreams
+pub mod AnswerFacts
+pub mod RunFacts
+pub mod ServingFacts
+pub mod CountFacts
+pub mod StepFacts
+pub mod GoingFacts

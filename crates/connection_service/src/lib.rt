@@ -1,0 +1,10 @@
+//! One connection of the desk over HTTP: each request is answered as the register machine does, kept, and then replied to.
+#![tactic(auto)]
+
+mod answering;
+mod batches;
+pub mod laws;
+mod serving;
+mod texts;
+
+pub use crate::serving::{Served, serve_connection};

@@ -1,0 +1,2 @@
+-- when the orders of lines are ready to be noted in the books
+pub mod ReadyLines

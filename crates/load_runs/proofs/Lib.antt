@@ -1,0 +1,7 @@
+pub mod NamesBegun
+pub mod LooksShown
+pub mod TracesCounted
+pub mod KeptInMemory
+pub mod Sending
+pub mod LinesPut
+pub mod SummaryMade

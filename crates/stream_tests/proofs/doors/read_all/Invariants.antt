@@ -1,0 +1,5 @@
+use Rattle.std.proofs.Common.{IsTrue}
+use Rattle.stream_tests.proofs.doors.read_all.Given as goal
+
+abbrev pub invariant-loop : goal.invariant-loop
+invariant-loop g l = IsTrue (g.D.Door.is_connected l.door)
