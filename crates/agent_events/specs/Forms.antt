@@ -1,12 +1,12 @@
 -- The forms of the verbs: what the fields of a verb ask, or the place of the first field that isn't in its form, from 1.
 -- Place 0 is an unknown verb or a wrong number of fields.
-use Rattle.std.specs.Prelude.{ℕ, ◌-◌, Bool, ◌&&◌, nat_lt, nat_le, ◌==◌, if◌then◌else◌, List, [], ◌∷◌, length, drop, slice_index_or, Option, Some, None, Result, Ok, Err, codes, bytes_eq}
-use Rattle.std.specs.List.{list_any, list_all}
+use Rattle.std.specs.Prelude.{ℕ, ◌-◌, Bool, ◌&&◌, nat_le, ◌==◌, if◌then◌else◌, List, [], ◌∷◌, length, slice_index_or, Option, Some, None, Result, Ok, Err}
+use Rattle.std.specs.List.{list_all}
 use Rattle.class_terms.specs.declared.lists.Bracket.{Bracket}
 use Rattle.agent_events.specs.declared.request.ClassForm.{ClassForm}
 use Rattle.agent_events.specs.declared.request.SheetForm.{SheetForm}
 use Rattle.agent_events.specs.declared.request.Request.{Request}
-use Rattle.agent_events.specs.Fields.{identifier, identifier_or_none, reference, moment, amount, minimum, flag, label, brackets, rates, prices}
+use Rattle.agent_events.specs.Fields.{identifier, identifier_or_none, moment, minimum, flag, label, brackets, rates, prices}
 use Rattle.money_units.specs.ByteTexts.{is_visible}
 
 -- the field at this place, from 1
