@@ -4,3 +4,5 @@ pub mod Answers
 pub mod Runs
 -- how a connection is served, and how it ends
 pub mod Serving
+-- connections served one after another
+pub mod InTurn
