@@ -128,7 +128,10 @@ fn verb(request: &Request) -> &'static [u8] {
 fn a_script_is_read_as_its_items(rt: HostRuntime) -> Result<(), Fail> {
     let mut items = ScriptItems::new(rt.alloc(), SCRIPT);
     let mut words = Vec::new(rt.alloc());
-    while let Some(item) = items.next(rt.alloc())? {
+    for _ in 0..64 {
+        let Some(item) = items.next(rt.alloc())? else {
+            break;
+        };
         word(&item, &mut words)?;
     }
     assert_eq!(rt; words.as_slice(), WORDS);
