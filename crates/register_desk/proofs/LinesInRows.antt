@@ -2,7 +2,6 @@
 use Rattle.std.proofs.Common.{All, List, [], ap, arith, get_or, length, refl, subst, sym, take, ℕ, ◌++◌, ◌+◌, ◌<◌, ◌∙◌, ◌∷◌, ◌≡◌}
 use Rattle.std.proofs.lemmas.List.{length-map, map-append, map_more}
 use Rattle.std.proofs.lemmas.List.Elements.{All-push}
-use Rattle.agent_events.specs.Events.{Event}
 use Rattle.agent_events.specs.declared.event.Placed.{Placed}
 use Rattle.dealer_lines.specs.Lines.{line_event, line_events}
 use Rattle.event_rows.specs.InForm.{InForm}

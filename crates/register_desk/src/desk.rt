@@ -3,6 +3,7 @@ ghost use Rattle.std.specs.Prelude.{◌≡◌, ◌≢◌, ◌⊎◌, ◌≤◌, 
 ghost use Rattle.agent_keeper.specs.Calls.{Counts, GoesOn};
 ghost use Rattle.agent_keeper.specs.Content.{Content, after};
 ghost use Rattle.desk_answers.specs.Answered.{IsCaller, events_of};
+ghost use Rattle.desk_answers.specs.Steps.{AreStepsOf};
 ghost use Rattle.register_desk.specs.PreparedAnswers.{IsPreparedAt};
 ghost use Rattle.register_desk.specs.Rows.{TellsRowsOf, rows_of};
 ghost use Rattle.register_laws.specs.Lawful.{book_behind, own_at};
@@ -10,6 +11,7 @@ ghost use Rattle.register_machine.specs.journal.Journals.{last_moment};
 ghost use Rattle.register_machine.specs.journal.Lawful.{IsLawful};
 ghost use Rattle.register_machine.specs.rules.Callers.{caller_of};
 ghost use Rattle.register_machine.specs.run.Answers.{answer};
+ghost use Rattle.register_machine.specs.run.Verdicts.{verdict};
 
 use crate::faults::LedgerFault;
 use crate::prepared::{Prepared, batch_of};
@@ -66,6 +68,12 @@ impl Desk {
             answer (own_at self.old.book.journal moment caller) request.now
             ≡ record { reply = prepared.reply; events = events_of prepared.change }) }
         ensures prepared { IfOk result (IsPreparedAt self.new) }
+
+        // A new sheet takes one step for each household that it moves, a new correction those of the households that it can reach,
+        // and any other request none.
+        ensures steps { IfOk result (λ prepared. AreStepsOf self.old.book.journal self.old.orders.owners
+            (verdict (own_at self.old.book.journal moment caller) request.now)
+            prepared.change steps.old steps.new) }
     {
         let answered = answer_request(self.alloc, &mut self.books, moment, caller, request, steps)?;
         let batch = batch_of(self.alloc, &answered.change)?;

@@ -1,4 +1,4 @@
-use Rattle.std.proofs.Common.{Err, None, Some, [], ap, append-nil, option_map, slice_get, subst, sym, ◌++◌, ◌∙◌, ◌≡◌}
+use Rattle.std.proofs.Common.{Err, [], ap, append-nil, option_map, subst, sym, ◌∙◌, ◌≡◌}
 use Rattle.std.specs.Result.{is_err}
 use Rattle.agent_http.specs.Seen.{item_seen}
 use Rattle.register_desk.specs.Rows.{TellsRowsOf}
