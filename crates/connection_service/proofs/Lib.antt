@@ -1,5 +1,6 @@
 pub mod ShortStreams
 pub mod AnswerFacts
+pub mod BatchFacts
 pub mod RunFacts
 pub mod ServingFacts
 pub mod CountFacts

@@ -1,13 +1,15 @@
 -- What an item of a connection is answered with, by what is kept and by the clock as they stand.
-use Rattle.std.specs.Prelude.{Bool, Err, IfSome, List, Ok, Option, Result, [], drop, flat_map, max, option_map, ℕ, ◌++◌, ◌≡◌, ◌≢◌, ◌≤◌}
+use Rattle.std.specs.Prelude.{Bool, Err, IfSome, List, Ok, Option, Result, [], drop, flat_map, max, option_map, true, ℕ, ◌++◌, ◌≡◌, ◌≢◌, ◌≤◌}
 use Rattle.agent_edge.specs.Readings.{next_reading}
 use Rattle.agent_events.specs.Events.{Event}
 use Rattle.agent_events.specs.VerbForms.{Asked}
 use Rattle.agent_events.specs.declared.reply.Refusal.{Refusal}
 use Rattle.agent_events.specs.declared.reply.Reply.{Reply}
 use Rattle.agent_events.specs.declared.request.Request.{Request}
+use Rattle.agent_events.specs.declared.verdict.Caller.{Caller}
 use Rattle.agent_keeper.specs.Calls.{Rose}
 use Rattle.agent_keeper.specs.declared.fault.KeepFault.{KeepFault}
+use Rattle.dealer_lines.specs.Lines.{all_lines}
 use Rattle.http_calls.specs.Calls.{item_answer, item_key}
 use Rattle.http_calls.specs.declared.calls.CallAsk.{CallAsk}
 use Rattle.http_replies.specs.Bytes.{batch_bytes, bytes_of, fault_bytes}
@@ -99,6 +101,11 @@ abbrev pub AnswersAsk : List ℕ → List ℕ → Bool → CallAsk → At → Li
 AnswersAsk operator key last (CallAsk.One asked) old bytes new = AnswersOne operator key last asked old bytes new
 AnswersAsk operator key last (CallAsk.Batch lines) old bytes new = IsAnswered operator key last (said_to_batch last lines) old bytes new
 
+-- what a batch asks are lines, or fields that aren't in their form
+abbrev pub batch_asks_lines : CallAsk → Bool
+batch_asks_lines (CallAsk.One asked) = true
+batch_asks_lines (CallAsk.Batch lines) = all_lines lines
+
 -- a fault of the stream takes no reading, and nothing is kept of it
 abbrev pub AnswersBy : List ℕ → List ℕ → Bool → Result CallAsk HttpFault → At → List ℕ → At → Type 0
 AnswersBy operator key last (Ok ask) old bytes new = AnswersAsk operator key last ask old bytes new
@@ -112,6 +119,11 @@ Answers operator item last old bytes new = AnswersBy operator (item_key item) la
 abbrev pub text_of : Bool → Result (List ℕ) HttpFault → List ℕ
 text_of last (Ok bytes) = bytes
 text_of last (Err fault) = fault_bytes fault last
+
+-- the text of a batch, by who sent it: the lines of the replies to a dealer's lines; nobody else has the right to it
+abbrev pub batch_text : Caller → List Reply → Bool → List ℕ
+batch_text (Caller.Dealer dealer) replies last = batch_bytes (flat_map reply_line replies) last
+batch_text _ replies last = bytes_of (Reply.Refused Refusal.NoRight) last
 
 -- what an answer that was to be kept is replied to with
 abbrev pub kept_text : Result (List ℕ) KeepFault → Result (List ℕ) HttpFault

@@ -1,8 +1,8 @@
 //! The answer to a request: it is prepared, its reply is made, and what it brings is kept before the reply is handed out.
-ghost use Rattle.std.specs.Prelude.{◌≡◌, ◌≢◌, ◌≤◌, ◌++◌, ℕ, [], IfOk, IsErrOf, IsTrue, OnErr, OnOk, max};
+ghost use Rattle.std.specs.Prelude.{◌≡◌, ◌≢◌, ◌≤◌, ◌++◌, ℕ, [], IfOk, IsErrOf, IsTrue, OnErr, OnOk, max, true};
 ghost use Rattle.agent_keeper.specs.Calls.{Counts, GoesOn};
 ghost use Rattle.agent_keeper.specs.declared.fault.KeepFault.{KeepFault as Fault};
-ghost use Rattle.connection_service.specs.Answers.{AnswersAsk, AnswersOne, Gets, IsAnswered, kept_at, said_to_bad_form, said_to_request, text_of};
+ghost use Rattle.connection_service.specs.Answers.{AnswersAsk, AnswersOne, Gets, IsAnswered, batch_asks_lines, kept_at, said_to_bad_form, said_to_request, text_of};
 ghost use Rattle.connection_service.specs.Serving.{at_of};
 ghost use Rattle.desk_answers.specs.Answered.{IsCaller};
 ghost use Rattle.http_replies.specs.Bytes.{bytes_of};
@@ -189,6 +189,7 @@ pub(crate) fn answer_call<K: Keeper, C: Clock, L: StepLedger>(
 ) -> Text
     requires attached { IsTrue (K.is_attached keeper.old) }
     requires told { TellsRowsOf (K.tells keeper.old) desk.old.book.journal }
+    requires lines { batch_asks_lines call.now.ask ≡ true }
     ensures answers { AnswersAsk operator.now call.now.key call.now.last call.now.ask
         (at_of desk.old.book.journal (K.faults keeper.old) (C.last clock.old) (C.coming clock.old))
         (text_of call.now.last result)
@@ -213,7 +214,6 @@ pub(crate) fn answer_call<K: Keeper, C: Clock, L: StepLedger>(
             key,
             lines.as_slice(),
             call.last,
-            steps,
         ),
     }
 }

@@ -1,8 +1,8 @@
 //! Serving a connection: its bytes are read piece by piece, and each item that they decide is answered before the next is begun.
-ghost use Rattle.std.specs.Prelude.{◌≡◌, ◌≤◌, ◌++◌, ℕ, [], List, Option, false, length, IfSome, IsTrue};
+ghost use Rattle.std.specs.Prelude.{◌≡◌, ◌≤◌, ◌++◌, ℕ, [], List, Option, false, length, IfSome, IsTrue, true};
 ghost use Rattle.agent_edge.specs.Links.{Links};
 ghost use Rattle.agent_keeper.specs.Calls.{GoesOn};
-ghost use Rattle.connection_service.specs.Answers.{At};
+ghost use Rattle.connection_service.specs.Answers.{At, batch_asks_lines};
 ghost use Rattle.connection_service.specs.Serving.{CountsGoing, CountsLink, FewerAhead, GoesAs, GoesOnBehind, IsOverBehind, IsReplied, IsServed, IsServedAndShut, IsServing, IsWithin, at_of, going_on, going_over, memory_text};
 ghost use Rattle.http_calls.specs.Steps.{StepsAs};
 ghost use Rattle.http_replies.specs.Bytes.{fault_bytes};
@@ -142,6 +142,7 @@ fn serve_call<K: Keeper, D: Door, C: Clock, L: StepLedger>(
     requires connected { IsTrue (D.is_connected door.old) }
     requires attached { IsTrue (K.is_attached keeper.old) }
     requires told { TellsRowsOf (K.tells keeper.old) desk.old.book.journal }
+    requires lines { batch_asks_lines call.now.ask ≡ true }
     ensures replied { IsReplied operator.now call.now.key call.now.last call.now.ask
         (at_of desk.old.book.journal (K.faults keeper.old) (C.last clock.old) (C.coming clock.old))
         (at_of desk.new.book.journal (K.faults keeper.new) (C.last clock.new) (C.coming clock.new))
@@ -175,6 +176,7 @@ fn serve_step<K: Keeper, D: Door, C: Clock, L: StepLedger>(
     requires connected { IsTrue (D.is_connected door.old) }
     requires attached { IsTrue (K.is_attached keeper.old) }
     requires told { TellsRowsOf (K.tells keeper.old) desk.old.book.journal }
+    requires step { (stream : Stream) × StepsAs stream step.now feed.old }
     ensures goes { (stream : Stream) (opened : At) (before : Option Links)
         → StepsAs stream step.now feed.old → stream.closed ≡ false
         → IsServing operator.now opened before (D.told door.old) stream

@@ -31,3 +31,6 @@ returns-in-Err-clause-fewer g c =
     λ within.
     subst (λ (going : Going). FewerAhead going c.args.feed.now c.next.new.self) (sym c.close_for_memory.ensures.over.2)
     (fewer-over c.args.feed.now c.next.new.self c.close_for_memory.ensures.over.0)
+
+pub serve_step-requires-clause-step : goal.serve_step-requires-clause-step
+serve_step-requires-clause-step g c = (c.args.feed.now, c.in-Ok.ensures.ok)

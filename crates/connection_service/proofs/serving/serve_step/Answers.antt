@@ -1,3 +1,4 @@
+use Rattle.connection_service.proofs.BatchFacts.{call-lines}
 use Rattle.connection_service.proofs.StepFacts.{need-fewer, need-open, need-serving, need-undecided, need-within, step-fewer-call, step-fewer-fault, step-goes-call, step-goes-fault}
 use Rattle.connection_service.proofs.serving.serve_step.Goals as goal
 use Rattle.connection_service.specs.Serving.{at_of}
@@ -48,3 +49,7 @@ returns-in-Fault-clause-fewer g c =
     λ stream steps unclosed within.
     step-fewer-fault (g.D.Door.told c.args.door.now) (g.D.Door.told c.serve_fault.new.door) stream c.args.feed.now
     c.args.step.now c.in-Fault.fault c.in-Fault.last c.serve_fault.result c.in-Fault.is steps c.serve_fault.ensures.on within unclosed
+
+pub serve_call-requires-clause-lines : goal.serve_call-requires-clause-lines
+serve_call-requires-clause-lines g c =
+    call-lines c.requires.step.0 c.args.feed.now c.args.step.now c.in-Call.call c.in-Call.is c.requires.step.1
