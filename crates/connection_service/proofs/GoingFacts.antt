@@ -1,5 +1,5 @@
 -- What a step says, by whether it goes on.
-use Rattle.std.proofs.Common.{List, Option, subst, sym, ℕ, ◌<◌, ◌≡◌}
+use Rattle.std.proofs.Common.{List, Option, subst, ℕ, ◌<◌, ◌≡◌}
 use Rattle.agent_edge.specs.Links.{Links}
 use Rattle.connection_service.specs.Answers.{At}
 use Rattle.connection_service.specs.Serving.{CountsGoing, CountsLink, FewerAhead, GoesAs, IsServed, IsServing, IsWithin, ahead}

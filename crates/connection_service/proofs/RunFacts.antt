@@ -1,17 +1,15 @@
 -- What a run over a connection does, item by item.
-use Rattle.std.proofs.Common.{Err, List, Ok, Option, Result, [], ap, append-nil, append_assoc, arith, length, length-append, refl, subst, sym, ℕ, ◌+◌, ◌++◌, ◌∙◌, ◌∷◌, ◌≡◌, ◌≤◌}
+use Rattle.std.proofs.Common.{Err, List, Ok, Result, [], ap, append-nil, arith, length, length-append, refl, sym, ℕ, ◌+◌, ◌++◌, ◌∙◌, ◌∷◌, ◌≡◌, ◌≤◌}
 use Rattle.std.specs.Prelude.{Bool}
-use Rattle.agent_events.specs.VerbForms.{Asked}
 use Rattle.http_calls.specs.Calls.{ends, item_answer, item_key}
 use Rattle.http_calls.specs.declared.calls.CallAsk.{CallAsk}
 use Rattle.http_stream.proofs.ItemLaws.{items-then}
 use Rattle.http_stream.specs.Stream.{Items, Stream, StreamItem}
 use Rattle.http_stream.specs.declared.fault.HttpFault.{HttpFault}
 use Rattle.connection_service.proofs.AnswerFacts.{grown-then}
-use Rattle.connection_service.specs.Answers.{Answers, AnswersAsk, AnswersBy, AnswersOne, At, Gets, IsAnswered, Kept, Said}
+use Rattle.connection_service.specs.Answers.{AnswersBy, At, Gets, Kept, Said}
 use Rattle.connection_service.specs.Runs.{Run}
 use Rattle.register_machine.specs.journal.Journals.{Journal}
-use Rattle.register_machine.specs.rules.Situations.{Situation}
 
 pub run-items : (operator : List ℕ) (stream : Stream) (opened : At) (left : Stream) (at : At) (texts : List (List ℕ))
     → Run operator stream opened left at texts → (items : List StreamItem) × Items ends stream items left × (length items ≡ length texts)

@@ -1,5 +1,5 @@
 -- A connection is served item by item and piece by piece.
-use Rattle.std.proofs.Common.{Err, IfSome, List, None, Ok, Option, Result, Some, [], ap, append-nil, append_assoc, arith, drop, false, length, length-append, option_map, refl, subst, sym, take, true, true≢false, ℕ, ◌*◌, ◌+◌, ◌++◌, ◌-◌, ◌∙◌, ◌∷◌, ◌<◌, ◌≡◌, ◌≤◌, inl, inr}
+use Rattle.std.proofs.Common.{Err, IfSome, List, None, Ok, Option, Result, Some, [], ap, append-nil, append_assoc, arith, drop, false, length, length-append, option_map, refl, subst, sym, take, true, ℕ, ◌*◌, ◌+◌, ◌++◌, ◌-◌, ◌∙◌, ◌∷◌, ◌<◌, ◌≡◌, ◌≤◌}
 use Rattle.std.specs.Prelude.{Bool}
 use Rattle.std.specs.List.{concat}
 use Rattle.std.proofs.lemmas.List.{drop-drop, length-take, take-append-drop}
@@ -13,7 +13,7 @@ use Rattle.http_replies.specs.Bytes.{fault_bytes}
 use Rattle.http_stream.specs.Stream.{IsItem, Message, Stream, StreamItem, Undecided, with_more}
 use Rattle.http_stream.specs.declared.fault.HttpFault.{HttpFault}
 use Rattle.http_stream.proofs.ItemLaws.{item-more}
-use Rattle.connection_service.specs.Answers.{Answers, AnswersAsk, AnswersBy, At}
+use Rattle.connection_service.specs.Answers.{Answers, AnswersBy, At}
 use Rattle.connection_service.specs.Runs.{Run, stream_of}
 use Rattle.connection_service.specs.Serving.{Ends, FewerAhead, GoesAs, GoesOnBehind, IsOverBehind, IsReplied, IsServed, IsServing, IsWithin, IsWritten, ahead, going_on, going_over, memory_text}
 use Rattle.connection_service.specs.declared.serving.Going.{Going}

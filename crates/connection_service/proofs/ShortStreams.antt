@@ -1,16 +1,14 @@
 -- How much a stream holds while more of it is awaited, and how many items it gave.
-use Rattle.std.proofs.Common.{◌≡◌, ◌≤◌, ◌<◌, ◌⊎◌, inl, inr, ℕ, ◌+◌, min, Bool, true, false, true≢false, ◌||◌, leb, eqb, ltb, List, [], ◌∷◌, ◌++◌, length, take, drop, Option, None, Some, Result, Ok, Err, refl, sym, ap, subst, ◌∙◌, arith, length-append}
+use Rattle.std.proofs.Common.{◌≡◌, ◌≤◌, ◌<◌, inl, inr, ℕ, ◌+◌, min, Bool, true, false, true≢false, ◌||◌, leb, eqb, ltb, List, [], length, take, drop, Option, None, Some, Result, Ok, Err, refl, sym, ap, subst, ◌∙◌, arith, length-append}
 use Rattle.std.specs.Option.{unwrap_or}
 use Rattle.std.proofs.lemmas.List.{length-drop, length-take}
 use Rattle.std.proofs.lemmas.Bool.Decides.{nat_tests}
 use Rattle.httparse.specs.Grammar.{RequestHead, print_request}
 use Rattle.http_stream.specs.declared.fault.HttpFault.{HttpFault}
-use Rattle.http_stream.specs.declared.scan.Scan.{Scan}
-use Rattle.http_stream.specs.Heads.{Named, body_length, body_limit, is_length, length_by, length_name, length_of, named, pairs_of, coding_name, said_length, within_limit}
+use Rattle.http_stream.specs.Heads.{Named, body_length, body_limit, is_length, length_name, length_of, named, pairs_of, coding_name, said_length, within_limit}
 use Rattle.std.specs.Str.Parse.{digits_value}
-use Rattle.http_stream.specs.Lines.{Front, field_limit, front, front_of, head_limit, scan_of, unscanned}
-use Rattle.http_stream.specs.Stream.{Begins, Found, IsItem, Message, Shown, Shows, Stream, StreamItem, Undecided, after_item, behind, body_at, found_of, item_closes, item_limit, message_of, size_of, whole_at}
-use Rattle.http_stream.proofs.MoreLaws.{ended-size}
+use Rattle.http_stream.specs.Lines.{Front, field_limit, front, head_limit, scan_of, unscanned}
+use Rattle.http_stream.specs.Stream.{IsItem, Message, Shown, Shows, Stream, StreamItem, Undecided, behind, body_at, found_of, item_closes, item_limit, message_of, size_of, whole_at}
 use Rattle.http_stream.proofs.LineLaws.{scan-size}
 
 open-short-by : (rest : List ℕ) (ended many few : Bool) → (scan_of (take head_limit rest)).ended ≡ ended

@@ -23,6 +23,15 @@ pub record IsOneServed (operator : List ℕ) (opened : At) (before now : DoorAt)
   pub shut : now.is_connected ≡ false
   pub link : CountsLink served before.link_faults now.link_faults
 
+-- nothing was served, and nothing changed
+abbrev pub IsUnchanged : At → At → DoorAt → DoorAt → Type 0
+IsUnchanged opened at before now = (at ≡ opened) × (now ≡ before)
+
+-- the next connection was served; or the door is closed
+abbrev pub ServesNext : List ℕ → At → At → DoorAt → DoorAt → Bool → Type 0
+ServesNext operator opened at before now true = IsOneServed operator opened before now at
+ServesNext operator opened at before now false = IsUnchanged opened at before now × IfSome now.links (λ links. has_more links ≡ false)
+
 -- So many connections were served, each behind what those before it left.
 pub data InTurn (operator : List ℕ) (opened : At) (before : DoorAt) : ℕ → DoorAt → At → Type 0 where
   none : InTurn operator opened before 0 before opened

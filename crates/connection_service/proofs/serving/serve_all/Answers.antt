@@ -1,9 +1,8 @@
-use Rattle.std.proofs.Common.{[], append-nil, arith, subst, sym, ◌∙◌}
+use Rattle.std.proofs.Common.{[], append-nil, subst, sym, ◌∙◌}
 use Rattle.connection_service.proofs.AnswerFacts.{goes-none, goes-then, grown-then}
 use Rattle.connection_service.proofs.GoingFacts.{counts-from, on-counts, on-fewer, on-goes, over-counts, over-goes}
 use Rattle.connection_service.proofs.ServingFacts.{serving-none, within-none}
 use Rattle.connection_service.proofs.serving.serve_all.Goals as goal
-use Rattle.connection_service.specs.Runs.{stream_of}
 use Rattle.connection_service.specs.Serving.{IsServing, IsWithin, at_of}
 use Rattle.http_stream.specs.Stream.{Stream}
 

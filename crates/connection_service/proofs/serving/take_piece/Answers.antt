@@ -1,4 +1,4 @@
-use Rattle.std.proofs.Common.{length, rules, subst, sym, ℕ, ◌≡◌, ◌<◌}
+use Rattle.std.proofs.Common.{length, rules, subst, sym, ◌≡◌, ◌<◌}
 use Rattle.connection_service.proofs.ServingFacts.{fewer-over, fewer-piece, goes-over, none-of, over-at-end}
 use Rattle.connection_service.proofs.serving.take_piece.Goals as goal
 use Rattle.connection_service.specs.Serving.{FewerAhead, IsServing, IsWithin, ahead}
