@@ -1,4 +1,4 @@
-use Rattle.std.proofs.Common.{Err, refl, subst, sym}
+use Rattle.std.proofs.Common.{refl, subst, sym}
 use Rattle.agent_events.specs.VerbForms.{Asked}
 use Rattle.connection_service.proofs.answering.answer_one.Goals as goal
 use Rattle.connection_service.specs.Answers.{AnswersOne, text_of}
