@@ -2,7 +2,6 @@ use Rattle.std.proofs.Common.{ap, max, ◌∙◌}
 use Rattle.connection_service.proofs.AnswerFacts.{read-gets, reads-by}
 use Rattle.connection_service.proofs.answering.answer_read.Goals as goal
 use Rattle.connection_service.specs.Answers.{Gets, kept_at, said_to_request, text_of}
-use Rattle.register_machine.specs.journal.Journals.{last_moment}
 
 pub returns-clause-answered : goal.returns-clause-answered
 returns-clause-answered g c = record {
