@@ -1,3 +1,6 @@
+pub mod Statuses
 pub mod RunFacts
 pub mod CommandBounds
 pub mod EndsOfLoads
+pub mod EndsOfServing
+pub mod ServingFacts

@@ -1,11 +1,13 @@
 -- What a run leaves where it ends, and the line of a status.
-use Rattle.std.specs.Prelude.{Bool, IfSome, List, Option, Some, [], codes, decimal, if◌then◌else◌, ℕ, ◌++◌, ◌==◌, ◌∷◌, ◌≡◌, ◌⊎◌}
-use Rattle.std.specs.List.{list_any}
+use Rattle.std.specs.Prelude.{Err, IfSome, List, Option, Result, Some, [], codes, decimal, if◌then◌else◌, ℕ, ◌++◌, ◌==◌, ◌∷◌, ◌≡◌, ◌≤◌, ◌⊎◌}
+use Rattle.agent_edge.specs.declared.doors.DoorFault.{DoorFault}
+use Rattle.connection_service.specs.Answers.{At, ClockAt, kept_at}
+use Rattle.connection_service.specs.InTurn.{AreServed, DoorAt}
 use Rattle.script_answers.specs.declared.answering.AnswerFault.{AnswerFault}
 use Rattle.script_answers.specs.declared.answering.AnswerFault.TheVariants.{Keeper, NoMemory, Write}
 use Rattle.script_answers.specs.Runs.{AppendsFront, AreAnswered, AreEndedBy, IsCutShort, OfFront}
 use Rattle.agent_keeper.specs.Content.{Content}
-use Rattle.register_desk.specs.Rows.{rows_of}
+use Rattle.register_desk.specs.Rows.{TellsRowsOf, rows_of}
 use Rattle.register_machine.specs.journal.Journals.{Journal}
 use Rattle.register_machine.specs.journal.Lawful.{IsLawful}
 use Rattle.register_machine.specs.run.Scripts.{script_items}
@@ -14,6 +16,10 @@ use Rattle.register_machine.specs.run.Scripts.{script_items}
 abbrev pub GrowLawfully : List (List ℕ) → List (List ℕ) → Type 0
 GrowLawfully first last =
     (last ≡ first) ⊎ ((opened more : Journal) × IsLawful (opened ++ more) × (first ≡ rows_of opened) × (last ≡ rows_of (opened ++ more)))
+
+-- rows that are told are those of a lawful journal
+abbrev pub TellsLawful : (Content → Type 0) → Type 0
+TellsLawful told = (kept : Content) → told kept → (journal : Journal) × IsLawful journal × (kept.rows ≡ rows_of journal)
 
 -- what is told now is no other than what was told before, where there is both
 abbrev pub TellSame : (Content → Type 0) → (Content → Type 0) → Type 0
@@ -50,9 +56,35 @@ pub record IsUntouched (said : List ℕ) (before now : Content → Type 0) (old 
   pub line : AppendsFront old new said
   pub kept : TellSame before now
 
--- the statuses with which a run may end
-abbrev pub is_status : ℕ → Bool
-is_status status = list_any (λ known. status == known) (0 ∷ 1 ∷ 2 ∷ 3 ∷ 4 ∷ 5 ∷ 6 ∷ 7 ∷ [])
+-- what serving works on: what the keeper tells and its count of faults, the door and the clock
+pub record ServiceAt : Type 1 where
+  pub told : Content → Type 0
+  pub keeper_faults : ℕ
+  pub door : DoorAt
+  pub clock : ClockAt
+
+abbrev pub service_at : (Content → Type 0) → ℕ → DoorAt → ClockAt → ServiceAt
+service_at told keeper_faults door clock = record { told = told; keeper_faults = keeper_faults; door = door; clock = clock }
+
+-- Connections were served from here on, and rows that are told are those of the journal that they left.
+pub record AreServedBehind (operator : List ℕ) (most : ℕ) (opened : At) (before : DoorAt) (ends : Result Unit DoorFault) (after : ServiceAt)
+    : Type 0 where
+  pub left : Journal
+  pub in_turn : AreServed operator most opened before ends after.door
+      (record { kept = kept_at left after.keeper_faults; clock = after.clock })
+  pub told : TellsRowsOf after.told left
+
+-- The store was opened, which may have raised the keeper's count and nothing else, and connections were served from its journal on.
+pub record AreServedFrom (operator : List ℕ) (most : ℕ) (ends : Result Unit DoorFault) (before after : ServiceAt) : Type 0 where
+  pub opened : Journal
+  pub is_opened : IsOpened before.told after.told opened
+  pub keeper_faults : ℕ
+  pub no_fewer : before.keeper_faults ≤ keeper_faults
+  pub behind : AreServedBehind operator most (record { kept = kept_at opened keeper_faults; clock = before.clock }) before.door ends after
+
+-- serving ended since the door couldn't listen, or couldn't accept the next connection
+abbrev pub door_failed : Result Unit DoorFault
+door_failed = Err (record {})
 
 -- the line that a status prints
 abbrev pub status_line : ℕ → List ℕ
@@ -61,6 +93,7 @@ status_line status =
     else if status == 2 then codes "input too long" ++ 10 ∷ []
     else if status == 3 then codes "read fault" ++ 10 ∷ []
     else if status == 5 then codes "keeper fault" ++ 10 ∷ []
+    else if status == 8 then codes "door fault" ++ 10 ∷ []
     else codes "no memory" ++ 10 ∷ []
 
 -- the line of a store that is damaged at this row

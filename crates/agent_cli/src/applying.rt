@@ -14,7 +14,7 @@ ghost use Rattle.register_machine.specs.journal.Lawful.{IsLawful};
 ghost use Rattle.register_machine.specs.run.Scripts.{script_items};
 
 use crate::ends::{Status, damaged, end, keeper_fault, no_memory};
-use crate::opening::open;
+use crate::opening::{close, open};
 use agent_edge::{ReadFault, Sink, Source, read_up_to};
 use agent_keeper::Keeper;
 use household_fold::Steps;
@@ -39,9 +39,6 @@ fn ended<O: Sink>(fault: AnswerFault, out: &mut O) -> Status
         AnswerFault::NoMemory => no_memory(out),
     }
 }
-
-// Gives the desk up, whose journal lies in the store.
-fn close(_desk: Desk) {}
 
 // Answers a script that was read to its end, behind the journal of the desk.
 fn answered<K: Keeper, O: Sink, L: StepLedger>(

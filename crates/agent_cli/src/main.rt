@@ -8,12 +8,13 @@ mod ends;
 mod loading;
 mod opening;
 mod run;
+mod serving;
 #[cfg(test)]
 mod tests;
 
 use crate::ends::{Status, no_memory};
 use crate::run::run;
-use agent_edge::{StdinSource, StdoutSink};
+use agent_edge::{StdinSource, StdoutSink, SystemClock, TcpDoor};
 use household_fold::Steps;
 use money_units::NoMemory;
 use sqlite_keeper::SqliteKeeper;
@@ -41,7 +42,7 @@ fn words_given(rt: &HostRuntime) -> Result<Vec<String>, NoMemory> {
     Ok(words)
 }
 
-// The run over a file, standard input and standard output, whose steps count on this ledger.
+// The run over a file, this machine's sockets and clock, standard input and standard output, whose steps count on this ledger.
 fn run_on<L: Ledger>(rt: HostRuntime, blank: Blank) -> Status
     requires name { blank.name ≡ L.name }
     requires parts { blank.parts ≡ L.parts }
@@ -54,7 +55,18 @@ fn run_on<L: Ledger>(rt: HostRuntime, blank: Blank) -> Status
     match words_given(&rt) {
         Ok(words) => {
             let mut keeper = SqliteKeeper::new(rt);
-            run(alloc, &words, &mut keeper, &mut input, &mut out, &mut steps)
+            let mut door = TcpDoor::new(rt);
+            let mut clock = SystemClock::new(rt);
+            run(
+                alloc,
+                &words,
+                &mut keeper,
+                &mut door,
+                &mut clock,
+                &mut input,
+                &mut out,
+                &mut steps,
+            )
         }
         Err(NoMemory) => no_memory(&mut out),
     }

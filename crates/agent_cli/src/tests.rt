@@ -3,9 +3,10 @@ ghost use Rattle.std.specs.Prelude.{◌≡◌, ◌<◌};
 
 use crate::ends::Status;
 use crate::run::run;
-use agent_edge::{MemorySink, MemorySource};
+use agent_edge::{Connections, MemoryClock, MemoryDoor, MemorySink, MemorySource};
 use agent_keeper::{Keeper, MemoryKeeper, SureKeeper};
 use household_fold::Steps;
+use money_units::{Bytes, Moment};
 use std::alloc::{AllocError, Global};
 use std::marker::Brand;
 use std::sync::ledger::{Blank, Ledger};
@@ -68,7 +69,45 @@ fn both(alloc: Global, first: &[u8], second: &[u8]) -> Result<Vec<u8>, AllocErro
     Ok(bytes)
 }
 
-// The status of a run over a keeper and the bytes that it wrote.
+// A door of these connections, whose listed calls of `listen` and `accept` fail.
+fn door_of(alloc: Global, texts: &[&[u8]], fails: &[u64]) -> Result<MemoryDoor, Fail> {
+    let mut connections = Connections::new(alloc);
+    for text in texts {
+        connections.push(Bytes::from_slice(alloc, text)?)?;
+    }
+    Ok(MemoryDoor::new(
+        alloc,
+        connections,
+        4096,
+        4096,
+        fails,
+        &[],
+    )?)
+}
+
+// The status of a run over a keeper and a door, on 2024-07-01 at 09:00 in New York, and the bytes that it wrote.
+fn outcome_at<K: Keeper, L: Ledger>(
+    alloc: Global,
+    texts: &[&str],
+    keeper: &mut K,
+    door: &mut MemoryDoor,
+    script: &[u8],
+    steps: &mut Steps<L>,
+) -> Result<(u8, Vec<u8>), Fail> {
+    let Some(morning) = Moment::from_seconds(1_719_838_800) else {
+        return Err(Fail::new("it is a moment"));
+    };
+    let mut clock = MemoryClock::new(alloc, &[morning])?;
+    let words = words_of(alloc, texts)?;
+    let mut input = MemorySource::new(alloc, script, 4096, &[])?;
+    let mut out = MemorySink::new(alloc, 4096, 65536, &[])?;
+    let Status(status) = run(
+        alloc, &words, keeper, door, &mut clock, &mut input, &mut out, steps,
+    );
+    Ok((status, Vec::from_slice(alloc, out.contents())?))
+}
+
+// The same without a connection.
 fn outcome_of<K: Keeper, L: Ledger>(
     alloc: Global,
     texts: &[&str],
@@ -76,11 +115,8 @@ fn outcome_of<K: Keeper, L: Ledger>(
     script: &[u8],
     steps: &mut Steps<L>,
 ) -> Result<(u8, Vec<u8>), Fail> {
-    let words = words_of(alloc, texts)?;
-    let mut input = MemorySource::new(alloc, script, 4096, &[])?;
-    let mut out = MemorySink::new(alloc, 4096, 65536, &[])?;
-    let Status(status) = run(alloc, &words, keeper, &mut input, &mut out, steps);
-    Ok((status, Vec::from_slice(alloc, out.contents())?))
+    let mut door = door_of(alloc, &[], &[])?;
+    outcome_at(alloc, texts, keeper, &mut door, script, steps)
 }
 
 fn outcome<K: Keeper, L: Ledger>(
@@ -191,5 +227,82 @@ fn loads<L: Ledger>(alloc: Global, blank: Blank) -> Result<bool, Fail>
 #[test]
 fn a_load_prints_its_summary(rt: HostRuntime) -> Result<(), Fail> {
     assert!(rt; loads::<Brand>(rt.alloc(), Blank::new(1))?);
+    Ok(())
+}
+
+const SERVE: [&str; 9] = [
+    "serve",
+    "--store",
+    "r",
+    "--port",
+    "8080",
+    "--key",
+    "op-desk000001",
+    "--connections",
+    "2",
+];
+
+const BUY: &[u8] = b"POST /v1/buy HTTP/1.1\r\nX-Agent-Key: h-mary000001\r\nContent-Length: 53\r\n\r\n\
+{\"account\":101,\"ref\":1,\"class\":11,\"gross\":\"10000.00\"}";
+
+const BUY_REPLY: &[u8] = b"HTTP/1.1 200 OK\r\nContent-Type: application/json\r\nContent-Length: 85\r\n\r\n\
+{\"account\":\"101\",\"due\":\"1719864000\",\"receipt\":\"1719838800\",\"ref\":\"1\",\"reply\":\"order\"}";
+
+const TRACE: &[u8] =
+    b"GET /v1/trace/101/1 HTTP/1.1\r\nX-Agent-Key: h-mary000001\r\nConnection: close\r\n\r\n";
+
+const TRACE_REPLY: &[u8] = b"HTTP/1.1 200 OK\r\nContent-Type: application/json\r\nContent-Length: 181\r\n\
+Connection: close\r\n\r\n\
+{\"account\":\"101\",\"cash\":\"0.00\",\"charge\":\"0.00\",\"due\":\"1719864000\",\"loose\":\"0.000\",\
+\"price\":\"0.00\",\"receipt\":\"1719838800\",\"ref\":\"1\",\"reply\":\"trace\",\"shares\":\"0.000\",\
+\"state\":\"pending\"}";
+
+// An order on one connection is traced on the next, and the third that waits isn't accepted.
+fn serves<L: Ledger>(alloc: Global, blank: Blank) -> Result<bool, Fail>
+    requires name { blank.name ≡ L.name }
+    requires parts { blank.parts ≡ L.parts }
+    requires some { 0 < blank.parts }
+{
+    let mut steps = Steps::<L>::new(blank);
+    let mut keeper = MemoryKeeper::new(alloc, &[])?;
+    let (status, _) = outcome(alloc, &mut keeper, PREAMBLE, &mut steps)?;
+    let mut door = door_of(alloc, &[BUY, TRACE, TRACE], &[])?;
+    let (served, lines) = outcome_at(alloc, &SERVE, &mut keeper, &mut door, b"", &mut steps)?;
+    if status != 0 || served != 0 || !lines.is_empty() {
+        return Ok(false);
+    }
+    match door.finished() {
+        [first, second] => Ok(first.written() == BUY_REPLY && second.written() == TRACE_REPLY),
+        _ => Ok(false),
+    }
+}
+
+#[test]
+fn two_connections_are_served(rt: HostRuntime) -> Result<(), Fail> {
+    assert!(rt; serves::<Brand>(rt.alloc(), Blank::new(1))?);
+    Ok(())
+}
+
+// Listening is the door's first call, and accepting the second.
+fn a_door_fails<L: Ledger>(alloc: Global, blank: Blank) -> Result<bool, Fail>
+    requires name { blank.name ≡ L.name }
+    requires parts { blank.parts ≡ L.parts }
+    requires some { 0 < blank.parts }
+{
+    let mut steps = Steps::<L>::new(blank);
+    for failing in [1_u64, 2] {
+        let mut keeper = SureKeeper::new(alloc);
+        let mut door = door_of(alloc, &[BUY], &[failing])?;
+        let (status, lines) = outcome_at(alloc, &SERVE, &mut keeper, &mut door, b"", &mut steps)?;
+        if status != 8 || lines.as_slice() != b"door fault\n" || !door.finished().is_empty() {
+            return Ok(false);
+        }
+    }
+    Ok(true)
+}
+
+#[test]
+fn a_door_that_fails_is_status_8(rt: HostRuntime) -> Result<(), Fail> {
+    assert!(rt; a_door_fails::<Brand>(rt.alloc(), Blank::new(1))?);
     Ok(())
 }
