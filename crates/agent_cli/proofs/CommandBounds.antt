@@ -1,6 +1,6 @@
 -- The numbers of a load that the words give are within its bounds.
-use Rattle.std.proofs.Common.{Bool, List, None, Option, Some, [], ap, arith, cond, false, refl, sym, true, ℕ, ◌∙◌, ◌∷◌, ◌≡◌, ◌≤◌}
-use Rattle.std.specs.Prelude.{bytes_eq, codes, nat_le, option_and_then, option_map, ◌&&◌}
+use Rattle.std.proofs.Common.{Bool, List, None, Option, Some, [], ap, arith, cond, false, refl, sym, true, ℕ, ◌∷◌, ◌≡◌, ◌≤◌}
+use Rattle.std.specs.Prelude.{bytes_eq, codes, nat_le, option_and_then, ◌&&◌}
 use Rattle.std.proofs.lemmas.Bool.{and_parts, leb-true, true≢false}
 use Rattle.money_units.specs.Texts.{number}
 use Rattle.agent_cli.specs.Ends.{IsInRange}

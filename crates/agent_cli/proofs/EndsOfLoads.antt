@@ -1,13 +1,12 @@
 -- How a load ends, and a run for want of memory: what is said of the other statuses doesn't arise.
-use Rattle.std.proofs.Common.{None, Option, Some, [], false, inl, inr, refl, subst, sym, ℕ, ◌==◌, ◌∙◌, ◌∷◌, ◌≡◌, ◌⊎◌}
+use Rattle.std.proofs.Common.{None, Option, Some, [], false, inl, inr, refl, subst, sym, ℕ, ◌==◌, ◌∙◌, ◌∷◌, ◌≡◌}
 use Rattle.std.specs.Io.KnownBytes.{Appends}
 use Rattle.std.proofs.lemmas.Bool.{eq-eqb, true≢false}
 use Rattle.agent_cli.proofs.RunFacts.{over-any, same-grow}
 use Rattle.agent_cli.proofs.Statuses.{by_first, no_such}
-use Rattle.agent_cli.specs.Ends.{Ends, IfApply, IfLoad, IfServe, IsApply, LeavesDoor, SaysOnly, Sides, is_one_of, load_of_options}
+use Rattle.agent_cli.specs.Ends.{Ends, IfApply, IfLoad, IfServe, LeavesDoor, Sides, is_one_of, load_of_options}
 use Rattle.agent_cli.specs.Runs.{TellSame, status_line}
 use Rattle.agent_edge.specs.Counts.{Rose}
-use Rattle.agent_keeper.specs.Content.{Content}
 use Rattle.command_words.specs.Commands.{Apply, Command, Load, Serve, apply, load, serve}
 use Rattle.load_requests.specs.Summaries.{load_text}
 use Rattle.script_answers.specs.Runs.{AppendsFront}

@@ -1,5 +1,5 @@
 -- How serving ends: what is said of the other commands and of the other statuses doesn't arise.
-use Rattle.std.proofs.Common.{List, None, Ok, Some, [], false, inl, inr, refl, sym, ℕ, ◌==◌, ◌∷◌, ◌≡◌, ◌≢◌, ◌⊎◌}
+use Rattle.std.proofs.Common.{List, Ok, Some, [], false, inl, inr, refl, sym, ℕ, ◌==◌, ◌∷◌, ◌≡◌, ◌≢◌, ◌⊎◌}
 use Rattle.std.specs.List.{list_any}
 use Rattle.std.proofs.lemmas.Bool.{true≢false}
 use Rattle.agent_cli.proofs.Statuses.{by_first, no_such}
@@ -60,7 +60,7 @@ among_all status known =
 pub serve-ends : (options : Serve) (status : ℕ) (before after : Sides) → ServeEnds options status before after → Ends (Some (serve options)) status before after
 serve-ends options status before after is =
     let never = λ (other : ℕ) (out : list_any (λ known. other == known) (0 ∷ 5 ∷ 6 ∷ 7 ∷ 8 ∷ []) ≡ false) (e : status ≡ other).
-      no_such (0 ∷ 5 ∷ 6 ∷ 7 ∷ 8 ∷ []) status other is.known out e in
+    no_such (0 ∷ 5 ∷ 6 ∷ 7 ∷ 8 ∷ []) status other is.known out e in
     record {
       known = among_all status is.known;
       done = λ e. tt;

@@ -1,5 +1,5 @@
 -- Serving from a store that was opened.
-use Rattle.std.proofs.Common.{Err, List, Ok, Option, Result, ap, arith, subst, sym, ℕ, ◌∙◌, ◌≡◌, ◌≤◌}
+use Rattle.std.proofs.Common.{Err, List, Option, Result, ap, arith, subst, sym, ℕ, ◌∙◌, ◌≡◌}
 use Rattle.std.specs.Prelude.{Bool}
 use Rattle.agent_cli.specs.Runs.{AreServedBehind, ServiceAt}
 use Rattle.agent_edge.specs.Links.{Links}

@@ -32,14 +32,16 @@ fn do_command<K: Keeper, D: Door, C: Clock, S: Source, O: Sink, L: StepLedger>(
 ) -> Status
     requires { IsInRange command.now }
     ensures { Ends (Some (command_view command.now)) result.0
-        (sides_of (K.tells keeper.old, K.faults keeper.old)
-        (door_at (D.is_connected door.old) (D.told door.old) (D.link_faults door.old),
-        D.door_faults door.old)
+        (sides_of (K.tells keeper.old, K.faults keeper.old) (
+          door_at (D.is_connected door.old) (D.told door.old) (D.link_faults door.old),
+          D.door_faults door.old,
+        )
         (clock_at (C.last clock.old) (C.coming clock.old))
         (S.left input.old, S.faults input.old) (O.contents out.old, O.faults out.old))
-        (sides_of (K.tells keeper.new, K.faults keeper.new)
-        (door_at (D.is_connected door.new) (D.told door.new) (D.link_faults door.new),
-        D.door_faults door.new)
+        (sides_of (K.tells keeper.new, K.faults keeper.new) (
+          door_at (D.is_connected door.new) (D.told door.new) (D.link_faults door.new),
+          D.door_faults door.new,
+        )
         (clock_at (C.last clock.new) (C.coming clock.new))
         (S.left input.new, S.faults input.new) (O.contents out.new, O.faults out.new)) }
 {
@@ -96,14 +98,16 @@ pub fn run<K: Keeper, D: Door, C: Clock, S: Source, O: Sink, L: StepLedger>(
     steps: &mut Steps<L>,
 ) -> Status
     ensures ends { Ends (spec.command_of (map string_bytes words.now)) result.0
-        (sides_of (K.tells keeper.old, K.faults keeper.old)
-        (door_at (D.is_connected door.old) (D.told door.old) (D.link_faults door.old),
-        D.door_faults door.old)
+        (sides_of (K.tells keeper.old, K.faults keeper.old) (
+          door_at (D.is_connected door.old) (D.told door.old) (D.link_faults door.old),
+          D.door_faults door.old,
+        )
         (clock_at (C.last clock.old) (C.coming clock.old))
         (S.left input.old, S.faults input.old) (O.contents out.old, O.faults out.old))
-        (sides_of (K.tells keeper.new, K.faults keeper.new)
-        (door_at (D.is_connected door.new) (D.told door.new) (D.link_faults door.new),
-        D.door_faults door.new)
+        (sides_of (K.tells keeper.new, K.faults keeper.new) (
+          door_at (D.is_connected door.new) (D.told door.new) (D.link_faults door.new),
+          D.door_faults door.new,
+        )
         (clock_at (C.last clock.new) (C.coming clock.new))
         (S.left input.new, S.faults input.new) (O.contents out.new, O.faults out.new)) }
 {

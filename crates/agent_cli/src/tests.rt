@@ -75,14 +75,7 @@ fn door_of(alloc: Global, texts: &[&[u8]], fails: &[u64]) -> Result<MemoryDoor, 
     for text in texts {
         connections.push(Bytes::from_slice(alloc, text)?)?;
     }
-    Ok(MemoryDoor::new(
-        alloc,
-        connections,
-        4096,
-        4096,
-        fails,
-        &[],
-    )?)
+    Ok(MemoryDoor::new(alloc, connections, 4096, 4096, fails, &[])?)
 }
 
 // The status of a run over a keeper and a door, on 2024-07-01 at 09:00 in New York, and the bytes that it wrote.
@@ -242,16 +235,19 @@ const SERVE: [&str; 9] = [
     "2",
 ];
 
-const BUY: &[u8] = b"POST /v1/buy HTTP/1.1\r\nX-Agent-Key: h-mary000001\r\nContent-Length: 53\r\n\r\n\
+const BUY: &[u8] =
+    b"POST /v1/buy HTTP/1.1\r\nX-Agent-Key: h-mary000001\r\nContent-Length: 53\r\n\r\n\
 {\"account\":101,\"ref\":1,\"class\":11,\"gross\":\"10000.00\"}";
 
-const BUY_REPLY: &[u8] = b"HTTP/1.1 200 OK\r\nContent-Type: application/json\r\nContent-Length: 85\r\n\r\n\
+const BUY_REPLY: &[u8] =
+    b"HTTP/1.1 200 OK\r\nContent-Type: application/json\r\nContent-Length: 85\r\n\r\n\
 {\"account\":\"101\",\"due\":\"1719864000\",\"receipt\":\"1719838800\",\"ref\":\"1\",\"reply\":\"order\"}";
 
 const TRACE: &[u8] =
     b"GET /v1/trace/101/1 HTTP/1.1\r\nX-Agent-Key: h-mary000001\r\nConnection: close\r\n\r\n";
 
-const TRACE_REPLY: &[u8] = b"HTTP/1.1 200 OK\r\nContent-Type: application/json\r\nContent-Length: 181\r\n\
+const TRACE_REPLY: &[u8] =
+    b"HTTP/1.1 200 OK\r\nContent-Type: application/json\r\nContent-Length: 181\r\n\
 Connection: close\r\n\r\n\
 {\"account\":\"101\",\"cash\":\"0.00\",\"charge\":\"0.00\",\"due\":\"1719864000\",\"loose\":\"0.000\",\
 \"price\":\"0.00\",\"receipt\":\"1719838800\",\"ref\":\"1\",\"reply\":\"trace\",\"shares\":\"0.000\",\
@@ -294,7 +290,10 @@ fn a_door_fails<L: Ledger>(alloc: Global, blank: Blank) -> Result<bool, Fail>
         let mut keeper = SureKeeper::new(alloc);
         let mut door = door_of(alloc, &[BUY], &[failing])?;
         let (status, lines) = outcome_at(alloc, &SERVE, &mut keeper, &mut door, b"", &mut steps)?;
-        if status != 8 || lines.as_slice() != b"door fault\n" || !door.finished().is_empty() {
+        if status != 8
+            || lines.as_slice() != b"door fault\n".as_slice()
+            || !door.finished().is_empty()
+        {
             return Ok(false);
         }
     }

@@ -14,9 +14,9 @@ returns-in-Load g c =
     let door = door_at (g.D.Door.is_connected c.args.door.now) (g.D.Door.told c.args.door.now) (g.D.Door.link_faults c.args.door.now) in
     let clock = clock_at (g.C.Clock.last c.args.clock.now) (g.C.Clock.coming c.args.clock.now) in
     let before : Sides = sides_of (g.K.Keeper.tells c.args.keeper.now, g.K.Keeper.faults c.args.keeper.now) (door, g.D.Door.door_faults c.args.door.now) clock
-        (g.S.Source.left c.args.input.now, g.S.Source.faults c.args.input.now) (g.O.Sink.contents c.args.out.now, g.O.Sink.faults c.args.out.now) in
+    (g.S.Source.left c.args.input.now, g.S.Source.faults c.args.input.now) (g.O.Sink.contents c.args.out.now, g.O.Sink.faults c.args.out.now) in
     let after : Sides = sides_of (g.K.Keeper.tells c.args.keeper.now, g.K.Keeper.faults c.args.keeper.now) (door, g.D.Door.door_faults c.args.door.now) clock
-        (g.S.Source.left c.args.input.now, g.S.Source.faults c.args.input.now) (g.O.Sink.contents c.load.new.out, g.O.Sink.faults c.load.new.out) in
+    (g.S.Source.left c.args.input.now, g.S.Source.faults c.args.input.now) (g.O.Sink.contents c.load.new.out, g.O.Sink.faults c.load.new.out) in
     subst (λ (command : Command). Ends (Some (command_view command)) c.load.result.0 before after) (sym c.in-Load.is)
     (load-ends (record { number = c.in-Load.number; households = c.in-Load.households; days = c.in-Load.days }) c.load.result.0 before after
     (record {
@@ -36,13 +36,13 @@ returns-in-Load g c =
 pub returns-in-Serve : goal.returns-in-Serve
 returns-in-Serve g c =
     let before : Sides = sides_of (g.K.Keeper.tells c.args.keeper.now, g.K.Keeper.faults c.args.keeper.now)
-        (door_at (g.D.Door.is_connected c.args.door.now) (g.D.Door.told c.args.door.now) (g.D.Door.link_faults c.args.door.now), g.D.Door.door_faults c.args.door.now)
-        (clock_at (g.C.Clock.last c.args.clock.now) (g.C.Clock.coming c.args.clock.now))
-        (g.S.Source.left c.args.input.now, g.S.Source.faults c.args.input.now) (g.O.Sink.contents c.args.out.now, g.O.Sink.faults c.args.out.now) in
+    (door_at (g.D.Door.is_connected c.args.door.now) (g.D.Door.told c.args.door.now) (g.D.Door.link_faults c.args.door.now), g.D.Door.door_faults c.args.door.now)
+    (clock_at (g.C.Clock.last c.args.clock.now) (g.C.Clock.coming c.args.clock.now))
+    (g.S.Source.left c.args.input.now, g.S.Source.faults c.args.input.now) (g.O.Sink.contents c.args.out.now, g.O.Sink.faults c.args.out.now) in
     let after : Sides = sides_of (g.K.Keeper.tells c.serve.new.keeper, g.K.Keeper.faults c.serve.new.keeper)
-        (door_at (g.D.Door.is_connected c.serve.new.door) (g.D.Door.told c.serve.new.door) (g.D.Door.link_faults c.serve.new.door), g.D.Door.door_faults c.serve.new.door)
-        (clock_at (g.C.Clock.last c.serve.new.clock) (g.C.Clock.coming c.serve.new.clock))
-        (g.S.Source.left c.args.input.now, g.S.Source.faults c.args.input.now) (g.O.Sink.contents c.serve.new.out, g.O.Sink.faults c.serve.new.out) in
+    (door_at (g.D.Door.is_connected c.serve.new.door) (g.D.Door.told c.serve.new.door) (g.D.Door.link_faults c.serve.new.door), g.D.Door.door_faults c.serve.new.door)
+    (clock_at (g.C.Clock.last c.serve.new.clock) (g.C.Clock.coming c.serve.new.clock))
+    (g.S.Source.left c.args.input.now, g.S.Source.faults c.args.input.now) (g.O.Sink.contents c.serve.new.out, g.O.Sink.faults c.serve.new.out) in
     subst (λ (command : Command). Ends (Some (command_view command)) c.serve.result.0 before after) (sym c.in-Serve.is)
     (serve-ends (record { store = c.in-Serve.store.now; port = c.in-Serve.port; key = c.in-Serve.key.now; connections = c.in-Serve.connections }) c.serve.result.0 before after
     (record {

@@ -20,9 +20,9 @@ returns-in-Err g c =
     let door = door_at (g.D.Door.is_connected c.args.door.now) (g.D.Door.told c.args.door.now) (g.D.Door.link_faults c.args.door.now) in
     let clock = clock_at (g.C.Clock.last c.args.clock.now) (g.C.Clock.coming c.args.clock.now) in
     let before : Sides = sides_of (g.K.Keeper.tells c.args.keeper.now, g.K.Keeper.faults c.args.keeper.now) (door, g.D.Door.door_faults c.args.door.now) clock
-        (g.S.Source.left c.args.input.now, g.S.Source.faults c.args.input.now) (g.O.Sink.contents c.args.out.now, g.O.Sink.faults c.args.out.now) in
+    (g.S.Source.left c.args.input.now, g.S.Source.faults c.args.input.now) (g.O.Sink.contents c.args.out.now, g.O.Sink.faults c.args.out.now) in
     let after : Sides = sides_of (g.K.Keeper.tells c.args.keeper.now, g.K.Keeper.faults c.args.keeper.now) (door, g.D.Door.door_faults c.args.door.now) clock
-        (g.S.Source.left c.args.input.now, g.S.Source.faults c.args.input.now) (g.O.Sink.contents c.no_memory.new.out, g.O.Sink.faults c.no_memory.new.out) in
+    (g.S.Source.left c.args.input.now, g.S.Source.faults c.args.input.now) (g.O.Sink.contents c.no_memory.new.out, g.O.Sink.faults c.no_memory.new.out) in
     record {
       ends = ends-at-once (command_of (map string_bytes c.args.words.now)) c.no_memory.result.0 before after
           (record {
