@@ -1,0 +1,216 @@
+//! A desk's own calls: what is prepared isn't kept, what is committed is kept whole or not at all.
+ghost use Rattle.std.specs.Prelude.{◌≡◌, ◌<◌, IsTrue, true};
+ghost use Rattle.dealer_lines.specs.Lines.{all_lines};
+ghost use Rattle.register_desk.specs.Rows.{TellsRowsOf};
+
+use crate::runs::open;
+use crate::texts::{DEALER, MARY, OPERATOR, PREAMBLE};
+use agent_events::{Amount, Asked, Body, Identifier, LineForm, Order, Reference, Reply, Request};
+use agent_http::reply_line;
+use agent_keeper::{KeepFault, Keeper, MemoryKeeper};
+use household_fold::Steps;
+use money_units::{Cents, Moment, NoMemory};
+use register_desk::Desk;
+use std::alloc::Global;
+use std::marker::Brand;
+use std::sync::ledger::{Blank, Ledger};
+use std::test::Fail;
+
+// What came of a request: the lines of its replies, the events before it, whether what it brings is kept, and the events behind.
+#[derive(Drop)]
+struct Told {
+    lines: Vec<u8>,
+    base: u64,
+    kept: Result<(), KeepFault>,
+    events: u64,
+}
+
+// A purchase of class 12 for 100.00.
+fn purchase(account: u64, ref_no: u64) -> Result<Order, Fail> {
+    Ok(Order {
+        account: Identifier::new(account).ok_or("a number from 1 on")?,
+        ref_no: Reference::new(ref_no).ok_or("a reference")?,
+        body: Body::Buy {
+            class: Identifier::new(12).ok_or("a number from 1 on")?,
+            gross: Amount::new(Cents(10_000)).ok_or("an amount")?,
+        },
+    })
+}
+
+fn lines_of(alloc: Global, replies: &[Reply]) -> Result<Vec<u8>, NoMemory> {
+    let mut lines = Vec::new(alloc);
+    for reply in replies {
+        reply_line(alloc, reply, &mut lines)?;
+    }
+    Ok(lines)
+}
+
+// Prepares a batch of the dealer's at the last moment, and commits it.
+fn commit_lines<K: Keeper>(
+    alloc: Global,
+    desk: &mut Desk,
+    keeper: &mut K,
+    lines: &[Asked],
+) -> Result<Told, Fail>
+    requires attached { IsTrue (K.is_attached keeper.old) }
+    requires told { TellsRowsOf (K.tells keeper.old) desk.old.book.journal }
+    requires lines { all_lines lines.now ≡ true }
+    ensures attached { IsTrue (K.is_attached keeper.new) }
+    ensures told { TellsRowsOf (K.tells keeper.new) desk.new.book.journal }
+{
+    let moment = desk.last_moment();
+    let caller = desk.caller_of(DEALER, OPERATOR);
+    let prepared = desk.prepare_batch(keeper, moment, caller, lines)?;
+    let lines = lines_of(alloc, prepared.replies())?;
+    let base = prepared.base();
+    let kept = desk.commit_batch(keeper, prepared);
+    let events = desk.len();
+    Ok(Told {
+        lines,
+        base,
+        kept,
+        events,
+    })
+}
+
+// Commits a batch twice, in which a line between two others isn't in its form.
+fn commit_twice<K: Keeper>(
+    alloc: Global,
+    desk: &mut Desk,
+    keeper: &mut K,
+    first: LineForm,
+    last: LineForm,
+) -> Result<(Told, Told), Fail>
+    requires attached { IsTrue (K.is_attached keeper.old) }
+    requires told { TellsRowsOf (K.tells keeper.old) desk.old.book.journal }
+{
+    let lines = [Ok(Request::Line(first)), Err(4), Ok(Request::Line(last))];
+    let once = commit_lines(alloc, desk, keeper, &lines)?;
+    let again = commit_lines(alloc, desk, keeper, &lines)?;
+    Ok((once, again))
+}
+
+// A line of the dealer's at 1719835200.
+fn line(account: u64, ref_no: u64) -> Result<LineForm, Fail> {
+    Ok(LineForm {
+        receipt: Moment::from_seconds(1_719_835_200).ok_or("a moment")?,
+        order: purchase(account, ref_no)?,
+    })
+}
+
+fn send_lines<L: Ledger>(
+    alloc: Global,
+    blank: Blank,
+    keeper: &mut MemoryKeeper,
+) -> Result<(Told, Told), Fail>
+    requires name { blank.name ≡ L.name }
+    requires parts { blank.parts ≡ L.parts }
+    requires some { 0 < blank.parts }
+{
+    let mut steps = Steps::<L>::new(blank);
+    let first = line(103, 1)?;
+    let last = line(103, 2)?;
+    let mut desk = open(alloc, keeper, PREAMBLE, &mut steps)?;
+    commit_twice(alloc, &mut desk, keeper, first, last)
+}
+
+const LINES: &[u8] =
+    b"ok,order,103,1,1719835200,1719864000\nno,2,4\nok,order,103,2,1719835200,1719864000\n";
+
+#[test]
+fn a_batch_is_kept_whole_or_not_at_all(rt: HostRuntime) -> Result<(), Fail> {
+    // Sent again, the lines that were kept are known. The twelfth commit is the batch's.
+    for (fails, first, rest) in [
+        ([0_u64], (Ok(()), 13), (13, 13)),
+        ([13], (Err(KeepFault::Failed), 11), (11, 13)),
+    ] {
+        let mut keeper = MemoryKeeper::new(rt.alloc(), &fails)?;
+        let (once, again) = send_lines::<Brand>(rt.alloc(), Blank::new(1), &mut keeper)?;
+        assert_eq!(rt; once.lines.as_slice(), LINES);
+        assert_eq!(rt; once.base, 11);
+        assert_eq!(rt; (once.kept, once.events), first);
+        assert_eq!(rt; again.lines.as_slice(), LINES);
+        assert_eq!(rt; (again.base, again.events), rest);
+        assert!(rt; again.kept.is_ok());
+        assert_eq!(rt; keeper.len(), Ok(13));
+    }
+    Ok(())
+}
+
+// Prepares a request of a household's at the last moment, and commits what it brings.
+fn commit_request<K: Keeper, L: Ledger>(
+    alloc: Global,
+    desk: &mut Desk,
+    keeper: &mut K,
+    request: &Request,
+    steps: &mut Steps<L>,
+) -> Result<Told, Fail>
+    requires attached { IsTrue (K.is_attached keeper.old) }
+    requires told { TellsRowsOf (K.tells keeper.old) desk.old.book.journal }
+    ensures attached { IsTrue (K.is_attached keeper.new) }
+    ensures told { TellsRowsOf (K.tells keeper.new) desk.new.book.journal }
+{
+    let moment = desk.last_moment();
+    let caller = desk.caller_of(MARY, OPERATOR);
+    let prepared = desk.prepare(keeper, moment, caller, request, steps)?;
+    let mut lines = Vec::new(alloc);
+    reply_line(alloc, prepared.reply(), &mut lines)?;
+    let base = prepared.base();
+    let kept = desk.commit(keeper, prepared);
+    let events = desk.len();
+    Ok(Told {
+        lines,
+        base,
+        kept,
+        events,
+    })
+}
+
+// Commits one request and then another.
+fn commit_both<K: Keeper, L: Ledger>(
+    alloc: Global,
+    desk: &mut Desk,
+    keeper: &mut K,
+    first: Order,
+    second: Order,
+    steps: &mut Steps<L>,
+) -> Result<(Told, Told), Fail>
+    requires attached { IsTrue (K.is_attached keeper.old) }
+    requires told { TellsRowsOf (K.tells keeper.old) desk.old.book.journal }
+{
+    let one = commit_request(alloc, desk, keeper, &Request::Order(first), steps)?;
+    let other = commit_request(alloc, desk, keeper, &Request::Order(second), steps)?;
+    Ok((one, other))
+}
+
+// A purchase of Mary's, and then one for an account that isn't hers.
+fn send_purchases<L: Ledger>(
+    alloc: Global,
+    blank: Blank,
+    keeper: &mut MemoryKeeper,
+) -> Result<(Told, Told), Fail>
+    requires name { blank.name ≡ L.name }
+    requires parts { blank.parts ≡ L.parts }
+    requires some { 0 < blank.parts }
+{
+    let mut steps = Steps::<L>::new(blank);
+    let own = purchase(101, 1)?;
+    let other = purchase(103, 1)?;
+    let mut desk = open(alloc, keeper, PREAMBLE, &mut steps)?;
+    commit_both(alloc, &mut desk, keeper, own, other, &mut steps)
+}
+
+#[test]
+fn what_is_accepted_is_kept_and_a_refusal_is_not(rt: HostRuntime) -> Result<(), Fail> {
+    let mut keeper = MemoryKeeper::new(rt.alloc(), &[])?;
+    let (first, second) = send_purchases::<Brand>(rt.alloc(), Blank::new(1), &mut keeper)?;
+    assert_eq!(rt;
+        first.lines.as_slice(),
+        b"ok,order,101,1,1719835200,1719864000\n".as_slice()
+    );
+    assert_eq!(rt; (first.base, first.kept, first.events), (11, Ok(()), 12));
+    assert_eq!(rt; second.lines.as_slice(), b"no,1\n".as_slice());
+    assert_eq!(rt; (second.base, second.kept, second.events), (12, Ok(()), 12));
+    assert_eq!(rt; keeper.len(), Ok(12));
+    Ok(())
+}
