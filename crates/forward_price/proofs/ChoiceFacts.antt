@@ -1,6 +1,7 @@
 -- What is chosen step by step is the best of all.
-use Rattle.std.proofs.Common.{◌≡◌, Bool, true, false, List, [], ◌∷◌, ◌++◌, fold, Option, Some, None, IfSome, ◌⊎◌, inl, inr, refl, sym, subst, ◌∙◌, ap, append-nil, append_assoc}
+use Rattle.std.proofs.Common.{◌≡◌, Bool, true, false, List, [], ◌∷◌, ◌++◌, fold, Contains, All, Option, Some, None, IfSome, ◌⊎◌, inl, inr, refl, sym, subst, ◌∙◌, ap, append-nil, append_assoc}
 use Rattle.std.proofs.lemmas.Bool.{true≢false}
+use Rattle.std.proofs.lemmas.List.Sums.{fold-append}
 use Rattle.std.proofs.lemmas.List.Elements.{All-nil, All-weaker, All-contains, All-push, All-append, Contains-push, Contains-append_left, Contains-append_right}
 use Rattle.forward_price.specs.Choices.{IsChoice, preferred, considered, best, better_of}
 
@@ -111,3 +112,102 @@ same_choice passes better total xs None (Some y) p q = absurd (not_true (passes 
 same_choice passes better total xs (Some x) None p q = absurd (not_true (passes x) p.here (All-contains (λ o. passes o ≡ false) xs x q p.among))
 same_choice passes better total xs (Some x) (Some y) p q =
     ap Some (total x y (All-contains (λ o. passes o ≡ true → better o y ≡ false) xs x q.best p.among p.here) (All-contains (λ o. passes o ≡ true → better o x ≡ false) xs y p.best q.among q.here))
+
+better_none : {X : Type 0} (better : X → X → Bool) (b : Option X) → better_of better None b ≡ b
+better_none better None = refl
+better_none better (Some x) = refl
+
+-- the better of three is the better of the first and of the better of the others
+associate : {X : Type 0} (better : X → X → Bool) → IsOrder better → (found : Option X) (y : X) (b : Option X) → better_of better (preferred better found y) b ≡ better_of better found (better_of better (Some y) b)
+associate better order None y None = refl
+associate better order None y (Some z) = sym (better_none better (preferred better (Some y) z))
+associate better order (Some t) y None = refl
+associate better order (Some t) y (Some z) = elim (tested (better y t)) [
+  | inl over ↦ elim (tested (better z y)) [
+    | inl more ↦ elim (tested (better z t)) [
+      | inl most ↦ rw (over, more, most) refl
+      | inr less ↦ absurd (not_true (better z y) more (order.behind z t y less (order.apart y t over)))
+    ]
+    | inr less ↦ rw (over, less, over) refl
+  ]
+  | inr under ↦ elim (tested (better z y)) [
+    | inl more ↦ rw (under, more) refl
+    | inr less ↦ rw (under, less, under, order.behind z y t less under) refl
+  ]
+]
+
+considered_pass : {X : Type 0} (passes : X → Bool) (better : X → X → Bool) (found : Option X) (y : X) → passes y ≡ true → considered passes better found y ≡ preferred better found y
+considered_pass passes better found y pass = rw pass refl
+
+considered_fail : {X : Type 0} (passes : X → Bool) (better : X → X → Bool) (found : Option X) (y : X) → passes y ≡ false → considered passes better found y ≡ found
+considered_fail passes better found y fail = rw fail refl
+
+fold_from : {X : Type 0} (passes : X → Bool) (better : X → X → Bool) → IsOrder better → (ys : List X) (found : Option X) → fold (considered passes better) found ys ≡ better_of better found (best passes better ys)
+fold_from passes better order [] found = refl
+fold_from {X} passes better order (y ∷ ys) found = elim (tested (passes y)) [
+  | inl pass ↦
+      ap (λ a. fold (considered passes better) a ys) (considered_pass passes better found y pass)
+      ∙ fold_from passes better order ys (preferred better found y)
+      ∙ associate better order found y (best passes better ys)
+      ∙ ap (better_of better found) (sym (fold_from passes better order ys (Some y)) ∙ ap (λ a. fold (considered passes better) a ys) (sym (considered_pass passes better None y pass)))
+  | inr fail ↦
+      ap (λ a. fold (considered passes better) a ys) (considered_fail passes better found y fail)
+      ∙ fold_from passes better order ys found
+      ∙ ap (better_of better found) (ap (λ a. fold (considered passes better) a ys) (sym (considered_fail passes better None y fail)))
+]
+
+-- the best of two lists together is the better of their best
+best-append : {X : Type 0} (passes : X → Bool) (better : X → X → Bool) → IsOrder better → (xs ys : List X) → best passes better (xs ++ ys) ≡ better_of better (best passes better xs) (best passes better ys)
+best-append passes better order xs ys =
+    fold-append (considered passes better) None xs ys ∙ fold_from passes better order ys (best passes better xs)
+
+-- where none passes none is the best
+pub best_of_none : {X : Type 0} (passes : X → Bool) (better : X → X → Bool) → IsOrder better → (xs : List X) → All (λ x. passes x ≡ false) xs → best passes better xs ≡ None
+best_of_none {X} passes better order xs none = go (best passes better xs) (best-choice passes better order xs)
+  where
+    go : (b : Option X) → IsChoice passes better xs b → b ≡ None
+    go None is = refl
+    go (Some t) is = absurd (not_true (passes t) is.here (All-contains (λ x. passes x ≡ false) xs t none is.among))
+
+-- those in front that fail are passed over
+pub best_behind : {X : Type 0} (passes : X → Bool) (better : X → X → Bool) → IsOrder better → (xs ys : List X) → All (λ x. passes x ≡ false) xs → best passes better (xs ++ ys) ≡ best passes better ys
+best_behind passes better order xs ys none =
+    best-append passes better order xs ys
+    ∙ ap (λ a. better_of better a (best passes better ys)) (best_of_none passes better order xs none)
+    ∙ better_none better (best passes better ys)
+
+-- and so are those behind
+pub best_in_front : {X : Type 0} (passes : X → Bool) (better : X → X → Bool) → IsOrder better → (xs ys : List X) → All (λ x. passes x ≡ false) ys → best passes better (xs ++ ys) ≡ best passes better xs
+best_in_front passes better order xs ys none =
+    best-append passes better order xs ys
+    ∙ ap (better_of better (best passes better xs)) (best_of_none passes better order ys none)
+
+-- the best of the front is the best where none behind is better
+pub best_stays : {X : Type 0} (passes : X → Bool) (better : X → X → Bool) → IsOrder better → (xs ys : List X) (s : X) → best passes better xs ≡ Some s → All (λ u. passes u ≡ true → better u s ≡ false) ys → best passes better (xs ++ ys) ≡ Some s
+best_stays {X} passes better order xs ys s e worse =
+    best-append passes better order xs ys
+    ∙ ap (λ a. better_of better a (best passes better ys)) e
+    ∙ go (best passes better ys) (best-choice passes better order ys)
+  where
+    go : (b : Option X) → IsChoice passes better ys b → better_of better (Some s) b ≡ Some s
+    go None is = refl
+    go (Some v) is = rw (All-contains (λ u. passes u ≡ true → better u s ≡ false) ys v worse is.among is.here) refl
+
+-- the best of the back is the best where it is better than all in front
+pub best_wins : {X : Type 0} (passes : X → Bool) (better : X → X → Bool) → IsOrder better → (xs ys : List X) (s : X) → best passes better ys ≡ Some s → All (λ u. passes u ≡ true → better s u ≡ true) xs → best passes better (xs ++ ys) ≡ Some s
+best_wins {X} passes better order xs ys s e over =
+    best-append passes better order xs ys
+    ∙ ap (better_of better (best passes better xs)) e
+    ∙ go (best passes better xs) (best-choice passes better order xs)
+  where
+    go : (b : Option X) → IsChoice passes better xs b → better_of better b (Some s) ≡ Some s
+    go None is = refl
+    go (Some v) is = rw (All-contains (λ u. passes u ≡ true → better s u ≡ true) xs v over is.among is.here) refl
+
+-- where one passes there is a best one
+pub some_best : {X : Type 0} (passes : X → Bool) (better : X → X → Bool) → IsOrder better → (xs : List X) (x : X) → Contains xs x → passes x ≡ true → (s : X) × (best passes better xs ≡ Some s) × IsChoice passes better xs (Some s)
+some_best {X} passes better order xs x at pass = go (best passes better xs) refl (best-choice passes better order xs)
+  where
+    go : (b : Option X) → best passes better xs ≡ b → IsChoice passes better xs b → (s : X) × (best passes better xs ≡ Some s) × IsChoice passes better xs (Some s)
+    go None e is = absurd (not_true (passes x) pass (All-contains (λ y. passes y ≡ false) xs x is at))
+    go (Some s) e is = (s, e, is)

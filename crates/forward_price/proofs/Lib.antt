@@ -4,6 +4,7 @@ pub mod MapFacts
 pub mod PatchFacts
 pub mod NumberFacts
 pub mod PricingFacts
+pub mod SearchFacts
 pub mod CompleteFacts
 pub mod CloseFacts
 pub mod OrderlyFacts

@@ -1,5 +1,5 @@
 -- A sheet stands in the place of its number.
-use Rattle.std.proofs.Common.{◌≡◌, ℕ, zero, suc, ◌+◌, ◌-◌, ◌<◌, ◌==◌, List, [], ◌∷◌, ◌++◌, length, get_or, take, map, slice_get, None, inl, inr, refl, sym, ap, subst, ◌∙◌, arith, length-append}
+use Rattle.std.proofs.Common.{◌≡◌, ℕ, zero, suc, ◌+◌, ◌-◌, ◌<◌, ◌==◌, List, [], ◌∷◌, ◌++◌, length, get_or, take, slice_get, None, inl, inr, refl, sym, ap, subst, ◌∙◌, arith, length-append}
 use Rattle.std.proofs.lemmas.List.{length-map, get_or-take}
 use Rattle.std.proofs.lemmas.Bool.{cases_lt}
 use Rattle.fund_calendar.proofs.LookUpLemmas.{find_at, find_none, eq_true, eq_false}
@@ -43,12 +43,20 @@ numbered_more sheets s are next = record {
   ];
 }
 
-within : (xs : List Sheet) (n k : ℕ) → k < length (take n xs) → k < n
+-- a place in front of a list is a place of the list
+pub within : {X : Type 0} (xs : List X) (n k : ℕ) → k < length (take n xs) → k < n
 within [] zero k l = absurd (omega arith)
 within [] (suc n) k l = absurd (omega arith)
 within (x ∷ xs) zero k l = absurd (omega arith)
 within (x ∷ xs) (suc n) zero l = omega arith
 within (x ∷ xs) (suc n) (suc k) l = (let rest = within xs n k (omega arith) in omega arith)
+
+pub long : {X : Type 0} (xs : List X) (n k : ℕ) → k < length (take n xs) → k < length xs
+long [] zero k l = l
+long [] (suc n) k l = l
+long (x ∷ xs) zero k l = absurd (omega arith)
+long (x ∷ xs) (suc n) zero l = omega arith
+long (x ∷ xs) (suc n) (suc k) l = (let rest = long xs n k (omega arith) in omega arith)
 
 pub numbered_less : (sheets : List Sheet) (n : ℕ) → AreNumbered sheets → AreNumbered (take n sheets)
 numbered_less sheets n are = record {
@@ -56,22 +64,16 @@ numbered_less sheets n are = record {
       let short = within sheets n k l in
       ap (λ x. x.number) (get_or-take n sheets k d short) ∙ are.each k d (long sheets n k l);
 }
-  where
-    long : (xs : List Sheet) (n k : ℕ) → k < length (take n xs) → k < length xs
-    long [] zero k l = l
-    long [] (suc n) k l = l
-    long (x ∷ xs) zero k l = absurd (omega arith)
-    long (x ∷ xs) (suc n) zero l = omega arith
-    long (x ∷ xs) (suc n) (suc k) l = (let rest = long xs n k (omega arith) in omega arith)
+
+-- a corrected sheet stands in its place
+pub map_get : (class number nav : ℕ) (xs : List Sheet) (i : ℕ) (d : Sheet) → i < length xs → get_or (corrected class number nav xs) i d ≡ corrected_sheet class number nav (get_or xs i d)
+map_get class number nav [] i d l = absurd (omega arith)
+map_get class number nav (x ∷ xs) zero d l = refl
+map_get class number nav (x ∷ xs) (suc i) d l = map_get class number nav xs i d (omega arith)
 
 pub numbered_corrected : (class number nav : ℕ) (sheets : List Sheet) → AreNumbered sheets → AreNumbered (corrected class number nav sheets)
 numbered_corrected class number nav sheets are = record {
   each = λ k d l.
       let short : k < length sheets = subst (λ n. k < n) (length-map sheets (corrected_sheet class number nav)) l in
-      ap (λ s. s.number) (map_get sheets k d short) ∙ number-kept class number nav (get_or sheets k d) ∙ are.each k d short;
+      ap (λ s. s.number) (map_get class number nav sheets k d short) ∙ number-kept class number nav (get_or sheets k d) ∙ are.each k d short;
 }
-  where
-    map_get : (xs : List Sheet) (i : ℕ) (d : Sheet) → i < length xs → get_or (map (corrected_sheet class number nav) xs) i d ≡ corrected_sheet class number nav (get_or xs i d)
-    map_get [] i d l = absurd (omega arith)
-    map_get (x ∷ xs) zero d l = refl
-    map_get (x ∷ xs) (suc i) d l = map_get xs i d (omega arith)

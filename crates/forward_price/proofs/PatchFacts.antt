@@ -1,5 +1,5 @@
 -- A correction on trial is read for its class and sheet alone.
-use Rattle.std.proofs.Common.{◌≡◌, ℕ, ℤ, int_lt, ◌<ℤ◌, Bool, true, false, cond, not, ◌&&◌, ◌||◌, ◌==◌, List, [], ◌∷◌, map, fold, find, Option, Some, None, option_map, option_and_then, refl, sym, ap, ◌∙◌, inl, inr, ◌⊎◌, length, ◌+◌}
+use Rattle.std.proofs.Common.{◌≡◌, ℕ, ℤ, int_lt, ◌<ℤ◌, Bool, true, false, cond, not, ◌&&◌, ◌||◌, ◌==◌, List, [], ◌∷◌, map, fold, find, Option, Some, None, option_map, option_and_then, refl, sym, ap, ◌∙◌, inl, inr, ◌⊎◌, length}
 use Rattle.std.specs.List.{list_any}
 use Rattle.std.specs.Ordering.{int_eq}
 use Rattle.std.proofs.lemmas.List.Elements.{All-weaker}
@@ -7,7 +7,6 @@ use Rattle.fund_calendar.specs.PricingDays.{Listing}
 use Rattle.forward_price.specs.declared.price_sheet.Opening.{Opening}
 use Rattle.forward_price.specs.Turns.{NoneAwaitedTo, is_awaited, is_offered_at, pricing_pairs}
 use Rattle.std.proofs.lemmas.List.{length-map}
-use Rattle.std.proofs.lemmas.List.Sums.{sum_by-cons}
 use Rattle.std.proofs.lemmas.Bool.Decides.{Decides-eqb}
 use Rattle.forward_price.specs.declared.price_sheet.Sheet.{Sheet}
 use Rattle.forward_price.specs.declared.price_sheet.Patch.{Patch}

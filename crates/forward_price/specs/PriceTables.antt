@@ -1,6 +1,6 @@
 -- The price table: the calendars of the funds, the openings of their classes, and the published sheets in order. An
 -- order is executed only at a price based on the net asset value next computed after its receipt (17 CFR 270.22c-1(a)).
-use Rattle.std.specs.Prelude.{◌<◌, slice_index_or, ◌≡◌, ℕ, ℤ, ◌<ℤ◌, ◌≤ℤ◌, int_lt, Bool, true, ◌&&◌, ◌==◌, if◌then◌else◌, List, [], ◌∷◌, ◌++◌, length, ◌+◌, ◌-◌, take, map, max, slice_get, Option, Some, None, All, Contains, find, option_map, option_and_then, unwrap_or}
+use Rattle.std.specs.Prelude.{◌<◌, slice_index_or, ◌≡◌, ℕ, ℤ, ◌<ℤ◌, ◌≤ℤ◌, int_lt, Bool, true, ◌&&◌, ◌==◌, if◌then◌else◌, List, [], ◌∷◌, ◌++◌, length, ◌+◌, ◌-◌, take, map, max, slice_get, Option, Some, None, All, AllPairs, Contains, find, option_map, option_and_then, unwrap_or}
 use Rattle.fund_calendar.specs.PricingDays.{Listing, date_at, without_day, lists_day}
 use Rattle.std.specs.List.{list_any}
 use Rattle.std.specs.Option.{option_map_or}
@@ -77,6 +77,10 @@ sheet_before sheets class moment = best (is_before class moment) is_later sheets
 pub record AreNumbered (sheets : List Sheet) : Type 0 where
   pub each : (place : ℕ) (d : Sheet) → place < length sheets
       → (slice_index_or sheets place d).number ≡ place + 1
+
+-- no sheet's moment is before that of a sheet published earlier
+abbrev pub NeverFall : List Sheet → Type 0
+NeverFall sheets = AllPairs (λ a b. a.moment ≤ℤ b.moment) sheets
 
 abbrev pub sheet_numbered : List Sheet → ℕ → Option Sheet
 sheet_numbered sheets number = find (λ sheet. sheet.number == number) sheets

@@ -3,6 +3,7 @@
 
 mod correcting;
 mod expecting;
+mod in_order;
 pub mod laws;
 mod lookups;
 mod next_price;

@@ -1,10 +1,11 @@
 //! The look-ups of prices over the published sheets.
-ghost use Rattle.std.specs.Prelude.{◌≡◌, ◌∷◌, ◌==◌, ◌&&◌, int_lt, slice_get, find, fold, option_map, option_and_then, map};
+ghost use Rattle.std.specs.Prelude.{◌≡◌, true, ◌∷◌, ◌==◌, ◌&&◌, int_le, int_lt, slice_get, find, fold, option_map, option_and_then, map, All, ◌≤ℤ◌};
 ghost use Rattle.std.specs.Option.{option_copied};
 ghost use Rattle.forward_price.specs.Choices.{preferred};
-ghost use Rattle.forward_price.specs.PriceTables.{AreNumbered, prices_order, is_earlier, is_later, next_sheet, is_before, sheet_before, sheet_numbered, is_sheet_at, number_at, corrected_price, corrected_sheet, corrected, patched, price_on, price_before, with_prices, patched_nav};
+ghost use Rattle.forward_price.specs.PriceTables.{AreNumbered, NeverFall, prices_order, is_earlier, is_later, next_sheet, is_before, sheet_before, sheet_numbered, is_sheet_at, number_at, corrected_price, corrected_sheet, corrected, patched, price_on, price_before, with_prices, patched_nav};
 ghost use Rattle.forward_price.specs.Sheets.{nav_on};
 
+use crate::in_order;
 use crate::lookups::{lists_all, lists_class, nav_on};
 use crate::price_sheet::{Patch, Sheet};
 use money_units::Nav;
@@ -31,8 +32,8 @@ fn earlier<'a>(found: Option<&'a Sheet>, sheet: &'a Sheet) -> Option<&'a Sheet>
     }
 }
 
-/// The sheet of the next price.
-pub fn next_sheet<'a>(sheets: &'a [Sheet], asked: &[u32], receipt: i64) -> Option<&'a Sheet>
+/// The sheet of the next price, by a walk over all sheets.
+pub fn next_among<'a>(sheets: &'a [Sheet], asked: &[u32], receipt: i64) -> Option<&'a Sheet>
     ensures { option_copied result ≡ next_sheet sheets.now asked.now receipt }
 {
     let mut found: Option<&Sheet> = None;
@@ -66,8 +67,8 @@ fn later<'a>(found: Option<&'a Sheet>, sheet: &'a Sheet) -> Option<&'a Sheet>
     }
 }
 
-/// The last sheet before a moment that lists a class.
-pub fn sheet_before(sheets: &[Sheet], class: u32, moment: i64) -> Option<&Sheet>
+/// The last sheet before a moment that lists a class, by a walk over all sheets.
+pub fn last_among(sheets: &[Sheet], class: u32, moment: i64) -> Option<&Sheet>
     ensures { option_copied result ≡ sheet_before sheets.now class moment }
 {
     let mut found: Option<&Sheet> = None;
@@ -151,13 +152,75 @@ pub fn price(patch: Option<Patch>, sheets: &[Sheet], number: u32, class: u32) ->
     patched_nav(patch, sheet, class)
 }
 
+/// The sheet of the next price. It costs a search where no moment falls, and otherwise a walk over all sheets.
+pub fn next_sheet<'a>(
+    sheets: &'a [Sheet],
+    in_order: bool,
+    asked: &[u32],
+    receipt: i64,
+) -> Option<&'a Sheet>
+    requires { in_order ≡ true → NeverFall sheets.now }
+    ensures { option_copied result ≡ next_sheet sheets.now asked.now receipt }
+{
+    if in_order {
+        in_order::next_sheet(sheets, asked, receipt)
+    } else {
+        next_among(sheets, asked, receipt)
+    }
+}
+
+/// The last sheet before a moment that lists a class. It costs a search where no moment falls, and otherwise a walk over
+/// all sheets.
+pub fn sheet_before(sheets: &[Sheet], in_order: bool, class: u32, moment: i64) -> Option<&Sheet>
+    requires { in_order ≡ true → NeverFall sheets.now }
+    ensures { option_copied result ≡ sheet_before sheets.now class moment }
+{
+    if in_order {
+        in_order::sheet_before(sheets, class, moment)
+    } else {
+        last_among(sheets, class, moment)
+    }
+}
+
 /// The net asset value of a class on its last sheet before a moment, under a correction on trial.
-pub fn last_before(patch: Option<Patch>, sheets: &[Sheet], class: u32, moment: i64) -> Option<Nav>
+pub fn last_before(
+    patch: Option<Patch>,
+    sheets: &[Sheet],
+    in_order: bool,
+    class: u32,
+    moment: i64,
+) -> Option<Nav>
+    requires { in_order ≡ true → NeverFall sheets.now }
     ensures { result ≡ option_and_then (λ sheet. patched_nav patch sheet class)
         (sheet_before sheets.now class moment) }
 {
-    match sheet_before(sheets, class, moment) {
+    match sheet_before(sheets, in_order, class, moment) {
         Some(sheet) => patched_nav(patch, sheet, class),
         None => None,
     }
+}
+
+fn is_up_to(moment: i64, sheet: &Sheet) -> bool
+    ensures { result ≡ int_le sheet.now.moment moment }
+{
+    sheet.moment <= moment
+}
+
+fn follows(sheets: &[Sheet], moment: i64) -> bool
+    ensures { result ≡ true → NeverFall sheets.now → All (λ s. s.moment ≤ℤ moment) sheets.now }
+{
+    match sheets.last() {
+        Some(last) => is_up_to(moment, last),
+        None => true,
+    }
+}
+
+/// Whether the moments of sheets never fall with a sheet of this moment behind them, where it is known whether they do
+/// without it.
+pub fn stays_in_order(in_order: bool, sheets: &[Sheet], moment: i64) -> bool
+    requires { in_order ≡ true → NeverFall sheets.now }
+    ensures before { result ≡ true → NeverFall sheets.now }
+    ensures last { result ≡ true → All (λ s. s.moment ≤ℤ moment) sheets.now }
+{
+    in_order && follows(sheets, moment)
 }

@@ -28,6 +28,8 @@ pub struct PriceBook {
     spare: usize,
     // No pricing moment up to this one is awaited.
     passed: i64,
+    // Where it is set, no sheet's moment is before that of a sheet published earlier, so that prices are found by search.
+    in_order: bool,
 }
 
 // The moment before all others.
@@ -67,6 +69,7 @@ impl PriceBook {
             list: 0,
             spare: 0,
             passed: NONE_PASSED,
+            in_order: true,
         })
     }
 
@@ -163,7 +166,7 @@ impl PriceBook {
         ensures next { IfSome result (IsPricedBy self.now.table.sheets classes.now receipt) }
         ensures pending { IfNone result (IsPending self.now.table.sheets classes.now receipt) }
     {
-        match next_price::next_sheet(&self.sheets, classes, receipt) {
+        match next_price::next_sheet(&self.sheets, self.in_order, classes, receipt) {
             Some(sheet) => Some(sheet.number),
             None => None,
         }
@@ -182,7 +185,7 @@ impl PriceBook {
     pub fn last_before(&self, patch: Option<Patch>, class: u32, moment: i64) -> Option<Nav>
         ensures { result ≡ price_before (patched patch self.now.table.sheets) class moment }
     {
-        next_price::last_before(patch, &self.sheets, class, moment)
+        next_price::last_before(patch, &self.sheets, self.in_order, class, moment)
     }
 }
 
@@ -264,6 +267,7 @@ impl PriceBook {
     {
         let number = self.sheets.len() as u32 + 1;
         let day = expecting::date_priced(&self.calendars, calendar, moment);
+        let in_order = next_price::stays_in_order(self.in_order, &self.sheets, moment);
         let prices = room::filled(&mut self.room, prices);
         self.sheets.push_reserved(Sheet {
             number,
@@ -273,6 +277,7 @@ impl PriceBook {
             prices,
         });
         self.list = 0;
+        self.in_order = in_order;
         self.passed = moment - 1;
         number
     }

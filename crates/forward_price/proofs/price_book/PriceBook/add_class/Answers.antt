@@ -12,4 +12,5 @@ invariant_of-self c =
       sheet_fits = c.self.invariant.sheet_fits;
       none_passed = none_passed _ _ _;
       numbered = c.self.invariant.numbered;
+      in_order = c.self.invariant.in_order;
     }

@@ -1,6 +1,7 @@
 use Rattle.std.proofs.Common.{◌≡◌, ◌++◌, take, drop, length, ap, ◌∙◌, arith}
 use Rattle.std.proofs.lemmas.Grind.{common_steps}
 use Rattle.forward_price.proofs.NumberFacts.{numbered_corrected}
+use Rattle.forward_price.proofs.SearchFacts.{falls_corrected}
 use Rattle.forward_price.proofs.PatchFacts.{none_awaited-kept}
 use Rattle.forward_price.specs.PriceTables.{corrected}
 use Rattle.forward_price.proofs.price_book.PriceBook.correct.Goals as goal
@@ -18,4 +19,5 @@ invariant_of-self c =
       sheet_fits = c.self.invariant.sheet_fits;
       none_passed = rw whole (none_awaited-kept c.args.class c.args.sheet c.args.nav _ _ sheets c.self.inside.passed c.self.invariant.none_passed);
       numbered = rw whole (numbered_corrected c.args.class c.args.sheet c.args.nav sheets c.self.invariant.numbered);
+      in_order = λ on. rw whole (falls_corrected c.args.class c.args.sheet c.args.nav sheets (c.self.invariant.in_order on));
     }

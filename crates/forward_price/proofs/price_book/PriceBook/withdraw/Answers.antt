@@ -1,7 +1,7 @@
 use Rattle.std.proofs.Common.{arith}
 use Rattle.std.proofs.lemmas.Grind.{common_steps}
 use Rattle.forward_price.proofs.NumberFacts.{numbered_less}
-use Rattle.forward_price.proofs.RoomFacts.{last_length-append}
+use Rattle.forward_price.proofs.SearchFacts.{falls_taken}
 use Rattle.forward_price.proofs.TurnFacts.{none_passed}
 use Rattle.forward_price.proofs.price_book.PriceBook.withdraw.Goals as goal
 
@@ -14,6 +14,7 @@ invariant_of-self c = record {
   sheet_fits = λ some. grind (arith, common_steps);
   none_passed = none_passed _ _ _;
   numbered = rw c.in-Some.ensures.rest (numbered_less c.self.inside.sheets.items _ c.self.invariant.numbered);
+  in_order = λ on. rw c.in-Some.ensures.rest (falls_taken _ c.self.inside.sheets.items (c.self.invariant.in_order on));
 }
 
 pub invariant_of-self-in-None : goal.invariant_of-self-in-None
@@ -25,4 +26,5 @@ invariant_of-self-in-None c = record {
   sheet_fits = λ some. omega arith;
   none_passed = none_passed _ _ _;
   numbered = rw c.pop.ensures.rest (numbered_less c.self.inside.sheets.items _ c.self.invariant.numbered);
+  in_order = λ on. rw c.pop.ensures.rest (falls_taken _ c.self.inside.sheets.items (c.self.invariant.in_order on));
 }

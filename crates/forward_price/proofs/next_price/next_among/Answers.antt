@@ -2,7 +2,7 @@ use Rattle.std.proofs.Common.{fold, take, ap, ◌∙◌, None, arith, to_z-of_z}
 use Rattle.std.proofs.lemmas.List.{take_all}
 use Rattle.forward_price.specs.Choices.{considered}
 use Rattle.forward_price.specs.PriceTables.{prices_order, is_earlier, next_sheet}
-use Rattle.forward_price.proofs.next_price.next_sheet.Goals as goal
+use Rattle.forward_price.proofs.next_price.next_among.Goals as goal
 
 pub returns : goal.returns
 returns c =

@@ -2,7 +2,7 @@ use Rattle.std.proofs.Common.{◌≡◌, fold, take, None}
 use Rattle.std.specs.Option.{option_copied}
 use Rattle.forward_price.specs.Choices.{considered}
 use Rattle.forward_price.specs.PriceTables.{is_before, is_later}
-use Rattle.forward_price.proofs.next_price.sheet_before.Given as goal
+use Rattle.forward_price.proofs.next_price.last_among.Given as goal
 
 abbrev pub invariant-loop-sheet : goal.invariant-loop-sheet
 invariant-loop-sheet l =
