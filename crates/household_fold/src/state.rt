@@ -114,6 +114,17 @@ impl HouseholdState {
         ))
     }
 
+    /// The state once more: one allocation for each position.
+    pub fn copied(&self, alloc: Global) -> Result<HouseholdState, NoMemory>
+        ensures { IfOk result (λ copy. copy ≡ self.now) }
+    {
+        let register = self.register.copied(alloc)?;
+        Ok(HouseholdState {
+            household: self.household,
+            register,
+        })
+    }
+
     /// Whether there is no order, no payment and no letter that ends on the sheet of the facts; `advance` then changes nothing.
     pub fn is_quiet(&self, facts: &Facts, orders: &[Order]) -> bool
         requires { FactsFit facts.now }
