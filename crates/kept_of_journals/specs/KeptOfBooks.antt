@@ -1,0 +1,77 @@
+-- What the states kept of households are to a book: what each household came to behind a sheet of its replay.
+use Rattle.std.specs.Prelude.{All, List, false, length, take, ℕ, ◌<◌, ◌≡◌, ◌≤◌}
+use Rattle.agent_events.specs.Events.{Event}
+use Rattle.agent_events.specs.declared.event.EventKind.{EventKind}
+use Rattle.agent_events.specs.declared.request.FixPriceForm.{FixPriceForm}
+use Rattle.event_laws.specs.EventReplays.{is_correction}
+use Rattle.kept_states.specs.KeptStates.{states_in}
+use Rattle.kept_states.specs.declared.states.HouseholdStates.{HouseholdStates}
+use Rattle.kept_states.specs.declared.states.KeptState.{KeptState}
+use Rattle.register_laws.specs.CorrectionReach.{EventReach, IsListedOn, LeavesPart}
+use Rattle.register_laws.specs.Households.{part_of}
+use Rattle.register_laws.specs.Lawful.{book_behind}
+use Rattle.register_machine.specs.journal.Journals.{Journal, with_event}
+use Rattle.register_machine.specs.journal.Lawful.{IsLawful}
+use Rattle.register_machine.specs.pricing.CorrectedBook.{Book}
+use Rattle.register_machine.specs.replay.Replay.{replay, replay_to}
+use Rattle.register_machine.specs.replay.Trades.{Day}
+
+-- the part of a household behind so many sheets of a book
+abbrev pub part_to : Book → ℕ → ℕ → Day
+part_to book household sheet = part_of book.accounts household (replay_to book sheet)
+
+-- A kept state is what a household came to behind its sheet, which is one of the book or 0.
+pub record IsAsOf (book : Book) (household : ℕ) (kept : KeptState) : Type 0 where
+  pub published : kept.sheet ≤ length book.table.sheets
+  pub own : kept.state.number ≡ household
+  pub register : kept.state.register ≡ (part_to book household kept.sheet).register
+  pub counted : kept.trades ≡ length (part_to book household kept.sheet).trades
+
+-- so is each one of each household
+abbrev pub AreKeptOf : Book → List (ℕ × HouseholdStates) → Type 0
+AreKeptOf book rows = (household : ℕ) → All (IsAsOf book household) (states_in rows household)
+
+-- ---- What is kept, and what leaves it so.
+
+-- Behind the last sheet a household came to its part of the whole replay.
+pub record IsLast (book : Book) (household : ℕ) (kept : KeptState) : Type 0 where
+  pub sheet : kept.sheet ≡ length book.table.sheets
+  pub own : kept.state.number ≡ household
+  pub register : kept.state.register ≡ (part_of book.accounts household (replay book)).register
+  pub counted : kept.trades ≡ length (part_of book.accounts household (replay book)).trades
+
+abbrev pub LastIsAsOf : Book → ℕ → KeptState → Type 0
+LastIsAsOf book household kept = IsLast book household kept → IsAsOf book household kept
+
+-- An event that is no correction leaves them.
+abbrev pub LawfulLeavesKept : Journal → Event → List (ℕ × HouseholdStates) → Type 0
+LawfulLeavesKept journal event rows =
+    IsLawful (with_event journal event) → is_correction event.kind ≡ false
+    → AreKeptOf (book_behind journal) rows → AreKeptOf (book_behind (with_event journal event)) rows
+
+-- two books of the same accounts and as many sheets
+pub record AreLikeLong (before after : Book) : Type 0 where
+  pub accounts : after.accounts ≡ before.accounts
+  pub sheets : length after.table.sheets ≡ length before.table.sheets
+
+abbrev pub LeftIsAsOf : Book → Book → ℕ → KeptState → Type 0
+LeftIsAsOf before after household kept =
+    AreLikeLong before after → LeavesPart before after household
+    → IsAsOf before household kept → IsAsOf after household kept
+
+-- A corrected price on the sheet of this number leaves those behind sheets before it.
+abbrev pub PriceLeavesKept : Journal → Event → FixPriceForm → ℕ → ℕ → KeptState → Type 0
+PriceLeavesKept journal event form fixed household kept =
+    EventReach journal event → AreLikeLong (book_behind journal) (book_behind (with_event journal event))
+    → event.kind ≡ EventKind.FixPrice form → IsListedOn (book_behind journal) form.class form.moment fixed
+    → kept.sheet < fixed → IsAsOf (book_behind journal) household kept
+    → IsAsOf (book_behind (with_event journal event)) household kept
+
+-- ---- Where a replay goes on.
+
+-- The trades so far come first among all trades of the household.
+abbrev pub TradesLead : Book → ℕ → KeptState → Type 0
+TradesLead book household kept =
+    IsAsOf book household kept
+    → take kept.trades (part_of book.accounts household (replay book)).trades
+    ≡ (part_to book household kept.sheet).trades

@@ -1,0 +1,15 @@
+-- The states that are kept of a household: where they are looked up, and when one more is due.
+use Rattle.std.specs.Map.{lookup}
+use Rattle.std.specs.Option.{option_map_or}
+use Rattle.std.specs.Prelude.{Bool, List, [], length, nat_eq, nat_le, slice_get, true, ℕ, ◌+◌, ◌-◌}
+use Rattle.kept_states.specs.declared.states.HouseholdStates.{HouseholdStates}
+use Rattle.kept_states.specs.declared.states.KeptState.{KeptState}
+
+-- those of a household, by its number
+abbrev pub states_in : List (ℕ × HouseholdStates) → ℕ → List KeptState
+states_in rows household = option_map_or (λ (own : HouseholdStates). own.states.items) (lookup (nat_eq household) rows) []
+
+-- one more is due behind a sheet where the last one is 16 sheets older, or there is none
+abbrev pub is_due : List KeptState → ℕ → Bool
+is_due states sheet =
+    option_map_or (λ (last : KeptState). nat_le (last.sheet + 16) sheet) (slice_get states (length states - 1)) true

@@ -1,0 +1,2 @@
+-- the states that are kept of a household
+pub mod KeptStates

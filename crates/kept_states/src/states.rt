@@ -1,0 +1,150 @@
+//! The states that are kept of each household.
+ghost use Rattle.std.specs.Prelude.{◌≡◌, ◌<◌, ◌≤◌, ◌+◌, ◌⊎◌, ℕ, [], All, Contains, IfOk, IfSome, false, nat_eq, nat_le};
+ghost use Rattle.kept_states.specs.KeptStates.{is_due, states_in};
+
+use household_fold::HouseholdState;
+use money_units::NoMemory;
+use std::alloc::Global;
+use std::collections::HashMap;
+use std::marker::Model;
+
+/// What a household came to behind a sheet: its positions, and how many trades it had by then.
+#[derive(Drop)]
+pub struct KeptState {
+    pub sheet: u32,
+    pub state: HouseholdState,
+    pub trades: usize,
+}
+
+/// The states that are kept of one household, by rising sheet.
+#[derive(Drop)]
+pub struct HouseholdStates {
+    pub states: Vec<KeptState>,
+}
+
+/// So many sheets at least lie between two states of a household.
+const SHEETS_BETWEEN: u32 = 16;
+
+/// So many states at most are kept of a household: the first one, and the last ones.
+const MOST_STATES: usize = 4;
+
+/// The states that are kept of each household, which contracts see by their households.
+#[derive(Drop)]
+pub struct KeptStates {
+    alloc: Global,
+    rows: HashMap<u32, HouseholdStates>,
+}
+
+impl Model for KeptStates {
+    ghost use Rattle.std.specs.Prelude.{ℕ, List};
+    ghost use Rattle.kept_states.specs.declared.states.HouseholdStates.{HouseholdStates};
+
+    ghost Value = { List (ℕ × HouseholdStates) };
+
+    ghost view = { λ kept. kept.rows.entries };
+}
+
+impl KeptStates {
+    /// No state of any household.
+    pub fn new(alloc: Global) -> KeptStates
+        ensures { result ≡ [] }
+    {
+        KeptStates {
+            alloc,
+            rows: HashMap::new(alloc),
+        }
+    }
+
+    /// The last state of a household behind a sheet before this one; `None` where none is kept. It costs a look at the few
+    /// states of the household.
+    pub fn before(&self, household: u32, sheet: u32) -> Option<&KeptState>
+        ensures { IfSome result (λ kept. Contains (states_in self.now household) kept.now
+            × (kept.now.sheet < sheet)) }
+    {
+        match self.rows.get(&household) {
+            Some(own) => last_before(&own.states, sheet),
+            None => None,
+        }
+    }
+
+    /// Whether the last state of a household is so old, or missing, that one behind this sheet is to be kept.
+    pub fn is_due(&self, household: u32, sheet: u32) -> bool
+        ensures { result ≡ is_due (states_in self.now household) sheet }
+    {
+        match self.rows.get(&household) {
+            Some(own) => is_due(&own.states, sheet),
+            None => true,
+        }
+    }
+
+    /// Keeps one state more of a household, behind a later sheet than its others. Others of its states may be forgotten, and
+    /// after `NoMemory` all of them.
+    pub fn keep(&mut self, household: u32, state: KeptState) -> Result<(), NoMemory>
+        ensures own { All (λ kept. Contains (states_in self.old household) kept ⊎ (kept ≡ state))
+            (states_in self.new household) }
+        ensures others { (other : ℕ) → nat_eq household other ≡ false
+            → states_in self.new other ≡ states_in self.old other }
+    {
+        let states = match self.rows.remove(&household) {
+            Some(own) => own.states,
+            None => Vec::new(self.alloc),
+        };
+        let states = with_one_more(states, state)?;
+        self.rows.insert(household, HouseholdStates { states })?;
+        Ok(())
+    }
+
+    /// Forgets the states of a household behind this sheet and later ones.
+    pub fn forget_from(&mut self, household: u32, sheet: u32)
+        ensures own { All (λ kept. Contains (states_in self.old household) kept
+            × (kept.sheet < sheet)) (states_in self.new household) }
+        ensures others { (other : ℕ) → nat_eq household other ≡ false
+            → states_in self.new other ≡ states_in self.old other }
+    {
+        if let Some(own) = self.rows.get_mut(&household) {
+            keep_before(&mut own.states, sheet);
+        }
+    }
+}
+
+// The last of these states that is behind a sheet before this one.
+fn last_before(states: &[KeptState], sheet: u32) -> Option<&KeptState>
+    ensures { IfSome result (λ kept. Contains states.now kept.now × (kept.now.sheet < sheet)) }
+{
+    states.iter().rev().find(|kept| kept.sheet < sheet)
+}
+
+fn is_due(states: &[KeptState], sheet: u32) -> bool
+    ensures { result ≡ is_due states.now sheet }
+{
+    match states.last() {
+        Some(last) => is_far(last, sheet),
+        None => true,
+    }
+}
+
+fn is_far(last: &KeptState, sheet: u32) -> bool
+    ensures { result ≡ nat_le (last.now.sheet + 16) sheet }
+{
+    SHEETS_BETWEEN <= sheet && last.sheet <= sheet - SHEETS_BETWEEN
+}
+
+// These states and one more, without the second one where they are too many.
+fn with_one_more(states: Vec<KeptState>, state: KeptState) -> Result<Vec<KeptState>, NoMemory>
+    ensures { IfOk result (λ more. All
+        (λ kept. Contains states.items kept ⊎ (kept ≡ state)) more.items) }
+{
+    let mut states = states;
+    if MOST_STATES <= states.len() {
+        let _second = states.remove(1);
+    }
+    states.push(state)?;
+    Ok(states)
+}
+
+// Leaves the states behind the sheets before this one.
+fn keep_before(states: &mut Vec<KeptState>, sheet: u32)
+    ensures { All (λ kept. Contains states.old.items kept × (kept.sheet < sheet)) states.new.items }
+{
+    states.retain(|kept| kept.sheet < sheet);
+}
