@@ -1,0 +1,116 @@
+-- Kept states are what the households came to, and which events and corrections leave them so.
+use Rattle.std.proofs.Common.{List, [], ap, arith, false, length, refl, subst, sym, take, ℕ, ◌∙◌, ◌∷◌, ◌≡◌, ◌≤◌}
+use Rattle.std.proofs.Math.Seq.{take-length}
+use Rattle.std.proofs.lemmas.Bool.{true≢false}
+use Rattle.std.proofs.lemmas.List.{length-append}
+use Rattle.std.proofs.lemmas.List.Elements.{All-nil, All-weaker}
+use Rattle.agent_events.specs.Events.{Event}
+use Rattle.agent_events.specs.declared.event.EventKind.{EventKind}
+use Rattle.agent_events.specs.declared.request.FixPriceForm.{FixPriceForm}
+use Rattle.agent_events.specs.declared.request.SheetForm.{SheetForm}
+use Rattle.event_laws.proofs.EventReplays.{adds_sheet, leaves_replay}
+use Rattle.event_laws.proofs.PartsStay.{same_parts}
+use Rattle.event_laws.specs.EventReplays.{is_correction, is_sheet, sheet_behind}
+use Rattle.kept_of_journals.specs.KeptOfBooks.{AreKeptOf, IsAsOf, LastIsAsOf, LawfulLeavesKept, LeftIsAsOf, PriceLeavesKept, part_to}
+use Rattle.kept_states.specs.KeptStates.{states_in}
+use Rattle.kept_states.specs.declared.states.HouseholdStates.{HouseholdStates}
+use Rattle.kept_states.specs.declared.states.KeptState.{KeptState}
+use Rattle.register_laws.proofs.BooksGoOn.{book_goes_on}
+use Rattle.register_laws.proofs.NothingBefore.{last-brought}
+use Rattle.register_laws.specs.Households.{part_of}
+use Rattle.register_laws.specs.Lawful.{book_behind}
+use Rattle.register_laws.specs.OneEventMore.{book_after}
+use Rattle.register_machine.specs.journal.Journals.{Journal, with_event}
+use Rattle.register_machine.specs.journal.Kinds.{accounts_of}
+use Rattle.register_machine.specs.journal.Lawful.{IsLawful}
+use Rattle.register_machine.specs.pricing.CorrectedBook.{Book}
+use Rattle.register_machine.specs.replay.Replay.{replay, replay_over, replay_to}
+use Rattle.register_machine.specs.replay.Trades.{Day}
+
+pub none_kept : (book : Book) → AreKeptOf book []
+none_kept book household = All-nil (IsAsOf book household)
+
+-- the replay up to the last sheet is the whole replay
+last-whole : (book : Book) → replay_to book (length book.table.sheets) ≡ replay book
+unfolding replay
+last-whole book = ap (replay_over book) (take-length book.table.sheets)
+
+pub last_is_as_of : (book : Book) (household : ℕ) (kept : KeptState) → LastIsAsOf book household kept
+last_is_as_of book household kept is =
+    let whole : part_to book household kept.sheet ≡ part_of book.accounts household (replay book) =
+    ap (part_to book household) is.sheet ∙ ap (part_of book.accounts household) (last-whole book) in
+    record {
+      published = omega (arith, is.sheet);
+      own = is.own;
+      register = is.register ∙ sym (ap (λ (day : Day). day.register) whole);
+      counted = is.counted ∙ sym (ap (λ (day : Day). length day.trades) whole);
+    }
+
+-- ---- What leaves a kept state.
+
+-- a household's part behind its sheet is the same in another book, and the sheet is one of it
+same-part : (before after : Book) (household : ℕ) (kept : KeptState) → kept.sheet ≤ length after.table.sheets → part_to after household kept.sheet ≡ part_to before household kept.sheet → IsAsOf before household kept → IsAsOf after household kept
+same-part before after household kept within same is = record {
+  published = within;
+  own = is.own;
+  register = is.register ∙ sym (ap (λ (day : Day). day.register) same);
+  counted = is.counted ∙ sym (ap (λ (day : Day). length day.trades) same);
+}
+
+pub left_is_as_of : (before after : Book) (household : ℕ) (kept : KeptState) → LeftIsAsOf before after household kept
+left_is_as_of before after household kept like leaves is =
+    same-part before after household kept (omega (arith, like.sheets, is.published))
+    (ap (λ accounts. part_of accounts household (replay_to after kept.sheet)) like.accounts ∙ leaves.up_to kept.sheet) is
+
+pub price_leaves : (journal : Journal) (event : Event) (form : FixPriceForm) (fixed household : ℕ) (kept : KeptState) → PriceLeavesKept journal event form fixed household kept
+price_leaves journal event form fixed household kept reach like kind listed earlier is =
+    let before = book_behind journal in
+    let after = book_behind (with_event journal event) in
+    same-part before after household kept (omega (arith, like.sheets, is.published))
+    (ap (λ accounts. part_of accounts household (replay_to after kept.sheet)) like.accounts
+    ∙ ap (part_of before.accounts household) (reach.price_numbered form kind fixed listed kept.sheet earlier)) is
+
+-- ---- What an event that is no correction leaves.
+
+-- one that is no sheet leaves the published sheets
+sheets-stay : (journal : Journal) (event : Event) → IsLawful (with_event journal event) → is_correction event.kind ≡ false → is_sheet event.kind ≡ false → (book_behind (with_event journal event)).table.sheets ≡ (book_behind journal).table.sheets
+sheets-stay journal event lawful plain other = ap (λ (book : Book). book.table.sheets) (book_goes_on journal event lawful) ∙ by event.kind plain other
+  where
+    by : (kind : EventKind) → is_correction kind ≡ false → is_sheet kind ≡ false → (book_after (length journal) (book_behind journal) event.moment kind).table.sheets ≡ (book_behind journal).table.sheets
+    by (EventKind.Sheet form) plain other = absurd (true≢false other)
+    by (EventKind.FixPrice form) plain other = absurd (true≢false plain)
+    by (EventKind.Calendar form) plain other = refl
+    by (EventKind.Close form) plain other = refl
+    by (EventKind.Class form) plain other = refl
+    by _ plain other = refl
+
+module _ (journal : Journal) (event : Event) (lawful : IsLawful (with_event journal event)) (plain : is_correction event.kind ≡ false) (household : ℕ) (kept : KeptState) (is : IsAsOf (book_behind journal) household kept) where
+  -- where the replay up to its sheet stays, the state does: an account that is opened is of nobody's part yet
+  stays : kept.sheet ≤ length (book_behind (with_event journal event)).table.sheets → replay_to (book_behind (with_event journal event)) kept.sheet ≡ replay_to (book_behind journal) kept.sheet → IsAsOf (book_behind (with_event journal event)) household kept
+  stays within same =
+      same-part (book_behind journal) (book_behind (with_event journal event)) household kept within
+      (ap (part_of (accounts_of (with_event journal event)) household) same
+      ∙ same_parts journal event (last-brought journal event lawful).0 (take kept.sheet (book_behind journal).table.sheets) household) is
+
+  behind-sheet : (form : SheetForm) → event.kind ≡ EventKind.Sheet form → IsAsOf (book_behind (with_event journal event)) household kept
+  behind-sheet form kind =
+      let adds = adds_sheet journal event lawful form kind in
+      let more = ap length adds.sheets ∙ length-append (book_behind journal).table.sheets (sheet_behind journal form ∷ []) in
+      stays (omega (arith, more, is.published)) (adds.up_to kept.sheet is.published)
+
+  behind-other : is_sheet event.kind ≡ false → IsAsOf (book_behind (with_event journal event)) household kept
+  behind-other other =
+      let many = ap length (sheets-stay journal event lawful plain other) in
+      stays (omega (arith, many, is.published)) (sym ((leaves_replay journal event lawful plain other).0.up_to kept.sheet))
+
+  behind-event : IsAsOf (book_behind (with_event journal event)) household kept
+  behind-event = by event.kind refl
+    where
+      by : (kind : EventKind) → event.kind ≡ kind → IsAsOf (book_behind (with_event journal event)) household kept
+      by (EventKind.Sheet form) same = behind-sheet form same
+      by kind same = behind-other (subst (λ k. is_sheet k ≡ false) (sym same) refl)
+
+pub lawful_leaves : (journal : Journal) (event : Event) (rows : List (ℕ × HouseholdStates)) → LawfulLeavesKept journal event rows
+lawful_leaves journal event rows lawful plain are household =
+    All-weaker (IsAsOf (book_behind journal) household) (IsAsOf (book_behind (with_event journal event)) household)
+    (λ kept is. behind-event journal event lawful plain household kept is) (states_in rows household) (are household)
