@@ -1,5 +1,5 @@
 //! The states that are kept of each household.
-ghost use Rattle.std.specs.Prelude.{◌≡◌, ◌<◌, ◌≤◌, ◌+◌, ◌⊎◌, ℕ, [], All, Contains, IfOk, IfSome, false, nat_eq, nat_le};
+ghost use Rattle.std.specs.Prelude.{◌≡◌, ◌<◌, ◌≤◌, ◌+◌, ◌⊎◌, ℕ, [], All, Contains, IfOk, IfSome, OnErr, OnOk, false, filter, nat_eq, nat_le, nat_lt};
 ghost use Rattle.kept_states.specs.KeptStates.{is_due, states_in};
 
 use household_fold::HouseholdState;
@@ -85,19 +85,17 @@ impl KeptStates {
         ensures others { (other : ℕ) → nat_eq household other ≡ false
             → states_in self.new other ≡ states_in self.old other }
     {
-        let states = match self.rows.remove(&household) {
-            Some(own) => own.states,
-            None => Vec::new(self.alloc),
-        };
-        let states = with_one_more(states, state)?;
-        self.rows.insert(household, HouseholdStates { states })?;
-        Ok(())
+        let states = taken(&mut self.rows, self.alloc, household);
+        match with_one_more(states, state) {
+            Ok(states) => put(&mut self.rows, household, states),
+            Err(fault) => Err(fault),
+        }
     }
 
     /// Forgets the states of a household behind this sheet and later ones.
     pub fn forget_from(&mut self, household: u32, sheet: u32)
-        ensures own { All (λ kept. Contains (states_in self.old household) kept
-            × (kept.sheet < sheet)) (states_in self.new household) }
+        ensures own { states_in self.new household
+            ≡ filter (λ kept. nat_lt kept.sheet sheet) (states_in self.old household) }
         ensures others { (other : ℕ) → nat_eq household other ≡ false
             → states_in self.new other ≡ states_in self.old other }
     {
@@ -129,22 +127,59 @@ fn is_far(last: &KeptState, sheet: u32) -> bool
     SHEETS_BETWEEN <= sheet && last.sheet <= sheet - SHEETS_BETWEEN
 }
 
-// These states and one more, without the second one where they are too many.
-fn with_one_more(states: Vec<KeptState>, state: KeptState) -> Result<Vec<KeptState>, NoMemory>
-    ensures { IfOk result (λ more. All
-        (λ kept. Contains states.items kept ⊎ (kept ≡ state)) more.items) }
+// Takes the states of a household out.
+fn taken(rows: &mut HashMap<u32, HouseholdStates>, alloc: Global, household: u32) -> Vec<KeptState>
+    ensures states { result.items ≡ states_in rows.old.entries household }
+    ensures own { states_in rows.new.entries household ≡ [] }
+    ensures others { (other : ℕ) → nat_eq household other ≡ false
+        → states_in rows.new.entries other ≡ states_in rows.old.entries other }
+{
+    match rows.remove(&household) {
+        Some(own) => own.states,
+        None => Vec::new(alloc),
+    }
+}
+
+// Puts states of a household in the place of those that are there; after `NoMemory` those stay.
+fn put(
+    rows: &mut HashMap<u32, HouseholdStates>,
+    household: u32,
+    states: Vec<KeptState>,
+) -> Result<(), NoMemory>
+    ensures ok { OnOk result (states_in rows.new.entries household ≡ states.items) }
+    ensures err { OnErr result (states_in rows.new.entries household
+        ≡ states_in rows.old.entries household) }
+    ensures others { (other : ℕ) → nat_eq household other ≡ false
+        → states_in rows.new.entries other ≡ states_in rows.old.entries other }
+{
+    rows.insert(household, HouseholdStates { states })?;
+    Ok(())
+}
+
+// These states, without the second one where there is no place for one more.
+fn thinned(states: Vec<KeptState>) -> Vec<KeptState>
+    ensures { All (Contains states.items) result.items }
 {
     let mut states = states;
     if MOST_STATES <= states.len() {
         let _second = states.remove(1);
     }
+    states
+}
+
+// So many of these states as have a place beside one more, and that one.
+fn with_one_more(states: Vec<KeptState>, state: KeptState) -> Result<Vec<KeptState>, NoMemory>
+    ensures { IfOk result (λ more. All
+        (λ kept. Contains states.items kept ⊎ (kept ≡ state)) more.items) }
+{
+    let mut states = thinned(states);
     states.push(state)?;
     Ok(states)
 }
 
 // Leaves the states behind the sheets before this one.
 fn keep_before(states: &mut Vec<KeptState>, sheet: u32)
-    ensures { All (λ kept. Contains states.old.items kept × (kept.sheet < sheet)) states.new.items }
+    ensures { states.new.items ≡ filter (λ kept. nat_lt kept.sheet sheet) states.old.items }
 {
     states.retain(|kept| kept.sheet < sheet);
 }
