@@ -2,53 +2,82 @@
 use Rattle.agent_events.specs.declared.trade.Trade.{Trade}
 use Rattle.checkpoint_replay.specs.Moves.{AreMoves, day_after_move, day_if_moved, part_after}
 use Rattle.checkpoint_replay.specs.Parts.{first_day, part_in}
-use Rattle.checkpoint_replay.specs.Reopenings.{day_by_replay, move_by_replay}
+use Rattle.checkpoint_replay.specs.Reopenings.{IsReplayedTo, move_by_replay}
 use Rattle.checkpoint_replay.specs.declared.change.HouseholdMove.{HouseholdMove}
 use Rattle.checkpoint_replay.specs.declared.part.HouseholdPart.{HouseholdPart}
 use Rattle.checkpoint_replay.specs.declared.reopening.ReplayStart.{ReplayStart}
 use Rattle.household_fold.specs.Facts.{Known}
-use Rattle.household_fold.specs.Households.{Household, first_of}
+use Rattle.household_fold.specs.Households.{first_of}
+use Rattle.household_fold.specs.Numbers.{AreNumbersWithin}
+use Rattle.household_replay.proofs.DayFacts.{days_from, days_split}
+use Rattle.household_replay.proofs.PremiseFacts.{can_part}
 use Rattle.household_replay.specs.Premises.{CanBeReplayed}
+use Rattle.register_machine.specs.replay.Positions.{Register}
+use Rattle.register_machine.specs.replay.Trades.{Day}
 use Rattle.household_replay.specs.Replays.{NumberedOrder, days_behind}
 use Rattle.std.proofs.lemmas.List.Elements.{All-from_recursion}
 use Rattle.std.proofs.lemmas.Map.Keys.{IsDistinct-cons}
 use Rattle.std.specs.List.{IsDistinct}
-use Rattle.std.proofs.Common.{List, [], ap, arith, cond, eq-eqb, false, fold, nat_eq, refl, subst, sym, take, ℕ, ◌++◌, ◌-◌, ◌∙◌, ◌∷◌, ◌≡◌}
+use Rattle.std.proofs.Common.{List, [], ap, arith, cond, eq-eqb, false, fold, nat_eq, refl, subst, sym, take, ℕ, ◌+◌, ◌-◌, ◌∙◌, ◌∷◌, ◌≡◌, ◌≤◌}
 
--- the start of a household before all sheets
-abbrev pub start_of : ℕ → Household → ReplayStart
-start_of household state = record { household = household; state = state; sheet = 0; kept = 0 }
+-- a replay as far as a sheet and then over the others is one over all of them
+goes-on : (known : Known) (rows : List NumberedOrder) (from : ℕ) (day : Day) → from ≤ known.sheet → day ≡ days_behind known rows 0 from first_day → days_behind known rows from (known.sheet - from) day ≡ days_behind known rows 0 known.sheet first_day
+goes-on known rows from day before is =
+    let all : from + (known.sheet - from) ≡ known.sheet = omega (arith, before) in
+    ap (days_behind known rows from (known.sheet - from)) is
+    ∙ (ap (λ n. days_behind known rows n (known.sheet - from) (days_behind known rows 0 from first_day)) (let none : from ≡ 0 + from = omega arith in none)
+    ∙ sym (days_split known rows 0 from (known.sheet - from) first_day)
+    ∙ ap (λ count. days_behind known rows 0 count first_day) all)
+
+-- the day that a move by a replay leaves
+moved-day : (known : Known) (rows : List NumberedOrder) (start : ReplayStart) (day : Day) → start.sheet ≤ known.sheet → IsReplayedTo known rows start day.trades → day_after_move day (move_by_replay known rows start) ≡ days_behind known rows 0 known.sheet first_day
+moved-day known rows start day before is =
+    let first : Day = record { register = start.state.register; trades = take start.kept day.trades } in
+    sym (days_from known rows start.sheet (known.sheet - start.sheet) first)
+    ∙ goes-on known rows start.sheet first before is
+
+pub reopened-day : (known : Known) (rows : List NumberedOrder) (parts : List (ℕ × HouseholdPart)) (start : ReplayStart) → start.sheet ≤ known.sheet → IsReplayedTo known rows start (part_in parts start.household).trades → (moves : List HouseholdMove) → moves ≡ move_by_replay known rows start ∷ [] → part_after moves parts start.household ≡ days_behind known rows 0 known.sheet first_day
+reopened-day known rows parts start before known_so moves is =
+    let move = move_by_replay known rows start in
+    let day = part_in parts start.household in
+    ap (λ (ms : List HouseholdMove). fold (day_if_moved start.household) day ms) is
+    ∙ (ap (λ b. cond b (day_after_move day move) day) (eq-eqb start.household start.household refl)
+    ∙ moved-day known rows start day before known_so)
+
+pub others-stay : (known : Known) (rows : List NumberedOrder) (parts : List (ℕ × HouseholdPart)) (start : ReplayStart) (moves : List HouseholdMove) → moves ≡ move_by_replay known rows start ∷ [] → (other : ℕ) → nat_eq other start.household ≡ false → part_after moves parts other ≡ part_in parts other
+others-stay known rows parts start moves is other apart =
+    ap (λ (ms : List HouseholdMove). fold (day_if_moved other) (part_in parts other) ms) is
+    ∙ ap (λ b. cond b (day_after_move (part_in parts other) (move_by_replay known rows start)) (part_in parts other)) apart
+
+-- what can be replayed from a day can be from its register
+from-register : (known : Known) (rows : List NumberedOrder) (household from count : ℕ) (day : Day) → CanBeReplayed known household rows from count day → CanBeReplayed known household rows from count (first_of day.register)
+from-register known rows household from count day can = record {
+  facts = can.facts;
+  orders = can.orders;
+  owned = can.owned;
+  lots = subst (λ (after : Day). AreNumbersWithin after.register) (days_from known rows from count day) can.lots;
+}
+
+-- what can be replayed from the first sheet on can be from this one on
+pub ready-behind : (known : Known) (rows : List NumberedOrder) (start : ReplayStart) (trades : List Trade) → start.sheet ≤ known.sheet → IsReplayedTo known rows start trades → CanBeReplayed known start.household rows 0 known.sheet first_day → CanBeReplayed known start.household rows start.sheet (known.sheet - start.sheet) (first_of start.state.register)
+ready-behind known rows start trades before is ready =
+    let rest = known.sheet - start.sheet in
+    let all : start.sheet + rest ≡ known.sheet = omega (arith, before) in
+    let none : 0 + start.sheet ≡ start.sheet = omega arith in
+    let parted = subst (λ n. CanBeReplayed known start.household rows n rest (days_behind known rows 0 start.sheet first_day)) none (can_part known start.household rows 0 start.sheet rest first_day (subst (λ count. CanBeReplayed known start.household rows 0 count first_day) (sym all) ready)) in
+    from-register known rows start.household start.sheet rest (record { register = start.state.register; trades = take start.kept trades })
+    (subst (CanBeReplayed known start.household rows start.sheet rest) (sym is) parted)
 
 none-stays : (xs : List Trade) → take 0 xs ≡ []
 none-stays [] = refl
 none-stays (x ∷ xs) = refl
 
-whole : (number : ℕ) → number - 0 ≡ number
-whole number = omega arith
-
-replayed : (known : Known) (rows : List NumberedOrder) (household : ℕ) (state : Household) → state ≡ record { number = household; register = [] } → day_by_replay known rows (start_of household state) ≡ days_behind known rows 0 known.sheet first_day
-replayed known rows household state fresh =
-    ap (λ (s : Household). days_behind known rows 0 (known.sheet - 0) (first_of s.register)) fresh
-    ∙ ap (λ count. days_behind known rows 0 count first_day) (whole known.sheet)
-
-pub reopened-day : (known : Known) (rows : List NumberedOrder) (parts : List (ℕ × HouseholdPart)) (household : ℕ) (state : Household) → state ≡ record { number = household; register = [] } → (moves : List HouseholdMove) → moves ≡ move_by_replay known rows (start_of household state) ∷ [] → part_after moves parts household ≡ days_behind known rows 0 known.sheet first_day
-reopened-day known rows parts household state fresh moves is =
-    let move = move_by_replay known rows (start_of household state) in
-    let day = day_by_replay known rows (start_of household state) in
-    ap (λ (ms : List HouseholdMove). fold (day_if_moved household) (part_in parts household) ms) is
-    ∙ (ap (λ b. cond b (day_after_move (part_in parts household) move) (part_in parts household)) (eq-eqb household household refl)
-    ∙ (ap (λ (xs : List Trade). record { register = day.register; trades = xs ++ day.trades }) (none-stays (part_in parts household).trades)
-    ∙ replayed known rows household state fresh))
-
-pub others-stay : (known : Known) (rows : List NumberedOrder) (parts : List (ℕ × HouseholdPart)) (household : ℕ) (state : Household) (moves : List HouseholdMove) → moves ≡ move_by_replay known rows (start_of household state) ∷ [] → (other : ℕ) → nat_eq other household ≡ false → part_after moves parts other ≡ part_in parts other
-others-stay known rows parts household state moves is other apart =
-    ap (λ (ms : List HouseholdMove). fold (day_if_moved other) (part_in parts other) ms) is
-    ∙ ap (λ b. cond b (day_after_move (part_in parts other) (move_by_replay known rows (start_of household state))) (part_in parts other)) apart
-
-pub ready-from_first : (known : Known) (rows : List NumberedOrder) (household : ℕ) (state : Household) → state ≡ record { number = household; register = [] } → CanBeReplayed known household rows 0 known.sheet first_day → CanBeReplayed known household rows 0 (known.sheet - 0) (first_of state.register)
-ready-from_first known rows household state fresh ready =
-    subst (λ (s : Household). CanBeReplayed known household rows 0 (known.sheet - 0) (first_of s.register)) (sym fresh)
-    (subst (λ count. CanBeReplayed known household rows 0 count first_day) (sym (whole known.sheet)) ready)
+-- a start before all sheets
+pub starts-fresh : (known : Known) (rows : List NumberedOrder) (start : ReplayStart) (trades : List Trade) → start.sheet ≡ 0 → start.kept ≡ 0 → start.state.register ≡ [] → IsReplayedTo known rows start trades
+starts-fresh known rows start trades sheet kept register =
+    ap (λ (r : Register). record { register = r; trades = take start.kept trades }) register
+    ∙ (ap (λ (xs : List Trade). record { register = []; trades = xs }) (ap (λ n. take n trades) kept ∙ none-stays trades)
+    ∙ ap (λ n. days_behind known rows 0 n first_day) (sym sheet))
 
 nothing-apart : IsDistinct nat_eq []
 unfolding IsDistinct
