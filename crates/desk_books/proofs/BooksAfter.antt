@@ -17,6 +17,8 @@ use Rattle.forward_price.specs.PriceTables.{Table}
 use Rattle.journal_tables.proofs.EventTables.{tables_go_on}
 use Rattle.journal_tables.specs.Changes.{tables_with}
 use Rattle.journal_tables.specs.TablesOfJournals.{AreTablesOf}
+use Rattle.kept_of_journals.specs.KeptOfBooks.{AreKeptOf}
+use Rattle.register_laws.specs.Lawful.{book_behind}
 use Rattle.price_changes.proofs.LawfulChanges.{changes_prices}
 use Rattle.register_laws.proofs.OneEventMore.{gathers-on}
 use Rattle.register_laws.specs.OneEventMore.{corrected_table, corrected_table_by}
@@ -44,6 +46,7 @@ pub record IsApplied (books : DeskBooks) (change : EventChange) (after : DeskBoo
   pub waiting : after.orders.waiting
       ≡ waiting_after change.orders after.prices.table.sheets (orders_of after.book.journal) books.orders.owners books.orders.waiting
   pub posted : IsPosted (length books.book.journal) change.ledger books.ledger books.cash after.ledger after.cash
+  pub kept : after.kept ≡ books.kept
 
 -- It makes of the books of a journal those of the journal with the event.
 pub books_after : (books : DeskBooks) (change : EventChange) (after : DeskBooks) → AreBooksOf books.book.journal books → IsReady books change → IsApplied books change after → AreBooksOf (with_event books.book.journal change.event) after
@@ -58,6 +61,7 @@ books_after books change after are ready applied = record {
   tallied = ledger.tallied;
   installs = ledger.installs;
   cash = cash_after journal change.event change.ledger books.ledger after.ledger books.cash after.cash ready.follows ready.ledger applied.posted are.cash;
+  kept = subst (AreKeptOf (book_behind behind)) (sym applied.kept) ready.kept;
 }
   where
     journal : Journal

@@ -12,6 +12,8 @@ use Rattle.gain_loss_book.specs.Posted.{cash_held, gains_kept}
 use Rattle.journal_tables.proofs.EventTables.{none_yet}
 use Rattle.journal_tables.specs.Tables.{no_tables}
 use Rattle.journal_tables.specs.TablesOfJournals.{AreTablesOf}
+use Rattle.kept_of_journals.proofs.StatesStay.{none_kept}
+use Rattle.kept_of_journals.specs.KeptOfBooks.{AreKeptOf}
 use Rattle.ledger_of_journals.proofs.LedgersOfBooks.{empty_ledger}
 use Rattle.ledger_of_journals.specs.Ledgers.{IsLedgerOf}
 use Rattle.register_laws.specs.Lawful.{book_behind}
@@ -36,6 +38,7 @@ pub record AreEmpty (books : DeskBooks) : Type 0 where
   pub balances : (party : Party) → cash_held books.cash party ≡ pos 0
   pub gains : (place : ℕ) → gains_kept books.cash place ≡ None
   pub posts : books.cash.posts ≡ 0
+  pub kept : books.kept ≡ []
 
 empty-prices : empty_book.table ≡ corrected_table []
 unfolding table_behind
@@ -74,4 +77,5 @@ books_of_no_event books empty = record {
   tallied = empty.tallied;
   installs = omega (arith, empty.installs);
   cash = first-cash books empty;
+  kept = subst (AreKeptOf (book_behind [])) (sym empty.kept) (none_kept (book_behind []));
 }

@@ -6,6 +6,8 @@ pub mod IndexAfter
 pub mod LedgerAfter
 -- the cash book behind an event
 pub mod CashAfter
+-- the kept states behind an event
+pub mod KeptAfter
 -- the books behind an event
 pub mod BooksAfter
 -- what moves a ledger with more room

@@ -1,5 +1,5 @@
--- What the desk keeps of a journal: the book of orders, the tables by number, the prices, the index of orders, the ledger and
--- the cash book, each that of the journal.
+-- What the desk keeps of a journal: the book of orders, the tables by number, the prices, the index of orders, the ledger, the
+-- cash book and the kept states, each that of the journal.
 use Rattle.std.specs.Prelude.{None, Some, length, slice_get, take, ℕ, ◌≡◌, ◌≤◌}
 use Rattle.agent_events.specs.Events.{Event}
 use Rattle.agent_events.specs.declared.order.Party.{Party}
@@ -9,6 +9,7 @@ use Rattle.desk_looks.specs.EventReplies.{AreKeptFor}
 use Rattle.gain_loss_book.specs.Booked.{cash_booked}
 use Rattle.gain_loss_book.specs.Posted.{Books, cash_held, gains_kept}
 use Rattle.journal_tables.specs.TablesOfJournals.{AreTablesOf}
+use Rattle.kept_of_journals.specs.KeptOfBooks.{AreKeptOf}
 use Rattle.ledger_of_journals.specs.Ledgers.{IsLedgerOf}
 use Rattle.register_laws.specs.Lawful.{book_behind}
 use Rattle.register_laws.specs.OneEventMore.{corrected_table}
@@ -37,6 +38,7 @@ pub record AreBooksOf (journal : Journal) (books : DeskBooks) : Type 0 where
   pub tallied : IsTallied books.ledger
   pub installs : books.ledger.totals.cash.posts ≤ length journal
   pub cash : IsCashOf journal books.cash
+  pub kept : AreKeptOf (book_behind journal) books.kept
 
 -- Both are the books of the same journals: what one shows the other shows, whatever room there is in them.
 abbrev pub ShowTheSame : DeskBooks → DeskBooks → Type 0

@@ -7,7 +7,9 @@ use Rattle.desk_books.specs.declared.books.DeskBooks.{DeskBooks}
 use Rattle.desk_books.specs.declared.change.EventChange.{EventChange}
 use Rattle.journal_tables.specs.Changes.{CanTake, tables_with}
 use Rattle.journal_tables.specs.Tables.{IsInRange, tables_after}
+use Rattle.kept_of_journals.specs.KeptOfBooks.{AreKeptOf}
 use Rattle.price_changes.specs.Changes.{HasRoomFor as HasPriceRoom, listing_brought}
+use Rattle.register_laws.specs.Lawful.{book_behind}
 use Rattle.register_machine.specs.journal.Journals.{with_event}
 use Rattle.register_machine.specs.journal.Lawful.{IsLawful}
 
@@ -29,4 +31,5 @@ pub record IsReady (books : DeskBooks) (change : EventChange) : Type 0 where
   pub orders : ChangesOrders books.book.journal change.event.kind change.orders
   pub order_room : 1 ≤ books.orders.spare
   pub ledger : IsLedgerChange books.book.journal change.event books.ledger.parts change.ledger
+  pub kept : AreKeptOf (book_behind (with_event books.book.journal change.event)) books.kept
   pub ledger_room : HasRoomForLedger books.ledger books.cash change.ledger

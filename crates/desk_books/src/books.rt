@@ -7,12 +7,14 @@ use checkpoint_replay::Ledger;
 use forward_price::PriceBook;
 use gain_loss_book::CashBook;
 use journal_tables::JournalTables;
+use kept_states::KeptStates;
 use money_units::NoMemory;
 use order_intake::Book;
 use standing_orders::HouseholdOrders;
 use std::alloc::Global;
 
-/// The book of orders, the tables by number, the prices, the index of orders, the ledger and the cash book of one journal.
+/// The book of orders, the tables by number, the prices, the index of orders, the ledger, the cash book and the kept states of
+/// one journal.
 #[derive(Drop)]
 pub struct DeskBooks {
     pub book: Book,
@@ -21,6 +23,7 @@ pub struct DeskBooks {
     pub orders: HouseholdOrders,
     pub ledger: Ledger,
     pub cash: CashBook,
+    pub kept: KeptStates,
 }
 
 impl DeskBooks {
@@ -37,6 +40,7 @@ impl DeskBooks {
             orders: HouseholdOrders::new(alloc),
             ledger,
             cash: CashBook::new(alloc),
+            kept: KeptStates::new(alloc),
         })
     }
 }

@@ -1,8 +1,11 @@
 //! Makes what an event changes in the books, and room for it.
-ghost use Rattle.std.specs.Prelude.{◌≡◌, ◌≤◌, IfOk, OnOk};
+ghost use Rattle.std.specs.Prelude.{◌≡◌, ◌≤◌, IfOk, OnOk, true};
 ghost use Rattle.desk_books.specs.BooksOfJournals.{AreBooksOf, ShowTheSame};
 ghost use Rattle.desk_books.specs.LedgerChanges.{IsLedgerChange};
 ghost use Rattle.desk_books.specs.ReadyChanges.{HasItsMinute, IsReady};
+ghost use Rattle.event_laws.specs.EventReplays.{is_correction};
+ghost use Rattle.kept_of_journals.specs.KeptOfBooks.{AreKeptOf};
+ghost use Rattle.register_laws.specs.Lawful.{book_behind};
 ghost use Rattle.register_machine.specs.journal.Journals.{with_event};
 ghost use Rattle.register_machine.specs.journal.Lawful.{IsLawful};
 
@@ -18,7 +21,8 @@ use std::alloc::Global;
 
 impl DeskBooks {
     /// Makes what an event changes, which follows the journal, with room for it. `ledger` is what a sheet or a correction makes of
-    /// the ledger as it stands. The books show what they showed before, after `NoMemory` too.
+    /// the ledger as it stands, and behind a correction the kept states that remain are still what their households came to. The
+    /// books show what they showed before, after `NoMemory` too.
     pub fn prepare(
         &mut self,
         alloc: Global,
@@ -28,6 +32,8 @@ impl DeskBooks {
         requires books { AreBooksOf self.old.book.journal self.old }
         requires follows { IsLawful (with_event self.old.book.journal event) }
         requires ledger { IsLedgerChange self.old.book.journal event self.old.ledger.parts ledger }
+        requires kept { is_correction event.kind ≡ true
+            → AreKeptOf (book_behind (with_event self.old.book.journal event)) self.old.kept }
         ensures same { ShowTheSame self.old self.new }
         ensures journal { self.new.book.journal ≡ self.old.book.journal }
         ensures event { IfOk result (λ change. change.event ≡ event) }

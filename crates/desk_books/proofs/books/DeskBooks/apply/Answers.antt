@@ -1,4 +1,4 @@
-use Rattle.std.proofs.Common.{ap, subst, sym, ◌<◌, ◌∙◌}
+use Rattle.std.proofs.Common.{ap, refl, subst, sym, ◌<◌, ◌∙◌}
 use Rattle.desk_books.proofs.BooksAfter.{books_after}
 use Rattle.desk_books.proofs.IndexAfter.{is_within}
 use Rattle.desk_books.proofs.LedgerAfter.{can_post}
@@ -42,7 +42,7 @@ returns c =
     let books = c.args.self.now in
     let change = c.args.change in
     books_after books change
-    (record { book = c.note-2.new.self; tables = c.note.new.self; prices = c.apply.new.prices; orders = c.apply_orders.new.orders; ledger = c.post_ledger.new.ledger; cash = c.post_ledger.new.cash })
+    (record { book = c.note-2.new.self; tables = c.note.new.self; prices = c.apply.new.prices; orders = c.apply_orders.new.orders; ledger = c.post_ledger.new.ledger; cash = c.post_ledger.new.cash; kept = books.kept })
     c.requires.books c.requires.ready
     (record {
       noted = c.note-2.ensures.journal;
@@ -56,4 +56,5 @@ returns c =
           c.apply_orders.ensures.waiting
           ∙ ap (λ (book : NotedJournal). waiting_after change.orders c.apply.new.prices.table.sheets (orders_of book.journal) books.orders.owners books.orders.waiting) c.orders.ensures;
       posted = subst (λ place. IsPosted place change.ledger books.ledger books.cash c.post_ledger.new.ledger c.post_ledger.new.cash) c.len-place.ensures c.post_ledger.ensures;
+      kept = refl;
     })

@@ -7,7 +7,7 @@ use Rattle.standing_orders.specs.Index.{OrderPlaces}
 pub returns : goal.returns
 returns c =
     books_of_no_event
-    (record { book = c.new-2.result; tables = c.new-3.result; prices = c.in_ok-prices.prices; orders = c.new-4.result; ledger = c.in_ok-ledger.ledger; cash = c.new-5.result })
+    (record { book = c.new-2.result; tables = c.new-3.result; prices = c.in_ok-prices.prices; orders = c.new-4.result; ledger = c.in_ok-ledger.ledger; cash = c.new-5.result; kept = c.new-6.result })
     (record {
       noted = ap (λ (book : NotedJournal). book.journal) c.new-2.ensures;
       prices = c.in_ok-prices.ensures;
@@ -20,4 +20,5 @@ returns c =
       balances = c.new-5.ensures.balances;
       gains = c.new-5.ensures.gains;
       posts = c.new-5.ensures.posts;
+      kept = c.new-6.ensures;
     })

@@ -1,5 +1,6 @@
 use Rattle.std.proofs.Common.{ap, subst, sym, ◌∙◌}
 use Rattle.desk_books.proofs.MovesStay.{stays_a_change}
+use Rattle.desk_books.proofs.KeptAfter.{kept_behind}
 use Rattle.desk_books.proofs.NamedOrders.{names_its_order}
 use Rattle.desk_books.proofs.books.DeskBooks.prepare.Goals as goal
 use Rattle.desk_books.specs.LedgerChanges.{IsLedgerChange}
@@ -7,6 +8,8 @@ use Rattle.desk_books.specs.OrderChanges.{ChangesOrders, NamesItsOrder}
 use Rattle.desk_books.specs.ReadyChanges.{HasItsMinute}
 use Rattle.journal_tables.proofs.EventTables.{brings_loads}
 use Rattle.journal_tables.specs.Tables.{IsInRange, brings_good_loads, tables_after}
+use Rattle.kept_of_journals.specs.KeptOfBooks.{AreKeptOf}
+use Rattle.register_laws.specs.Lawful.{book_behind}
 use Rattle.order_book.specs.Books.{NotedJournal}
 use Rattle.price_changes.proofs.LawfulChanges.{changes_prices}
 use Rattle.price_changes.specs.Changes.{HasGoodCalendar, HasRoomFor, listing_brought}
@@ -48,5 +51,8 @@ returns-clause-ready c =
       ledger =
           subst (λ journal. IsLedgerChange journal c.args.event c.reserve_ledger.new.ledger.parts c.args.ledger) noted
           (stays_a_change c.args.self.now.book.journal c.args.event c.args.self.now.ledger.parts c.reserve_ledger.new.ledger.parts c.args.ledger c.reserve_ledger.ensures.parts c.requires.ledger);
+      kept =
+          subst (λ journal. AreKeptOf (book_behind (with_event journal c.args.event)) c.args.self.now.kept) noted
+          (kept_behind c.args.self.now.book.journal c.args.event c.args.self.now.kept c.requires.follows c.requires.books.kept c.requires.kept);
       ledger_room = c.in_ok-reserve_ledger.ensures.room;
     }
