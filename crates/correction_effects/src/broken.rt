@@ -1,5 +1,5 @@
 //! The first trade that a correction breaks, between two replays.
-ghost use Rattle.std.specs.Prelude.{◌≡◌, IfOk, false, find};
+ghost use Rattle.std.specs.Prelude.{◌≡◌, ◌++◌, IfOk, false, find};
 ghost use Rattle.std.specs.HashSet.{contains};
 ghost use Rattle.std.specs.Option.{option_copied, option_map_or};
 ghost use Rattle.correction_effects.specs.Filled.{is_broken_by, same_name};
@@ -12,18 +12,36 @@ use std::alloc::Global;
 use std::collections::HashSet;
 
 /// The first trade of the replay behind a correction that is unfilled though its order was filled before, or is the order that the
-/// correction enters or replaces; `None` exactly where there is none. It goes over both replays once.
+/// correction enters or replaces; `None` exactly where there is none. The replay comes in two parts, one behind the other. It goes
+/// over both replays once.
 pub fn first_broken<'a>(
     alloc: Global,
     order: Option<&Order>,
     before: &[Trade],
-    after: &'a [Trade],
+    front: &'a [Trade],
+    back: &'a [Trade],
 ) -> Result<Option<&'a Trade>, NoMemory>
     ensures { IfOk result (λ broken. option_copied broken
-        ≡ find (is_broken (option_copied order.entry) before.now) after.now) }
+        ≡ find (is_broken (option_copied order.entry) before.now) (front.now ++ back.now)) }
 {
     let filled = filled_names(alloc, before)?;
-    Ok(first_among(order, &filled, after))
+    Ok(first_in_parts(order, &filled, front, back))
+}
+
+fn first_in_parts<'a>(
+    order: Option<&Order>,
+    filled: &HashSet<TradeName>,
+    front: &'a [Trade],
+    back: &'a [Trade],
+) -> Option<&'a Trade>
+    ensures { option_copied result
+        ≡ find (is_broken_by (option_copied order.entry) (contains same_name filled.now))
+        (front.now ++ back.now) }
+{
+    match first_among(order, filled, front) {
+        Some(trade) => Some(trade),
+        None => first_among(order, filled, back),
+    }
 }
 
 fn first_among<'a>(

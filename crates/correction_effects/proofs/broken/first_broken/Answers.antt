@@ -1,4 +1,4 @@
-use Rattle.std.proofs.Common.{◌∙◌}
+use Rattle.std.proofs.Common.{◌++◌, ◌∙◌}
 use Rattle.std.specs.HashSet.{contains}
 use Rattle.std.specs.Option.{option_copied}
 use Rattle.correction_effects.proofs.FilledNames.{broken-by-names}
@@ -7,5 +7,5 @@ use Rattle.correction_effects.proofs.broken.first_broken.Goals as goal
 
 pub returns : goal.returns
 returns c =
-    c.first_among.ensures
-    ∙ broken-by-names (option_copied c.args.order) (contains same_name c.in_ok-filled.filled) c.args.before.now c.args.after.now c.in_ok-filled.ensures
+    c.first_in_parts.ensures
+    ∙ broken-by-names (option_copied c.args.order) (contains same_name c.in_ok-filled.filled) c.args.before.now (c.args.front.now ++ c.args.back.now) c.in_ok-filled.ensures
