@@ -2,6 +2,7 @@
 #![tactic(auto)]
 
 mod advance;
+mod keeping;
 pub mod laws;
 mod trial;
 

@@ -12,6 +12,7 @@ ghost use Rattle.register_machine.specs.journal.Lawful.{IsLawful};
 ghost use Rattle.sheet_trials.specs.Reached.{TakeOneStepEach};
 
 use crate::advance::change_on_trial;
+use crate::keeping::keep_moved;
 use agent_events::{Event, EventKind, SheetForm};
 use desk_books::{DeskBooks, LedgerChange};
 use forward_price::PriceBook;
@@ -21,8 +22,31 @@ use std::alloc::Global;
 use std::sync::ledger::Ledger as StepLedger;
 
 /// What a sheet that follows the journal makes of the ledger: one step for each household that isn't quiet on it, and none for
-/// another. The sheet is published on trial and withdrawn, so the books show what they showed before, after `NoMemory` too.
+/// another. The sheet is published on trial and withdrawn, and of the households that it moves states are kept where they are due, so
+/// the books show what they showed before, after `NoMemory` too.
 pub fn try_sheet<L: StepLedger>(
+    alloc: Global,
+    books: &mut DeskBooks,
+    event: &Event,
+    steps: &mut Steps<L>,
+) -> Result<LedgerChange, NoMemory>
+    requires books { AreBooksOf books.old.book.journal books.old }
+    requires follows { IsLawful (with_event books.old.book.journal event.now) }
+    requires sheet { is_sheet event.now.kind ≡ true }
+    ensures same { ShowTheSame books.old books.new }
+    ensures journal { books.new.book.journal ≡ books.old.book.journal }
+    ensures change { IfOk result (λ change. IsLedgerChange books.new.book.journal event.now
+        books.new.ledger.parts (Some change)) }
+    ensures steps { IfOk result (λ change. TakeOneStepEach books.new.book.journal event.now
+        (households_of change.change.moves) steps.old steps.new) }
+{
+    let change = try_published(alloc, books, event, steps)?;
+    keep_moved(alloc, books, change.change.moves())?;
+    Ok(change)
+}
+
+// The same, while it is published on trial.
+fn try_published<L: StepLedger>(
     alloc: Global,
     books: &mut DeskBooks,
     event: &Event,

@@ -1,7 +1,7 @@
 use Rattle.std.proofs.Common.{◌∙◌}
 use Rattle.std.proofs.lemmas.Result.{IfOk-weaker}
 use Rattle.sheet_trials.proofs.SheetPublished.{comes-next, on-trial}
-use Rattle.sheet_trials.proofs.trial.try_sheet.Goals as goal
+use Rattle.sheet_trials.proofs.trial.try_published.Goals as goal
 
 pub publish-number-requires-clause-fits : goal.publish-number-requires-clause-fits
 publish-number-requires-clause-fits g c =

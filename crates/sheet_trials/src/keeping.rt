@@ -1,0 +1,86 @@
+//! The states of the households that a sheet moves are kept as they stand before it, now and then.
+ghost use Rattle.std.specs.Prelude.{◌≡◌, IfOk, length};
+ghost use Rattle.desk_books.specs.BooksOfJournals.{AreBooksOf, ShowTheSame};
+ghost use Rattle.kept_of_journals.specs.KeptOfBooks.{AreKeptOf};
+ghost use Rattle.ledger_of_journals.specs.Ledgers.{IsLedgerOf};
+ghost use Rattle.register_machine.specs.pricing.CorrectedBook.{Book};
+
+use checkpoint_replay::{HouseholdMove, Ledger};
+use desk_books::DeskBooks;
+use forward_price::PriceBook;
+use kept_states::{KeptState, KeptStates};
+use money_units::NoMemory;
+use std::alloc::Global;
+
+/// Keeps what each of the households that are moved came to behind the last sheet, where the last state of it that is kept is old
+/// or missing: one allocation for each position of such a household. The books show what they showed before, after `NoMemory` too.
+pub(crate) fn keep_moved(
+    alloc: Global,
+    books: &mut DeskBooks,
+    moves: &[HouseholdMove],
+) -> Result<(), NoMemory>
+    requires { AreBooksOf books.old.book.journal books.old }
+    ensures same { ShowTheSame books.old books.new }
+    ensures journal { books.new.book ≡ books.old.book }
+    ensures ledger { books.new.ledger ≡ books.old.ledger }
+{
+    let sheet = last_number(&books.prices)?;
+    keep_states(alloc, &mut books.kept, &books.ledger, sheet, moves)
+}
+
+// The number of the last sheet, 0 where there is none.
+fn last_number(prices: &PriceBook) -> Result<u32, NoMemory>
+    ensures { IfOk result (λ number. number ≡ length prices.now.table.sheets) }
+{
+    match u32::try_from(prices.sheets().len()) {
+        Ok(number) => Ok(number),
+        Err(_) => Err(NoMemory),
+    }
+}
+
+// Keeps states of these households behind the last sheet, where they are due.
+fn keep_states(
+    alloc: Global,
+    kept: &mut KeptStates,
+    ledger: &Ledger,
+    sheet: u32,
+    moves: &[HouseholdMove],
+) -> Result<(), NoMemory>
+    ensures { (book : Book) → IsLedgerOf book ledger.now.parts → sheet ≡ length book.table.sheets
+        → AreKeptOf book kept.old → AreKeptOf book kept.new }
+{
+    for change in moves {
+        keep_state(alloc, kept, ledger, sheet, change.household)?;
+    }
+    Ok(())
+}
+
+fn keep_state(
+    alloc: Global,
+    kept: &mut KeptStates,
+    ledger: &Ledger,
+    sheet: u32,
+    household: u32,
+) -> Result<(), NoMemory>
+    ensures { (book : Book) → IsLedgerOf book ledger.now.parts → sheet ≡ length book.table.sheets
+        → AreKeptOf book kept.old → AreKeptOf book kept.new }
+{
+    if !kept.is_due(household, sheet) {
+        return Ok(());
+    }
+    match ledger.state(household) {
+        Some(state) => {
+            let state = state.copied(alloc)?;
+            let trades = ledger.trades(household).len();
+            kept.keep(
+                household,
+                KeptState {
+                    sheet,
+                    state,
+                    trades,
+                },
+            )
+        }
+        None => Ok(()),
+    }
+}
