@@ -10,3 +10,5 @@ pub mod ChangeOnTrial
 pub mod SheetPublished
 -- the part of a household that a sheet leaves alone
 pub mod LeftAlone
+-- states that are kept behind the last sheet
+pub mod KeptMoved
