@@ -16,7 +16,13 @@ pub mod ChangedClasses
 pub mod TrialChange
 -- what the steps of a trial need
 pub mod TrialSteps
+-- states that are forgotten
+pub mod ForgetFacts
+-- where a replay begins, and what is left of the kept states
+pub mod StartsServe
 -- what the trial says
 pub mod TrialSays
+-- the trades of the one household that a change moves
+pub mod OneMoved
 -- what the replay of one household makes, and what nothing makes
 pub mod OneMore

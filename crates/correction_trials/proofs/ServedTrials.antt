@@ -21,7 +21,7 @@ use Rattle.journal_tables.specs.TablesOfJournals.{IsPricedOn, patch_by, patch_on
 use Rattle.ledger_of_journals.proofs.FixedPrices.{price_of_one_sheet}
 use Rattle.ledger_of_journals.proofs.ServedBooks.{order_correction_served, price_correction_served, rate_correction_served}
 use Rattle.ledger_of_journals.specs.TableFacts.{IsOnTrial as IsTrialOf}
-use Rattle.register_laws.specs.CorrectionReach.{order_changed}
+use Rattle.register_laws.specs.CorrectionReach.{IsListedOn, order_changed}
 use Rattle.register_laws.specs.Lawful.{book_behind}
 use Rattle.register_laws.specs.OneEventMore.{FixesOnePrice, corrected_table, corrected_table_by}
 use Rattle.register_machine.specs.journal.Journals.{Journal, with_event}
@@ -110,6 +110,24 @@ listed form (first ∷ sheets) sheet is =
     by false lists later rest =
         or-right (first.number == sheet.number && lists_at form.class form.moment first) (list_any (λ (other : Sheet). other.number == sheet.number && lists_at form.class form.moment other) sheets)
         (rest later)
+
+pub price_listed : (books : DeskBooks) (form : FixPriceForm) (patch : Patch) → AreBooksOf books.book.journal books → patch_on books.prices.table.sheets form ≡ Some patch → IsListedOn (book_behind books.book.journal) form.class form.moment patch.sheet
+price_listed books form patch are patches =
+    by (find (lists_at form.class form.moment) sheets) refl (sym (ap (λ (table : Table). patch_on table.sheets form) are.prices) ∙ patches)
+  where
+    sheets : List Sheet
+    sheets = (corrected_table books.book.journal).sheets
+
+    by : (found : Option Sheet) → find (lists_at form.class form.moment) sheets ≡ found → option_map (λ (sheet : Sheet). patch_by form sheet.number) found ≡ Some patch → IsListedOn (book_behind books.book.journal) form.class form.moment patch.sheet
+    by None is_found e = absurd (none-some e)
+      where
+        none-some : None ≡ Some patch → ⊥
+        none-some e = cc
+    by (Some sheet) is_found e =
+        subst (λ (p : Patch). IsListedOn (book_behind books.book.journal) form.class form.moment p.sheet) (same e) (listed form sheets sheet is_found)
+      where
+        same : Some (patch_by form sheet.number) ≡ Some patch → patch_by form sheet.number ≡ patch
+        same e = cc
 
 price-by : (books : DeskBooks) (event : Event) (form : FixPriceForm) (number : ℕ) → AreBooksOf books.book.journal books → event.kind ≡ EventKind.FixPrice form → IsPricedOn books.book.journal form number → IsOnTrial books.book.journal event → ServeTrial (known_by books books.tables.rates (Some (patch_by form number)) (corrected_table books.book.journal)) books.book.journal event
 price-by books event form number are at priced is =

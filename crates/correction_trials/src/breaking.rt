@@ -1,9 +1,8 @@
 //! The trade that a correction breaks first in the part of one household.
-ghost use Rattle.std.specs.Prelude.{◌≡◌, ◌∷◌, ℕ, List, Some, [], IfOk, OnOk, find};
+ghost use Rattle.std.specs.Prelude.{◌≡◌, ◌∷◌, Some, [], IfOk, OnOk, find, take};
 ghost use Rattle.std.specs.Option.{option_copied};
 ghost use Rattle.checkpoint_replay.specs.Moves.{households_of, part_after};
 ghost use Rattle.checkpoint_replay.specs.Parts.{part_in};
-ghost use Rattle.checkpoint_replay.specs.declared.part.HouseholdPart.{HouseholdPart};
 ghost use Rattle.correction_trials.specs.Reopened.{SeesBroken};
 ghost use Rattle.order_book.specs.Books.{Fits};
 ghost use Rattle.register_machine.specs.journal.Journals.{with_event};
@@ -11,7 +10,7 @@ ghost use Rattle.register_machine.specs.pricing.CorrectedOrders.{orders_of};
 ghost use Rattle.register_machine.specs.rules.Breaks.{is_broken, order_corrected};
 
 use agent_events::{Event, EventKind, Order, Trade};
-use checkpoint_replay::Change;
+use checkpoint_replay::{Change, HouseholdMove};
 use correction_effects::{FirstBroken, first_broken, turn_of};
 use desk_books::DeskBooks;
 use money_units::NoMemory;
@@ -41,7 +40,7 @@ pub(crate) fn see_broken(
 
 fn broken_of<'a>(
     alloc: Global,
-    books: &DeskBooks,
+    books: &'a DeskBooks,
     event: &Event,
     household: u32,
     change: &'a Change,
@@ -52,9 +51,16 @@ fn broken_of<'a>(
         (part_in books.now.ledger.parts household).trades)
         (part_after change.now.moves books.now.ledger.parts household).trades) }
 {
-    let after = new_trades(change)?;
+    let moved = only_move(change)?;
     let before = books.ledger.trades(household);
-    first_broken(alloc, order_corrected(event.kind()), before, after)
+    let stay = trades_kept(before, moved);
+    first_broken(
+        alloc,
+        order_corrected(event.kind()),
+        before,
+        stay,
+        moved.trades.as_slice(),
+    )
 }
 
 // The order that a correction enters or replaces.
@@ -68,22 +74,24 @@ fn order_corrected(kind: &EventKind) -> Option<&Order>
     }
 }
 
-// The new trades of the one household that a change moves, in the place of all old ones: none of them stays in a household that is
-// reopened.
-fn new_trades(change: &Change) -> Result<&[Trade], NoMemory>
-    ensures { IfOk result (λ trades. (parts : List (ℕ × HouseholdPart)) (household : ℕ)
-        → households_of change.now.moves ≡ household ∷ []
-        → (part_after change.now.moves parts household).trades ≡ trades.now) }
+// The one move of a change.
+fn only_move(change: &Change) -> Result<&HouseholdMove, NoMemory>
+    ensures { IfOk result (λ moved. change.now.moves ≡ moved.now ∷ []) }
 {
     match change.moves() {
-        [moved] => {
-            if moved.kept == 0 {
-                Ok(moved.trades.as_slice())
-            } else {
-                Err(NoMemory)
-            }
-        }
+        [moved] => Ok(moved),
         _ => Err(NoMemory),
+    }
+}
+
+// The old trades of a household that stay.
+fn trades_kept<'a>(trades: &'a [Trade], moved: &HouseholdMove) -> &'a [Trade]
+    ensures { result.now ≡ take moved.now.kept trades.now }
+{
+    if moved.kept <= trades.len() {
+        &trades[..moved.kept]
+    } else {
+        trades
     }
 }
 

@@ -2,10 +2,12 @@
 #![tactic(auto)]
 
 mod breaking;
+mod forgetting;
 mod moving;
 mod nothing;
 mod references;
 mod reopening;
+mod starts;
 mod trial;
 
 pub use crate::trial::{Tried, try_correction};

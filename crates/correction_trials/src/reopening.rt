@@ -4,8 +4,10 @@ ghost use Rattle.std.specs.List.{IsDistinct};
 ghost use Rattle.std.specs.List.Sorted.{IsStrictlyIncreasing};
 ghost use Rattle.checkpoint_replay.specs.Moves.{AreApart, AreMoves, households_of};
 ghost use Rattle.correction_trials.specs.Reopened.{AreJoined, AreReopened, IsOneMore, IsTriedOver, ReopensMore, moves_of};
+ghost use Rattle.correction_trials.specs.Starts.{LeavesPartsBefore};
 
 use crate::breaking::see_broken;
+use crate::starts::start_of;
 use agent_events::Event;
 use checkpoint_replay::Change;
 use correction_effects::FirstBroken;
@@ -24,16 +26,19 @@ pub(crate) struct Reopened {
     pub(crate) first: FirstBroken,
 }
 
-/// Replays each of these households with a correction on trial, from the first sheet on.
+/// Replays each of these households with a correction on trial that touches no sheet before this one: from the last state of it that
+/// is kept behind an earlier sheet on, and else from the first sheet on.
 pub(crate) fn reopen_all<L: StepLedger>(
     alloc: Global,
     books: &DeskBooks,
     event: &Event,
     facts: &Facts,
     households: &[u32],
+    before: u32,
     steps: &mut Steps<L>,
 ) -> Result<Reopened, NoMemory>
     requires tried { IsTriedOver books.now event.now facts.now }
+    requires before { LeavesPartsBefore books.now.book.journal event.now before }
     requires rising { IsStrictlyIncreasing households.now }
     ensures reopened { IfOk result (λ reopened. AreReopened books.now event.now facts.now
         households.now reopened.change reopened.first.least) }
@@ -45,7 +50,9 @@ pub(crate) fn reopen_all<L: StepLedger>(
         first: FirstBroken::new(),
     };
     for household in households {
-        reopened = reopen_more(alloc, books, event, facts, *household, reopened, steps)?;
+        reopened = reopen_more(
+            alloc, books, event, facts, *household, before, reopened, steps,
+        )?;
     }
     Ok(reopened)
 }
@@ -57,10 +64,12 @@ fn reopen_more<L: StepLedger>(
     event: &Event,
     facts: &Facts,
     household: u32,
+    before: u32,
     so_far: Reopened,
     steps: &mut Steps<L>,
 ) -> Result<Reopened, NoMemory>
     requires tried { IsTriedOver books.now event.now facts.now }
+    requires before { LeavesPartsBefore books.now.book.journal event.now before }
     requires apart { IsDistinct nat_eq (households_of (moves_of so_far.change) ++ household ∷ []) }
     ensures more { IfOk result (λ more. ReopensMore books.now event.now facts.now household
         so_far.change so_far.first.least more.change more.first.least) }
@@ -68,7 +77,7 @@ fn reopen_more<L: StepLedger>(
 {
     let Reopened { change, first } = so_far;
     let mut first = first;
-    let one = reopen_one(alloc, books, event, facts, household, steps)?;
+    let one = reopen_one(alloc, books, event, facts, household, before, steps)?;
     see_broken(alloc, books, event, household, &one, &mut first)?;
     let both = joined(change, one)?;
     Ok(Reopened {
@@ -83,9 +92,11 @@ fn reopen_one<L: StepLedger>(
     event: &Event,
     facts: &Facts,
     household: u32,
+    before: u32,
     steps: &mut Steps<L>,
 ) -> Result<Change, NoMemory>
-    requires { IsTriedOver books.now event.now facts.now }
+    requires tried { IsTriedOver books.now event.now facts.now }
+    requires before { LeavesPartsBefore books.now.book.journal event.now before }
     ensures one { IfOk result (IsOneMore books.now event.now facts.now household) }
     ensures steps { steps.new ≤ steps.old + facts.now.sheet }
 {
@@ -97,7 +108,10 @@ fn reopen_one<L: StepLedger>(
         household,
         Some(event),
     )?;
-    books.ledger.reopen(alloc, household, facts, &orders, steps)
+    let start = start_of(alloc, &books.kept, household, before)?;
+    books
+        .ledger
+        .reopen_behind(alloc, start, facts, &orders, steps)
 }
 
 // A change, and that of one household behind it.

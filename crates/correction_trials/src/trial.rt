@@ -8,15 +8,18 @@ ghost use Rattle.correction_effects.specs.Reached.{AreReached};
 ghost use Rattle.correction_trials.specs.Changed.{AreMovesOf, IsMovedWith};
 ghost use Rattle.correction_trials.specs.Reopened.{IsReopenedWhole, IsTriedOver, TakesFewSteps, changes_of, moves_of};
 ghost use Rattle.correction_trials.specs.Served.{known_in};
+ghost use Rattle.correction_trials.specs.Settled.{AreForgotten, AreForgottenBy, IsTrialOf, KeepsStates};
+ghost use Rattle.correction_trials.specs.Starts.{LeavesPartsBefore};
 ghost use Rattle.correction_trials.specs.Trials.{IsFresh, Says};
 ghost use Rattle.correction_trials.specs.declared.trial.Tried.{Tried as AnyTried};
-ghost use Rattle.desk_books.specs.BooksOfJournals.{AreBooksOf};
+ghost use Rattle.desk_books.specs.BooksOfJournals.{AreBooksOf, ShowTheSame};
 ghost use Rattle.event_laws.specs.EventReplays.{is_correction};
 ghost use Rattle.forward_price.specs.PriceTables.{patched};
 ghost use Rattle.household_fold.specs.Facts.{FactsFit, sheets_known};
 ghost use Rattle.register_laws.specs.CorrectionReach.{order_changed};
 ghost use Rattle.register_laws.specs.Lawful.{book_behind};
 
+use crate::forgetting::forget_all;
 use crate::moving::{bearer_of, with_gains};
 use crate::nothing::no_change;
 use crate::references::references_in;
@@ -31,6 +34,7 @@ use desk_books::{DeskBooks, LedgerChange};
 use forward_price::{Patch, PriceBook};
 use household_fold::{Facts, Steps};
 use journal_tables::patch_of;
+use kept_states::KeptStates;
 use money_units::NoMemory;
 use std::alloc::Global;
 use std::sync::ledger::Ledger as StepLedger;
@@ -44,22 +48,75 @@ pub enum Tried {
     Moves(LedgerChange),
 }
 
+/// What the trial of a correction says, with the households that it reaches; it touches no sheet before this one.
+#[derive(Drop)]
+pub(crate) struct Trial {
+    pub(crate) tried: Tried,
+    pub(crate) households: Vec<u32>,
+    pub(crate) before: u32,
+}
+
 /// Tries a correction that no rule before the last one refuses: the households that it can reach are replayed with it, by at most
-/// as many steps each as there are sheets, and no others. Past the limits of a post it is `NoMemory`.
+/// as many steps each as there are sheets, and no others. Past the limits of a post it is `NoMemory`. Where it breaks no order, the
+/// states that are kept of those households behind the sheets that it touches are forgotten. The books show what they showed before.
 pub fn try_correction<L: StepLedger>(
+    alloc: Global,
+    books: &mut DeskBooks,
+    event: &Event,
+    steps: &mut Steps<L>,
+) -> Result<Tried, NoMemory>
+    requires books { AreBooksOf books.old.book.journal books.old }
+    requires correction { is_correction event.now.kind ≡ true }
+    requires fresh { IsFresh books.old.book.journal event.now }
+    ensures same { ShowTheSame books.old books.new }
+    ensures journal { books.new.book ≡ books.old.book }
+    ensures ledger { books.new.ledger ≡ books.old.ledger }
+    ensures says { IfOk result (Says books.old.book.journal event.now books.old.ledger.parts) }
+    ensures kept { IfOk result (KeepsStates books.old.book.journal event.now books.new.kept) }
+    ensures steps { OnOk result ((households : List ℕ)
+        × AreReached books.old.book.journal books.old.orders.owners event.now.kind households
+        × (steps.new ≤ steps.old
+        + length households * length (book_behind books.old.book.journal).table.sheets)) }
+{
+    let trial = try_kind(alloc, books, event, steps)?;
+    Ok(settle(&mut books.kept, trial))
+}
+
+// What the trial says. Where it breaks no order, the kept states that the correction touches are forgotten.
+fn settle(kept: &mut KeptStates, trial: Trial) -> Tried
+    ensures tried { result ≡ trial.tried }
+    ensures states { AreForgotten trial kept.old kept.new }
+{
+    let Trial {
+        tried,
+        households,
+        before,
+    } = trial;
+    forget_touched(kept, &tried, &households, before);
+    tried
+}
+
+fn forget_touched(kept: &mut KeptStates, tried: &Tried, households: &[u32], before: u32)
+    ensures { AreForgottenBy tried.now households.now before kept.old kept.new }
+{
+    match tried {
+        Tried::Moves(_) => forget_all(kept, households, before),
+        Tried::Breaks(_) => {}
+    }
+}
+
+// The trial, by the kind of the correction.
+fn try_kind<L: StepLedger>(
     alloc: Global,
     books: &DeskBooks,
     event: &Event,
     steps: &mut Steps<L>,
-) -> Result<Tried, NoMemory>
+) -> Result<Trial, NoMemory>
     requires books { AreBooksOf books.now.book.journal books.now }
     requires correction { is_correction event.now.kind ≡ true }
     requires fresh { IsFresh books.now.book.journal event.now }
-    ensures says { IfOk result (Says books.now.book.journal event.now books.now.ledger.parts) }
-    ensures steps { OnOk result ((households : List ℕ)
-        × AreReached books.now.book.journal books.now.orders.owners event.now.kind households
-        × (steps.new ≤ steps.old
-        + length households * length (book_behind books.now.book.journal).table.sheets)) }
+    ensures trial { IfOk result (IsTrialOf books.now event.now) }
+    ensures steps { OnOk result (TakesFewSteps books.now event.now steps.old steps.new) }
 {
     match event.kind() {
         EventKind::FixPrice(form) => try_price(alloc, books, event, form, steps),
@@ -78,23 +135,27 @@ fn try_price<L: StepLedger>(
     event: &Event,
     form: &FixPriceForm,
     steps: &mut Steps<L>,
-) -> Result<Tried, NoMemory>
+) -> Result<Trial, NoMemory>
     requires books { AreBooksOf books.now.book.journal books.now }
     requires correction { is_correction event.now.kind ≡ true }
     requires fresh { IsFresh books.now.book.journal event.now }
     requires kind { event.now.kind ≡ Kind.FixPrice form.now }
-    ensures tried { IfOk result (Says books.now.book.journal event.now books.now.ledger.parts) }
+    ensures trial { IfOk result (IsTrialOf books.now event.now) }
     ensures steps { OnOk result (TakesFewSteps books.now event.now steps.old steps.new) }
 {
     match patch_of(&books.prices, form) {
-        Some(patch) => try_with(
-            alloc,
-            books,
-            event,
-            books.tables.rates(),
-            Some(patch),
-            steps,
-        ),
+        Some(patch) => {
+            let before = patch.sheet;
+            try_with(
+                alloc,
+                books,
+                event,
+                books.tables.rates(),
+                Some(patch),
+                before,
+                steps,
+            )
+        }
         None => Err(NoMemory),
     }
 }
@@ -106,17 +167,17 @@ fn try_rate<L: StepLedger>(
     event: &Event,
     form: &FixRateForm,
     steps: &mut Steps<L>,
-) -> Result<Tried, NoMemory>
+) -> Result<Trial, NoMemory>
     requires books { AreBooksOf books.now.book.journal books.now }
     requires correction { is_correction event.now.kind ≡ true }
     requires fresh { IsFresh books.now.book.journal event.now }
     requires kind { event.now.kind ≡ Kind.FixRate form.now }
-    ensures tried { IfOk result (Says books.now.book.journal event.now books.now.ledger.parts) }
+    ensures trial { IfOk result (IsTrialOf books.now event.now) }
     ensures steps { OnOk result (TakesFewSteps books.now event.now steps.old steps.new) }
 {
     let _rate = form.rate.millionths();
     let rates = books.tables.rates_with(alloc, form)?;
-    try_with(alloc, books, event, &rates, None, steps)
+    try_with(alloc, books, event, &rates, None, 0, steps)
 }
 
 // A corrected order is tried by what is kept.
@@ -125,28 +186,30 @@ fn try_order<L: StepLedger>(
     books: &DeskBooks,
     event: &Event,
     steps: &mut Steps<L>,
-) -> Result<Tried, NoMemory>
+) -> Result<Trial, NoMemory>
     requires books { AreBooksOf books.now.book.journal books.now }
     requires correction { is_correction event.now.kind ≡ true }
     requires fresh { IsFresh books.now.book.journal event.now }
     requires order { is_some (order_changed event.now.kind) ≡ true }
-    ensures tried { IfOk result (Says books.now.book.journal event.now books.now.ledger.parts) }
+    ensures trial { IfOk result (IsTrialOf books.now event.now) }
     ensures steps { OnOk result (TakesFewSteps books.now event.now steps.old steps.new) }
 {
-    try_with(alloc, books, event, books.tables.rates(), None, steps)
+    try_with(alloc, books, event, books.tables.rates(), None, 0, steps)
 }
 
-// By the rates and under the patch of the trial.
+// By the rates and under the patch of the trial, which touches no sheet before this one.
 fn try_with<L: StepLedger>(
     alloc: Global,
     books: &DeskBooks,
     event: &Event,
     rates: &Rates,
     patch: Option<Patch>,
+    before: u32,
     steps: &mut Steps<L>,
-) -> Result<Tried, NoMemory>
-    requires { IsTriedOver books.now event.now (known_in books.now rates.now patch) }
-    ensures tried { IfOk result (Says books.now.book.journal event.now books.now.ledger.parts) }
+) -> Result<Trial, NoMemory>
+    requires tried { IsTriedOver books.now event.now (known_in books.now rates.now patch) }
+    requires before { LeavesPartsBefore books.now.book.journal event.now before }
+    ensures trial { IfOk result (IsTrialOf books.now event.now) }
     ensures steps { OnOk result (TakesFewSteps books.now event.now steps.old steps.new) }
 {
     let facts = Facts {
@@ -158,8 +221,13 @@ fn try_with<L: StepLedger>(
         sheet: last_number(&books.prices)?,
     };
     let households = households_reached(alloc, books.book.orders(), &books.orders, event.kind())?;
-    let reopened = reopen_all(alloc, books, event, &facts, &households, steps)?;
-    said(alloc, books, event, &facts, patch, reopened, steps)
+    let reopened = reopen_all(alloc, books, event, &facts, &households, before, steps)?;
+    let tried = said(alloc, books, event, &facts, patch, reopened, steps)?;
+    Ok(Trial {
+        tried,
+        households,
+        before,
+    })
 }
 
 // The number of the last sheet, 0 where there is none.

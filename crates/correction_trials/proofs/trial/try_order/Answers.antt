@@ -3,11 +3,12 @@ use Rattle.agent_events.specs.declared.rows.RateRow.{RateRow}
 use Rattle.correction_trials.specs.Reopened.{IsTriedOver}
 use Rattle.correction_trials.specs.Served.{known_in}
 use Rattle.correction_trials.proofs.FreshTrials.{fresh_is_on_trial}
+use Rattle.correction_trials.proofs.StartsServe.{none_before}
 use Rattle.correction_trials.proofs.ServedTrials.{order_served}
 use Rattle.correction_trials.proofs.trial.try_order.Goals as goal
 
-pub try_with-requires : goal.try_with-requires
-try_with-requires g c =
+pub try_with-requires-clause-tried : goal.try_with-requires-clause-tried
+try_with-requires-clause-tried g c =
     subst (λ (rates : List RateRow). IsTriedOver c.args.books.now c.args.event.now (known_in c.args.books.now rates None)) (sym c.rates.ensures.value)
     (record {
       books_are = c.requires.books;
@@ -15,3 +16,6 @@ try_with-requires g c =
       trial = (fresh_is_on_trial c.args.books.now.book.journal c.args.event.now c.requires.books.lawful c.requires.correction c.requires.fresh);
       serve = order_served c.args.books.now c.args.event.now c.requires.books c.requires.correction c.requires.order (fresh_is_on_trial c.args.books.now.book.journal c.args.event.now c.requires.books.lawful c.requires.correction c.requires.fresh);
     })
+
+pub try_with-requires-clause-before : goal.try_with-requires-clause-before
+try_with-requires-clause-before g c = none_before c.args.books.now.book.journal c.args.event.now

@@ -1,0 +1,189 @@
+-- Where the replay of a household on trial may begin, and what its correction leaves of the kept states.
+use Rattle.std.proofs.Common.{Bool, Contains, List, [], ap, arith, false, inl, inr, length, nat_eq, refl, subst, sym, take, true, ℕ, ◌<◌, ◌∙◌, ◌∷◌, ◌≡◌, ◌≤◌}
+use Rattle.std.proofs.lemmas.Bool.{true≢false}
+use Rattle.std.proofs.lemmas.List.{length-map}
+use Rattle.std.proofs.lemmas.List.Elements.{All-contains, All-weaker}
+use Rattle.std.specs.List.{list_any}
+use Rattle.agent_events.specs.Events.{Event}
+use Rattle.agent_events.specs.declared.event.EventKind.{EventKind}
+use Rattle.agent_events.specs.declared.request.AccountForm.{AccountForm}
+use Rattle.agent_events.specs.declared.request.FixPriceForm.{FixPriceForm}
+use Rattle.agent_events.specs.declared.trade.Trade.{Trade}
+use Rattle.checkpoint_replay.specs.Parts.{part_in}
+use Rattle.checkpoint_replay.specs.Reopenings.{IsReplayedTo}
+use Rattle.checkpoint_replay.specs.declared.reopening.ReplayStart.{ReplayStart}
+use Rattle.correction_trials.specs.Fresh.{IsOnTrial}
+use Rattle.correction_trials.specs.Reopened.{IsTriedOver}
+use Rattle.correction_trials.specs.Settled.{AreForgotten, AreForgottenBy, IsTrialOf, KeepsStates}
+use Rattle.correction_trials.specs.Starts.{IsStart, LeavesPartsBefore, first_start, start_at}
+use Rattle.correction_trials.specs.declared.trial.Trial.{Trial}
+use Rattle.correction_trials.specs.declared.trial.Tried.{Tried}
+use Rattle.desk_books.specs.declared.books.DeskBooks.{DeskBooks}
+use Rattle.event_laws.specs.EventReplays.{is_correction}
+use Rattle.forward_price.specs.PriceTables.{Table}
+use Rattle.household_fold.specs.Facts.{Known}
+use Rattle.household_replay.specs.Replays.{NumberedOrder}
+use Rattle.kept_of_journals.proofs.StatesStay.{left_is_as_of}
+use Rattle.kept_of_journals.proofs.TradesLead.{trades_lead}
+use Rattle.kept_of_journals.specs.KeptOfBooks.{AreKeptOf, AreLikeLong, IsAsOf, part_to}
+use Rattle.kept_states.specs.KeptStates.{states_in}
+use Rattle.kept_states.specs.declared.states.HouseholdStates.{HouseholdStates}
+use Rattle.kept_states.specs.declared.states.KeptState.{KeptState}
+use Rattle.ledger_laws.proofs.ReplaysAsPart.{replays_as_part}
+use Rattle.ledger_laws.specs.PartsByFacts.{AreRowsOf}
+use Rattle.ledger_of_journals.proofs.CorrectedParts.{keeps_accounts}
+use Rattle.register_laws.specs.CorrectionReach.{IsListedOn}
+use Rattle.register_laws.specs.Households.{part_of}
+use Rattle.register_laws.specs.Lawful.{book_behind}
+use Rattle.register_laws.specs.OneEventMore.{corrected_table_by}
+use Rattle.register_machine.specs.journal.Journals.{Journal, with_event}
+use Rattle.register_machine.specs.pricing.CorrectedBook.{Book}
+use Rattle.register_machine.specs.pricing.CorrectedPrices.{sheet_as_corrected}
+use Rattle.register_machine.specs.replay.Positions.{Register}
+use Rattle.register_machine.specs.replay.Replay.{replay_to}
+use Rattle.register_machine.specs.replay.Trades.{Day}
+
+-- ---- the two books
+
+-- a correction publishes no sheet
+sheets-kept : (table : Table) (moment : ℕ) (kind : EventKind) → is_correction kind ≡ true → length (corrected_table_by table moment kind).sheets ≡ length table.sheets
+sheets-kept table moment (EventKind.FixPrice form) corrects = length-map table.sheets (sheet_as_corrected (form ∷ []))
+sheets-kept table moment (EventKind.FixRate form) corrects = refl
+sheets-kept table moment (EventKind.Enter form) corrects = refl
+sheets-kept table moment (EventKind.Replace form) corrects = refl
+sheets-kept table moment (EventKind.Void form) corrects = refl
+sheets-kept table moment _ corrects = absurd (true≢false (sym corrects))
+
+pub like_long : (journal : Journal) (event : Event) → is_correction event.kind ≡ true → IsOnTrial journal event → AreLikeLong (book_behind journal) (book_behind (with_event journal event))
+like_long journal event corrects is = record {
+  accounts = keeps_accounts journal event corrects;
+  sheets =
+      ap (λ (book : Book). length book.table.sheets) is.sound.goes_on
+      ∙ sheets-kept (book_behind journal).table event.moment event.kind corrects;
+}
+
+-- no part changes before the sheet of a corrected price
+pub price_before : (journal : Journal) (event : Event) (form : FixPriceForm) (number : ℕ) → is_correction event.kind ≡ true → IsOnTrial journal event → event.kind ≡ EventKind.FixPrice form → IsListedOn (book_behind journal) form.class form.moment number → LeavesPartsBefore journal event number
+price_before journal event form number corrects is at listed household sheet short =
+    ap (λ (accounts : List AccountForm). part_of accounts household (replay_to (book_behind (with_event journal event)) sheet)) (keeps_accounts journal event corrects)
+    ∙ ap (part_of (book_behind journal).accounts household) (is.reach.price_numbered form at number listed sheet short)
+
+-- none comes before the first sheet
+pub none_before : (journal : Journal) (event : Event) → LeavesPartsBefore journal event 0
+none_before journal event household sheet short = absurd (omega (arith, short))
+
+-- ---- a start
+
+none-stays : (xs : List Trade) → take 0 xs ≡ []
+none-stays [] = refl
+none-stays (x ∷ xs) = refl
+
+-- before all sheets its replay comes to nothing
+starts-fresh : (known : Known) (rows : List NumberedOrder) (household : ℕ) (trades : List Trade) → IsReplayedTo known rows (first_start household) trades
+starts-fresh known rows household trades =
+    ap (λ (ts : List Trade). record { register = []; trades = ts }) (none-stays trades)
+
+-- it is one of the household's own, behind a sheet that is published, where its replay comes to it
+pub record Serves (known : Known) (rows : List NumberedOrder) (trades : List Trade) (household : ℕ) (start : ReplayStart) : Type 0 where
+  pub begin : start.sheet ≤ known.sheet
+  pub own : start.household ≡ household
+  pub number : start.state.number ≡ start.household
+  pub replayed : IsReplayedTo known rows start trades
+
+pub start_serves : (books : DeskBooks) (event : Event) (known : Known) (household before : ℕ) (rows : List NumberedOrder) (start : ReplayStart) → IsTriedOver books event known → AreRowsOf rows (book_behind (with_event books.book.journal event)) household → LeavesPartsBefore books.book.journal event before → IsStart (states_in books.kept household) household before start → Serves known rows (part_in books.ledger.parts household).trades household start
+start_serves books event known household before rows start is own leaves at = elim at [
+  | inl first ↦ subst (Serves known rows trades household) (sym first) (record {
+    begin = omega arith;
+    own = refl;
+    number = refl;
+    replayed = starts-fresh known rows household trades;
+  })
+  | inr found ↦ subst (Serves known rows trades household) (sym found.3) (record {
+    begin = within found.0 found.1;
+    own = refl;
+    number = (as-of found.0 found.1).own;
+    replayed = replayed found.0 found.1 found.2;
+  })
+]
+  where
+    journal : Journal
+    journal = books.book.journal
+
+    now : Book
+    now = book_behind journal
+
+    after : Book
+    after = book_behind (with_event journal event)
+
+    trades : List Trade
+    trades = (part_in books.ledger.parts household).trades
+
+    as-of : (kept : KeptState) → Contains (states_in books.kept household) kept → IsAsOf now household kept
+    as-of kept there = All-contains (IsAsOf now household) (states_in books.kept household) kept (is.books_are.kept household) there
+
+    published : (kept : KeptState) → Contains (states_in books.kept household) kept → kept.sheet ≤ length after.table.sheets
+    published kept there = omega (arith, (as-of kept there).published, (like_long journal event is.corrects is.trial).sheets)
+
+    within : (kept : KeptState) → Contains (states_in books.kept household) kept → kept.sheet ≤ known.sheet
+    within kept there = omega (arith, published kept there, is.serve.serve.last)
+
+    replayed : (kept : KeptState) → Contains (states_in books.kept household) kept → kept.sheet < before → IsReplayedTo known rows (start_at household kept) trades
+    replayed kept there short =
+        let are = as-of kept there in
+        let first = ap (λ (day : Day). take kept.trades day.trades) (is.books_are.ledger.part household) ∙ trades_lead now household kept are in
+        ap (λ (register : Register). record { register = register; trades = take kept.trades trades }) are.register
+        ∙ (ap (λ (ts : List Trade). record { register = (part_to now household kept.sheet).register; trades = ts }) first
+        ∙ (sym (leaves household kept.sheet short)
+        ∙ (replays_as_part known rows after household is.serve.serve.serve.facts own).from_first kept.sheet (published kept there)))
+
+-- ---- the kept states
+
+-- those that are left are some of the old ones
+pub forgotten_stay : (trial : Trial) (old new : List (ℕ × HouseholdStates)) (book : Book) → AreForgotten trial old new → AreKeptOf book old → AreKeptOf book new
+forgotten_stay trial old new book forgotten are = by_tried trial.tried forgotten
+  where
+    by_tried : (tried : Tried) → AreForgottenBy tried trial.households.items trial.before old new → AreKeptOf book new
+    by_tried (Tried.Breaks _) same = subst (AreKeptOf book) (sym same) are
+    by_tried (Tried.Moves change) left = λ household.
+        All-weaker (λ (state : KeptState). Contains (states_in old household) state × (list_any (nat_eq household) trial.households.items ≡ true → state.sheet < trial.before)) (IsAsOf book household)
+        (λ state is. All-contains (IsAsOf book household) (states_in old household) state (are household) is.0) (states_in new household) (left household)
+
+-- and they are what their households came to behind the correction
+pub kept_behind : (books : DeskBooks) (event : Event) (trial : Trial) (new : List (ℕ × HouseholdStates)) → IsTrialOf books event trial → AreKeptOf (book_behind books.book.journal) books.kept → AreForgotten trial books.kept new → KeepsStates books.book.journal event new trial.tried
+kept_behind books event trial new is are forgotten = by_tried trial.tried forgotten
+  where
+    journal : Journal
+    journal = books.book.journal
+
+    now : Book
+    now = book_behind journal
+
+    after : Book
+    after = book_behind (with_event journal event)
+
+    untouched : (household : ℕ) (state : KeptState) → state.sheet < trial.before → IsAsOf now household state → IsAsOf after household state
+    untouched household state short of =
+        let same = sym (is.before household state.sheet short) in
+        record {
+          published = omega (arith, of.published, is.like.sheets);
+          own = of.own;
+          register = of.register ∙ ap (λ (day : Day). day.register) same;
+          counted = of.counted ∙ ap (λ (day : Day). length day.trades) same;
+        }
+
+    each : (household : ℕ) (state : KeptState) → Contains (states_in books.kept household) state × (list_any (nat_eq household) trial.households.items ≡ true → state.sheet < trial.before) → IsAsOf after household state
+    each household state stays =
+        by_reach (list_any (nat_eq household) trial.households.items) refl
+      where
+        of : IsAsOf now household state
+        of = All-contains (IsAsOf now household) (states_in books.kept household) state (are household) stays.0
+
+        by_reach : (reached : Bool) → list_any (nat_eq household) trial.households.items ≡ reached → IsAsOf after household state
+        by_reach true at = untouched household state (stays.1 at) of
+        by_reach false at = left_is_as_of now after household state is.like (is.left household at) of
+
+    by_tried : (tried : Tried) → AreForgottenBy tried trial.households.items trial.before books.kept new → KeepsStates journal event new tried
+    by_tried (Tried.Breaks _) same = tt
+    by_tried (Tried.Moves change) left = λ household.
+        All-weaker (λ (state : KeptState). Contains (states_in books.kept household) state × (list_any (nat_eq household) trial.households.items ≡ true → state.sheet < trial.before)) (IsAsOf after household)
+        (each household) (states_in new household) (left household)

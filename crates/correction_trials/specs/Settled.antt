@@ -1,0 +1,42 @@
+-- What a trial leaves of the kept states: where it breaks no order, those that its correction doesn't touch.
+use Rattle.std.specs.List.{list_any}
+use Rattle.std.specs.Prelude.{All, Contains, List, false, nat_eq, true, ℕ, ◌<◌, ◌≡◌}
+use Rattle.agent_events.specs.Events.{Event}
+use Rattle.correction_trials.specs.Starts.{LeavesPartsBefore}
+use Rattle.correction_trials.specs.Trials.{Says}
+use Rattle.correction_trials.specs.declared.trial.Trial.{Trial}
+use Rattle.correction_trials.specs.declared.trial.Tried.{Tried}
+use Rattle.desk_books.specs.declared.books.DeskBooks.{DeskBooks}
+use Rattle.kept_of_journals.specs.KeptOfBooks.{AreKeptOf, AreLikeLong}
+use Rattle.kept_states.specs.KeptStates.{states_in}
+use Rattle.kept_states.specs.declared.states.HouseholdStates.{HouseholdStates}
+use Rattle.register_laws.specs.CorrectionReach.{LeavesPart}
+use Rattle.register_laws.specs.Lawful.{book_behind}
+use Rattle.register_machine.specs.journal.Journals.{Journal, with_event}
+
+-- The trial of a correction: what it says, whose parts stay, and before which sheet no part changes.
+pub record IsTrialOf (books : DeskBooks) (event : Event) (trial : Trial) : Type 0 where
+  pub says : Says books.book.journal event books.ledger.parts trial.tried
+  pub left : (household : ℕ) → list_any (nat_eq household) trial.households.items ≡ false
+      → LeavesPart (book_behind books.book.journal) (book_behind (with_event books.book.journal event)) household
+  pub like : AreLikeLong (book_behind books.book.journal) (book_behind (with_event books.book.journal event))
+  pub before : LeavesPartsBefore books.book.journal event trial.before
+
+-- of these households, only states behind sheets before this one; of others, no new ones
+abbrev pub AreBefore : List ℕ → ℕ → List (ℕ × HouseholdStates) → List (ℕ × HouseholdStates) → Type 0
+AreBefore households before old new =
+    (household : ℕ) → All (λ state. Contains (states_in old household) state
+    × (list_any (nat_eq household) households ≡ true → state.sheet < before)) (states_in new household)
+
+abbrev pub AreForgottenBy : Tried → List ℕ → ℕ → List (ℕ × HouseholdStates) → List (ℕ × HouseholdStates) → Type 0
+AreForgottenBy (Tried.Breaks _) households before old new = new ≡ old
+AreForgottenBy (Tried.Moves change) households before old new = AreBefore households before old new
+
+-- where the trial breaks no order
+abbrev pub AreForgotten : Trial → List (ℕ × HouseholdStates) → List (ℕ × HouseholdStates) → Type 0
+AreForgotten trial old new = AreForgottenBy trial.tried trial.households.items trial.before old new
+
+-- behind a correction that breaks no order the kept states are what their households came to
+abbrev pub KeepsStates : Journal → Event → List (ℕ × HouseholdStates) → Tried → Type 0
+KeepsStates journal event rows (Tried.Breaks _) = Unit {0}
+KeepsStates journal event rows (Tried.Moves change) = AreKeptOf (book_behind (with_event journal event)) rows

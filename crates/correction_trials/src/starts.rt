@@ -1,0 +1,43 @@
+//! Where the replay of a household begins: at a state that is kept of it, behind a sheet that the correction doesn't touch, or
+//! before all sheets.
+ghost use Rattle.std.specs.Prelude.{◌≡◌, IfOk};
+ghost use Rattle.correction_trials.specs.Starts.{IsStart, start_at};
+ghost use Rattle.kept_states.specs.KeptStates.{states_in};
+
+use checkpoint_replay::ReplayStart;
+use household_fold::HouseholdState;
+use kept_states::{KeptState, KeptStates};
+use money_units::NoMemory;
+use std::alloc::Global;
+
+/// The last state of a household that is kept behind a sheet before this one, copied, or the start before all sheets.
+pub(crate) fn start_of(
+    alloc: Global,
+    kept: &KeptStates,
+    household: u32,
+    before: u32,
+) -> Result<ReplayStart, NoMemory>
+    ensures { IfOk result (IsStart (states_in kept.now household) household before) }
+{
+    match kept.before(household, before) {
+        Some(state) => start_at(alloc, household, state),
+        None => Ok(ReplayStart {
+            household,
+            state: HouseholdState::fresh(alloc, household),
+            sheet: 0,
+            kept: 0,
+        }),
+    }
+}
+
+fn start_at(alloc: Global, household: u32, kept: &KeptState) -> Result<ReplayStart, NoMemory>
+    ensures { IfOk result (λ start. start ≡ start_at household kept.now) }
+{
+    let state = kept.state.copied(alloc)?;
+    Ok(ReplayStart {
+        household,
+        state,
+        sheet: kept.sheet,
+        kept: kept.trades,
+    })
+}
