@@ -1,11 +1,14 @@
 //! An event that follows the journal: its reply, and all that it changes.
-ghost use Rattle.std.specs.Prelude.{◌≡◌, IfOk, None};
+ghost use Rattle.std.specs.Prelude.{◌≡◌, IfOk, None, true};
 ghost use Rattle.std.specs.Option.{option_copied};
 ghost use Rattle.desk_answers.specs.Answered.{IsReadyToNote, answer_given};
 ghost use Rattle.desk_answers.specs.Fresh.{first_answer, ledger_of};
 ghost use Rattle.desk_books.specs.BooksOfJournals.{AreBooksOf, ShowTheSame};
 ghost use Rattle.desk_books.specs.LedgerChanges.{IsLedgerChange};
 ghost use Rattle.desk_replies.specs.Replies.{correction_in};
+ghost use Rattle.event_laws.specs.EventReplays.{is_correction};
+ghost use Rattle.kept_of_journals.specs.KeptOfBooks.{AreKeptOf};
+ghost use Rattle.register_laws.specs.Lawful.{book_behind};
 ghost use Rattle.register_machine.specs.journal.Journals.{with_event};
 ghost use Rattle.register_machine.specs.journal.Lawful.{IsLawful};
 
@@ -37,6 +40,8 @@ pub(crate) fn answer_event(
     requires books { AreBooksOf books.old.book.journal books.old }
     requires follows { IsLawful (with_event books.old.book.journal event) }
     requires ledger { IsLedgerChange books.old.book.journal event books.old.ledger.parts ledger }
+    requires kept { is_correction event.kind ≡ true
+        → AreKeptOf (book_behind (with_event books.old.book.journal event)) books.old.kept }
     ensures same { ShowTheSame books.old books.new }
     ensures journal { books.new.book.journal ≡ books.old.book.journal }
     ensures answer { IfOk result (λ answered. answer_given answered
