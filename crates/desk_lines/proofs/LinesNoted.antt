@@ -1,13 +1,14 @@
 -- The books behind the order of a line: those of the journal with its event; nothing but the orders is changed.
-use Rattle.std.proofs.Common.{None, Some, [], ap, refl, sym, ℕ, ◌++◌, ◌∙◌, ◌∷◌, ◌≡◌, ◌≤◌, length}
+use Rattle.std.proofs.Common.{None, Some, [], ap, refl, sym, ℕ, ◌++◌, ◌∷◌, ◌≡◌, ◌≤◌, length}
+use Rattle.std.proofs.lemmas.Bool.{true≢false}
 use Rattle.agent_events.specs.declared.event.Placed.{Placed}
 use Rattle.dealer_lines.specs.Lines.{line_event}
 use Rattle.desk_books.proofs.BooksAfter.{books_after}
+use Rattle.desk_books.proofs.KeptAfter.{kept_behind}
 use Rattle.desk_books.specs.BooksOfJournals.{AreBooksOf}
 use Rattle.desk_books.specs.declared.books.DeskBooks.{DeskBooks}
 use Rattle.desk_books.specs.declared.change.EventChange.{EventChange}
 use Rattle.desk_books.specs.declared.change.OrderChange.{OrderChange}
-use Rattle.forward_price.specs.PriceTables.{Table}
 use Rattle.journal_tables.specs.declared.change.TableChange.{TableChange}
 use Rattle.register_machine.specs.journal.Journals.{with_event}
 use Rattle.register_machine.specs.journal.Kinds.{accounts_of, household_of}
@@ -32,6 +33,7 @@ pub record HasLine (books : DeskBooks) (moment : ℕ) (placed : Placed) (househo
   pub waiting : after.orders.waiting ≡ books.orders.waiting ++ length books.orders.owners ∷ []
   pub ledger : after.ledger ≡ books.ledger
   pub cash : after.cash ≡ books.cash
+  pub kept : after.kept ≡ books.kept
 
 pub line_noted : (books : DeskBooks) (moment : ℕ) (placed : Placed) (household : ℕ) (after : DeskBooks) → AreBooksOf books.book.journal books → IsLawful (with_event books.book.journal (line_event moment placed)) → 1 ≤ books.book.spare → 1 ≤ books.orders.spare → household_of (accounts_of books.book.journal) placed.order.account ≡ Some household → HasLine books moment placed household after → AreBooksOf (with_event books.book.journal (line_event moment placed)) after
 line_noted books moment placed household after are lawful room order_room found has =
@@ -48,6 +50,7 @@ line_noted books moment placed household after are lawful room order_room found 
       orders = (household, found, refl);
       order_room = order_room;
       ledger = refl;
+      kept = kept_behind books.book.journal (line_event moment placed) books.kept lawful are.kept (λ corrects. absurd (true≢false (sym corrects)));
       ledger_room = tt;
     })
     (record {
@@ -57,4 +60,5 @@ line_noted books moment placed household after are lawful room order_room found 
       owners = has.owners;
       waiting = has.waiting;
       posted = (has.ledger, has.cash);
+      kept = has.kept;
     })

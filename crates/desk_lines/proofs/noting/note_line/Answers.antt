@@ -33,7 +33,7 @@ returns-clause-noted c =
     subst (λ (book : NotedJournal). household_of (accounts_of book.journal) c.args.placed.now.order.account ≡ Some c.household_of-household.result) c.orders.ensures
     (subst (λ n. household_of (accounts_of c.orders.result.now.journal) n ≡ Some c.household_of-household.result) c.number.ensures.value c.household_of-household.ensures) in
     line_noted books c.args.moment c.args.placed.now c.household_of-household.result
-    (record { book = c.note.new.self; tables = books.tables; prices = books.prices; orders = c.begin.new.self; ledger = books.ledger; cash = books.cash })
+    (record { book = c.note.new.self; tables = books.tables; prices = books.prices; orders = c.begin.new.self; ledger = books.ledger; cash = books.cash; kept = books.kept })
     c.requires.books c.requires.follows c.requires.room c.requires.order_room found
     (record {
       noted = c.note.ensures.journal ∙ ap (λ (event : Event). with_event books.book.journal event) c.new-event.ensures;
@@ -43,4 +43,5 @@ returns-clause-noted c =
       waiting = c.begin.ensures.waiting;
       ledger = refl;
       cash = refl;
+      kept = refl;
     })

@@ -1,4 +1,4 @@
-use Rattle.std.proofs.Common.{subst, sym, take, ◌++◌, ◌≡◌}
+use Rattle.std.proofs.Common.{subst, sym, take, ◌++◌}
 use Rattle.agent_events.specs.declared.event.Placed.{Placed}
 use Rattle.dealer_lines.specs.Lines.{line_event, line_events}
 use Rattle.desk_lines.proofs.OneByOne.{next_follows}
