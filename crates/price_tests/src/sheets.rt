@@ -1,7 +1,7 @@
 //! Sheets of prices: what is due and expected, what is published and withdrawn.
 use crate::books::{
-    FIRST, FOURTH, SECOND, THIRD, enter_calendar, one_class, open_class, publish_one,
-    two_calendars, two_sheets,
+    FIRST, FOURTH, OPENED, SECOND, THIRD, enter_calendar, new_york, one_class, open_class,
+    publish_one, two_calendars, two_sheets,
 };
 use crate::fixtures::{day, nav};
 use forward_price::{PriceBook, PublishFault};
@@ -47,6 +47,44 @@ fn sheets_are_looked_up(rt: HostRuntime) -> Result<(), Fail> {
     let sheet = book.sheet(2).ok_or("no sheet")?;
     assert_eq!(rt; sheet.day, day("2024-07-02")?);
     assert_eq!(rt; sheet.prices.as_slice(), [(14, nav(1100)?)].as_slice());
+    Ok(())
+}
+
+// A calendar that comes late has moments before those of the sheets that are published.
+#[test]
+fn sheets_out_of_order_are_looked_up(rt: HostRuntime) -> Result<(), Fail> {
+    let mut book = two_sheets(rt.alloc())?;
+    let late = new_york(rt.alloc(), 2)?;
+    enter_calendar(&mut book, late)?;
+    open_class(&mut book, 24, 2, OPENED)?;
+    assert_eq!(rt; publish_one(&mut book, 2, FIRST, 24, 500)?, 3);
+    assert_eq!(rt; publish_one(&mut book, 2, SECOND, 24, 600)?, 4);
+    for (receipt, class, number) in [
+        (FIRST - 1, 14, Some(1)),
+        (FIRST, 14, Some(2)),
+        (SECOND, 14, None),
+        (FIRST - 1, 24, Some(3)),
+        (FIRST, 24, Some(4)),
+    ] {
+        assert_eq!(rt;
+            book.first_after(receipt, &[class]),
+            number,
+            "{class} after {receipt}"
+        );
+    }
+    for (class, moment, cents) in [
+        (14, SECOND, Some(1000)),
+        (14, THIRD, Some(1100)),
+        (24, FIRST, None),
+        (24, THIRD, Some(600)),
+    ] {
+        let found = book.last_before(None, class, moment);
+        assert_eq!(rt;
+            found.map(|nav| nav.cents()),
+            cents,
+            "{class} before {moment}"
+        );
+    }
     Ok(())
 }
 
