@@ -1,5 +1,7 @@
 //! Checkpoint rows: states are read and written again; bytes that break a rule or a limit are none.
+use money_units::NoMemory;
 use state_rows::{decode_state, encode_state};
+use std::alloc::Global;
 use std::test::Fail;
 
 /// Rows of states that keep the rules and limits.
@@ -93,6 +95,42 @@ fn each_state_is_written_as_it_was_read(rt: HostRuntime) -> Result<(), Fail> {
 fn no_rows_are_none(rt: HostRuntime) -> Result<(), Fail> {
     for row in &NO_ROWS {
         assert!(rt; decode_state(rt.alloc(), row)?.is_none());
+    }
+    Ok(())
+}
+
+// A position with an election of cash alone.
+fn put_position(row: &mut Vec<u8>, account: u8, class: u16) -> Result<(), NoMemory> {
+    row.extend_from_slice(&[0, 0, 0, account, 0, 0])?;
+    row.extend_from_slice(&class.to_be_bytes())?;
+    row.extend_from_slice(&[1, 0, 0, 0, 1, 0, 0, 0])?;
+    Ok(())
+}
+
+// A row of so many positions: account 1 has classes 1 to 600, account 2 these.
+fn row_of_classes(alloc: Global, count: u16, first: u16, last: u16) -> Result<Vec<u8>, NoMemory> {
+    let mut row = Vec::new(alloc);
+    row.extend_from_slice(&[1, 0, 0, 0, 1])?;
+    row.extend_from_slice(&count.to_be_bytes())?;
+    for class in 1..=600 {
+        put_position(&mut row, 1, class)?;
+    }
+    for class in first..=last {
+        put_position(&mut row, 2, class)?;
+    }
+    Ok(row)
+}
+
+#[test]
+fn the_classes_of_all_accounts_are_few(rt: HostRuntime) -> Result<(), Fail> {
+    for (count, first, last, is_row) in [
+        (1000, 601, 1000, true),
+        (1001, 601, 1001, false),
+        (1200, 1, 600, true),
+    ] {
+        let row = row_of_classes(rt.alloc(), count, first, last)?;
+        let state = decode_state(rt.alloc(), &row)?;
+        assert_eq!(rt; state.is_some(), is_row, "{count} positions");
     }
     Ok(())
 }

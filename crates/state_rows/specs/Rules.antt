@@ -1,6 +1,6 @@
 -- The rules and limits of a checkpoint row. Every state that a replay from the first sheet reaches keeps them.
-use Rattle.std.specs.Prelude.{ℕ, ◌+◌, Bool, true, false, not, ◌&&◌, ◌||◌, ◌==◌, nat_lt, nat_le, if◌then◌else◌, List, [], ◌∷◌, length, count_by, sum_by, Option, Some, None}
-use Rattle.std.specs.List.{list_all}
+use Rattle.std.specs.Prelude.{ℕ, ◌+◌, Bool, true, false, not, ◌&&◌, ◌||◌, ◌==◌, nat_eq, nat_lt, nat_le, if◌then◌else◌, List, [], ◌∷◌, length, count_by, sum_by, Option, Some, None}
+use Rattle.std.specs.List.{list_all, list_any}
 use Rattle.agent_events.specs.declared.checkpoint.LetterRow.{LetterRow}
 use Rattle.agent_events.specs.declared.checkpoint.LotRow.{LotRow}
 use Rattle.agent_events.specs.declared.checkpoint.PositionRow.{PositionRow}
@@ -94,10 +94,9 @@ loaded_lots row = count_by (λ lot. not (is_free lot)) row.lots
 abbrev pub account_lots : ℕ → PositionRow → ℕ
 account_lots account row = if is_of account row then loaded_lots row else 0
 
--- an account has at most 1,000 classes, and 8,192 lots that aren't free
+-- an account has at most 8,192 lots that aren't free
 abbrev pub is_account : List PositionRow → ℕ → Bool
-is_account rows account =
-    nat_le (count_by (is_of account) rows) 1000 && nat_le (sum_by (account_lots account) rows) 8192
+is_account rows account = nat_le (sum_by (account_lots account) rows) 8192
 
 -- how many accounts there are, each with its positions together
 abbrev pub accounts_after : ℕ → List PositionRow → ℕ
@@ -109,9 +108,22 @@ accounts_after account (row ∷ rows) =
 abbrev pub are_accounts : List PositionRow → Bool
 are_accounts rows = nat_le (accounts_after 0 rows) 64 && list_all (λ row. is_account rows row.account) rows
 
+-- how many classes positions have besides these
+abbrev pub classes_beside : List ℕ → List PositionRow → ℕ
+classes_beside met [] = 0
+classes_beside met (row ∷ rows) =
+    (if list_any (nat_eq row.class) met then 0 else 1) + classes_beside (row.class ∷ met) rows
+
+-- the register has at most 1,000 classes
+abbrev pub are_few_classes : List PositionRow → Bool
+are_few_classes rows = nat_le (classes_beside [] rows) 1000
+
 -- ---- the whole row
 
-abbrev pub keeps_rules : StateRow → Bool
-keeps_rules state =
+abbrev pub keeps_own_rules : StateRow → Bool
+keeps_own_rules state =
     nat_le 1 state.household
     && (list_all is_position state.positions && (are_ordered state.positions && are_accounts state.positions))
+
+abbrev pub keeps_rules : StateRow → Bool
+keeps_rules state = keeps_own_rules state && are_few_classes state.positions

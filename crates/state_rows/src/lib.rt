@@ -3,6 +3,7 @@
 //! The spelling, the rules and the limits are definitions in specs/. Bytes that are no such row are told from those that are.
 #![tactic(auto)]
 
+mod classes;
 pub mod laws;
 mod readers;
 mod rows;

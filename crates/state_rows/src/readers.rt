@@ -115,7 +115,7 @@ pub(crate) fn read_state(alloc: Global, row: &mut RowReader) -> Result<StateRow,
         household: row.u32()?,
         positions: read_listed_positions(alloc, row)?,
     };
-    if keeps_rules(&state) {
+    if keeps_rules(alloc, &state)? {
         Ok(state)
     } else {
         Err(RowFault::Wrong)

@@ -1,9 +1,12 @@
 //! The rules and limits of a checkpoint row.
-ghost use Rattle.std.specs.Prelude.{◌≡◌, ◌<◌, true, nat_le, IfSome, count_by, sum_by};
+ghost use Rattle.std.specs.Prelude.{◌≡◌, ◌<◌, true, nat_le, IfOk, IfSome, count_by, sum_by};
 ghost use Rattle.std.specs.List.{list_all};
 ghost use Rattle.state_rows.specs.Rules as rule;
 
+use crate::classes::are_few_classes;
 use agent_events::{LetterRow, LotRow, PositionRow, StateRow};
+use money_units::NoMemory;
+use std::alloc::Global;
 
 // A lot has mils, and a number from 1 to below the next one.
 fn is_lot(lot: &LotRow, next_lot: u32) -> bool
@@ -170,12 +173,6 @@ fn is_of(row: &PositionRow, account: u32) -> bool
     row.account == account
 }
 
-fn positions_of(rows: &[PositionRow], account: u32) -> usize
-    ensures { result ≡ count_by (rule.is_of account) rows.now }
-{
-    rows.iter().filter(|row| is_of(row, account)).count()
-}
-
 fn loaded_lots(row: &PositionRow) -> usize
     ensures { result ≡ rule.loaded_lots row.now }
 {
@@ -210,7 +207,7 @@ fn few_loaded_lots(rows: &[PositionRow], account: u32) -> bool
 fn is_account(rows: &[PositionRow], account: u32) -> bool
     ensures { result ≡ rule.is_account rows.now account }
 {
-    positions_of(rows, account) <= 1_000 && few_loaded_lots(rows, account)
+    few_loaded_lots(rows, account)
 }
 
 // Whether the account of a position keeps its limits, after one that does.
@@ -247,8 +244,20 @@ fn are_accounts(rows: &[PositionRow]) -> bool
 }
 
 /// Whether a state keeps the rules and limits of a row.
-pub(crate) fn keeps_rules(state: &StateRow) -> bool
-    ensures { result ≡ rule.keeps_rules state.now }
+pub(crate) fn keeps_rules(alloc: Global, state: &StateRow) -> Result<bool, NoMemory>
+    ensures { IfOk result (λ keeps. keeps ≡ rule.keeps_rules state.now) }
+{
+    let rows = state.positions.as_slice();
+    if keeps_own_rules(state) {
+        are_few_classes(alloc, rows)
+    } else {
+        Ok(false)
+    }
+}
+
+// Whether it does but for the classes of all its positions.
+fn keeps_own_rules(state: &StateRow) -> bool
+    ensures { result ≡ rule.keeps_own_rules state.now }
 {
     1 <= state.household
         && all_positions(state.positions.as_slice())
