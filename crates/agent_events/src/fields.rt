@@ -58,7 +58,8 @@ impl Model for Reference {
 
     ghost view = { λ reference. reference.number };
 
-    ghost invariant = { λ reference. (1 ≤ reference.number) × (reference.number ≤ 9999999999999999999) };
+    ghost invariant = { λ reference. (1 ≤ reference.number)
+        × (reference.number ≤ 9999999999999999999) };
 
     ghost inverse = { λ n. record { number = n } };
 }

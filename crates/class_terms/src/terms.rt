@@ -23,7 +23,8 @@ impl Model for Terms {
 
     ghost view = { λ terms. terms.form };
 
-    ghost invariant = { λ terms. (front_fault terms.form.front ≡ None) × (deferred_fault terms.form.deferred ≡ None) };
+    ghost invariant = { λ terms. (front_fault terms.form.front ≡ None)
+        × (deferred_fault terms.form.deferred ≡ None) };
 }
 
 impl Terms {

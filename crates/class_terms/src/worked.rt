@@ -21,7 +21,8 @@ pub fn faults_of_tables()
     ensures no_row { front_fault [] ≡ Some 0 }
     ensures many_rows { front_fault (replicate 17 (row_of 0 0)) ≡ Some 0 }
     ensures first_floor { front_fault (row_of 1 575 ∷ []) ≡ Some 1 }
-    ensures floor_stays { front_fault (row_of 0 575 ∷ row_of 2500000 500 ∷ row_of 2500000 450 ∷ []) ≡ Some 3 }
+    ensures floor_stays { front_fault
+        (row_of 0 575 ∷ row_of 2500000 500 ∷ row_of 2500000 450 ∷ []) ≡ Some 3 }
     ensures rate_rises { front_fault (row_of 0 575 ∷ row_of 2500000 576 ∷ []) ≡ Some 2 }
     ensures above_ceiling { front_fault (row_of 0 851 ∷ []) ≡ Some 1 }
     ensures many_years { deferred_fault (replicate 11 0) ≡ Some 0 }

@@ -135,7 +135,8 @@ fn answer_read<K: Keeper, C: Clock, L: StepLedger>(
 
 // The text for what isn't in its form at this place.
 fn bad_form(alloc: Global, place: u8, last: bool) -> Text
-    ensures { (journal : Journal) (faults : ℕ) → Gets last (said_to_bad_form last place) (kept_at journal faults)
+    ensures { (journal : Journal) (faults : ℕ)
+        → Gets last (said_to_bad_form last place) (kept_at journal faults)
         (text_of last result)
         (kept_at journal faults) }
 {

@@ -37,7 +37,8 @@ pub(crate) fn kept_text(answer: Result<Bytes, KeepFault>) -> Text
 // Writes the text of an answer; `last` says that the connection closes behind it.
 pub(crate) fn write_text<D: Door>(door: &mut D, text: &Text, last: bool) -> Result<(), LinkFault>
     requires { IsTrue (D.is_connected door.old) }
-    ensures written { IsWritten (spec.text_of last text.now) (D.told door.old) (D.told door.new) result }
+    ensures written { IsWritten (spec.text_of last text.now) (D.told door.old) (D.told door.new)
+        result }
     ensures connected { IsTrue (D.is_connected door.new) }
     ensures fault { OnErr result (Rose (D.link_faults door.old) (D.link_faults door.new)) }
     ensures no_fault { OnOk result (D.link_faults door.new ≡ D.link_faults door.old) }

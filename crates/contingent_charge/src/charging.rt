@@ -120,7 +120,8 @@ fn base_of(piece: &Piece, value: Cents) -> Cents
 /// The charge of a piece.
 fn charge_of(piece: &Piece, value: Cents, day: Day, schedule: &[Bps]) -> Cents
     requires rates { All (λ rate. rate ≤ 850) schedule.now }
-    ensures charge { result ≡ spec.charge_of day schedule.now (record { piece = piece.now; value = value }) }
+    ensures charge { result ≡ spec.charge_of day schedule.now
+        (record { piece = piece.now; value = value }) }
     ensures within { result ≤ value }
 {
     if piece.free {

@@ -14,7 +14,8 @@ pub fn nothing_is_less_than_half_a_cent(
     room: Mils,
     cost_room: Cents,
 )
-    ensures { (payment mils rate nav in_cash room cost_room ≡ Nothing) ↔ (2 * (mils * rate) < 10000000) }
+    ensures { (payment mils rate nav in_cash room cost_room ≡ Nothing) ↔
+        (2 * (mils * rate) < 10000000) }
 {}
 
 /// What is reinvested wasn't elected in cash, is some cents and some mils, and keeps the position within its ceiling of mils
@@ -58,7 +59,8 @@ pub fn cash_has_a_cause(
 )
     requires { payment mils rate nav in_cash room cost_room ≡ Cash cash }
     ensures cents { 1 ≤ cash }
-    ensures cause { (in_cash ≡ true) ⊎ (mils_of cash nav ≡ 0) ⊎ (room < mils_of cash nav) ⊎ (cost_room < cash) }
+    ensures cause { (in_cash ≡ true) ⊎ (mils_of cash nav ≡ 0) ⊎ (room < mils_of cash nav)
+        ⊎ (cost_room < cash) }
 {}
 
 /// Where none of these is the cause, the dividend is reinvested.

@@ -34,7 +34,8 @@ pub fn encode(alloc: Global, event: &Event) -> Result<Vec<u8>, NoMemory>
 /// The event whose row the bytes are; `None` exactly where they are no event's row.
 pub fn decode(alloc: Global, bytes: &[u8]) -> Result<Option<Event>, NoMemory>
     // What is read is spelled so, all of the bytes.
-    ensures found { IfOk result (λ read. IfSome read (λ event. InForm event × (bytes.now ≡ event_row event))) }
+    ensures found { IfOk result (λ read. IfSome read
+        (λ event. InForm event × (bytes.now ≡ event_row event))) }
     // What is spelled so is read.
     ensures only { (event : Event) → InForm event → bytes.now ≡ event_row event
         → IfOk result (λ read. read ≡ Some event) }

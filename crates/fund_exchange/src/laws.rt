@@ -12,14 +12,16 @@ pub fn new_mils_make_the_whole(pieces: &[Piece], from: Nav, to: Nav)
     requires { 1 ≤ to }
     ensures all { mils_total (renewed_all from to pieces.now)
         ≡ half (1000 * value_at from (mils_total pieces.now)) to }
-    ensures carried { (carried from to pieces.now).mils ≡ half (1000 * value_at from (mils_total pieces.now)) to }
+    ensures carried { (carried from to pieces.now).mils
+        ≡ half (1000 * value_at from (mils_total pieces.now)) to }
 {}
 
 /// Every piece keeps its lot number, its date, its cost and its free mark, and those that are carried are those of them
 /// that have new mils.
 pub fn dates_costs_and_marks_are_kept(pieces: &[Piece], from: Nav, to: Nav)
     ensures kept { map without_mils (renewed_all from to pieces.now) ≡ map without_mils pieces.now }
-    ensures carried { (carried from to pieces.now).pieces ≡ filter has_mils (renewed_all from to pieces.now) }
+    ensures carried { (carried from to pieces.now).pieces
+        ≡ filter has_mils (renewed_all from to pieces.now) }
     ensures with_mils { All (λ piece. 1 ≤ piece.mils) (carried from to pieces.now).pieces }
     ensures cost { (carried from to pieces.now).cost ≤ cost_total pieces.now }
 {}

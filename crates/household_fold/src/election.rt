@@ -20,7 +20,8 @@ pub(crate) fn elect(
     in_cash: bool,
 ) -> Result<(), NoMemory>
     requires { FactsFit facts.now }
-    ensures { OnOk result (day.new ≡ day_after_election (sheet_at_hand facts.now) day.old order.now in_cash) }
+    ensures { OnOk result (day.new
+        ≡ day_after_election (sheet_at_hand facts.now) day.old order.now in_cash) }
 {
     let mut position = day.take_out(alloc, order.account.number(), class_of(&order.body));
     position.in_cash = in_cash;

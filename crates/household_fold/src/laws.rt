@@ -9,5 +9,6 @@ ghost use Rattle.household_fold.specs.Households.{orders_of, row_of};
 
 /// Of the rows of its orders a step reads the orders alone, in their turn.
 pub fn a_step_reads_orders_alone()
-    ensures { (book : Book) (sheet : Sheet) (rows : List OrderRow) (day : Day) → day_step book sheet (map row_of (orders_of rows)) day ≡ day_step book sheet rows day }
+    ensures { (book : Book) (sheet : Sheet) (rows : List OrderRow) (day : Day)
+        → day_step book sheet (map row_of (orders_of rows)) day ≡ day_step book sheet rows day }
 {}

@@ -64,9 +64,12 @@ impl HouseholdState {
         requires facts { FactsFit facts.now }
         requires owned { AreOwned facts.now self.now.number self.now.register }
         requires orders { AreOrdersOf facts.now self.now.number orders.now }
-        requires lots { AreNumbersWithin (step_known facts.now orders.now self.now.register).register }
-        ensures state { IfOk result (λ after. after.0 ≡ household_after facts.now orders.now self.now) }
-        ensures trades { IfOk result (λ after. after.1 ≡ trades_after facts.now orders.now self.now) }
+        requires lots { AreNumbersWithin
+            (step_known facts.now orders.now self.now.register).register }
+        ensures state { IfOk result (λ after. after.0
+            ≡ household_after facts.now orders.now self.now) }
+        ensures trades { IfOk result (λ after. after.1
+            ≡ trades_after facts.now orders.now self.now) }
         ensures owned { IfOk result (λ after. AreOwned facts.now after.0.number after.0.register) }
         ensures step { steps.new ≡ steps.old + 1 }
     {
@@ -129,7 +132,8 @@ impl HouseholdState {
     pub fn is_quiet(&self, facts: &Facts, orders: &[Order]) -> bool
         requires { FactsFit facts.now }
         ensures quiet { result ≡ is_quiet_for facts.now orders.now self.now.register }
-        ensures nothing { result ≡ true → step_known facts.now orders.now self.now.register ≡ first_of self.now.register }
+        ensures nothing { result ≡ true
+            → step_known facts.now orders.now self.now.register ≡ first_of self.now.register }
     {
         is_quiet(facts, &self.register, orders)
     }
@@ -143,7 +147,9 @@ impl HouseholdState {
 
     /// The lots of an account in a class; `None` where no position is kept.
     pub fn position(&self, account: u32, class: u32) -> Option<&Position>
-        ensures { option_copied result ≡ option_map (λ position. position.holding) (find (is_position account class) self.now.register) }
+        ensures { option_copied result
+            ≡ option_map (λ position. position.holding)
+            (find (is_position account class) self.now.register) }
     {
         match self.register.find(account, class) {
             Some(position) => Some(&position.holding),
@@ -179,8 +185,10 @@ fn after_sheet(
     requires letters { AreLettersWithin register }
     requires orders { AreOrdersOf facts.now household orders.now }
     requires lots { AreNumbersWithin (step_known facts.now orders.now register).register }
-    ensures register { IfOk result (λ after. after.0 ≡ (step_known facts.now orders.now register).register) }
-    ensures trades { IfOk result (λ after. after.1 ≡ (step_known facts.now orders.now register).trades) }
+    ensures register { IfOk result
+        (λ after. after.0 ≡ (step_known facts.now orders.now register).register) }
+    ensures trades { IfOk result (λ after. after.1
+        ≡ (step_known facts.now orders.now register).trades) }
     ensures letters { IfOk result (λ after. AreLettersWithin after.0) }
     ensures owned { IfOk result (λ after. AreOwned facts.now household after.0) }
 {

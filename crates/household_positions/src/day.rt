@@ -72,7 +72,8 @@ impl HouseholdDay {
 
     /// An order that is unfilled, by its trade as if it were filled without effect.
     pub fn add_unfilled(&mut self, trade: &Trade, why: Why) -> Result<(), NoMemory>
-        ensures { OnOk result (self.new ≡ with_trade self.old (record trade.now { outcome = Unfilled why })) }
+        ensures { OnOk result (self.new
+            ≡ with_trade self.old (record trade.now { outcome = Unfilled why })) }
     {
         let mut unfilled = *trade;
         unfilled.outcome = Outcome::Unfilled(why);

@@ -35,7 +35,8 @@ fn in_place(positions: &[HeldPosition], place: usize) -> Option<&HeldPosition>
 
 /// Whether the position of this account and class stands in a place.
 fn stands_in(positions: &[HeldPosition], place: usize, account: u32, class: u32) -> bool
-    ensures { result ≡ option_map_or (is_position account class) (slice_get positions.now place) false }
+    ensures { result ≡ option_map_or (is_position account class) (slice_get positions.now place)
+        false }
 {
     match in_place(positions, place) {
         Some(position) => position.is_at(account, class),
@@ -78,7 +79,8 @@ pub fn remove_found(
 /// Clears the place of a position.
 fn clear_place(positions: &mut Vec<HeldPosition>, position: &HeldPosition)
     requires { IsRegister positions.old.items }
-    ensures rest { positions.new.items ≡ without position.now.account position.now.class positions.old.items }
+    ensures rest { positions.new.items
+        ≡ without position.now.account position.now.class positions.old.items }
     ensures register { IsRegister positions.new.items }
 {
     let _before = remove_found(positions, position.account, position.class);
@@ -87,7 +89,8 @@ fn clear_place(positions: &mut Vec<HeldPosition>, position: &HeldPosition)
 /// Puts a position in its place, which nothing has, and drops it where it is fresh.
 fn insert_kept(positions: &mut Vec<HeldPosition>, position: HeldPosition) -> Result<(), NoMemory>
     requires register { IsRegister positions.old.items }
-    requires absent { find (is_position position.account position.class) positions.old.items ≡ None }
+    requires absent { find (is_position position.account position.class) positions.old.items
+        ≡ None }
     ensures ok { OnOk result (positions.new.items ≡ spec.put position positions.old.items) }
     ensures register { IsRegister positions.new.items }
 {

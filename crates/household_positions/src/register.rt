@@ -158,7 +158,8 @@ fn push_key_if(
     position: &HeldPosition,
     asked: bool,
 ) -> Result<(), NoMemory>
-    ensures { OnOk result (keys.new ≡ keys.old ++ (if asked then key_of position.now ∷ [] else [])) }
+    ensures { OnOk result (keys.new
+        ≡ keys.old ++ (if asked then key_of position.now ∷ [] else [])) }
 {
     if asked {
         keys.push_copy(&position.key())?;

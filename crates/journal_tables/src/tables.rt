@@ -33,9 +33,11 @@ impl Model for JournalTables {
 
     ghost Value = { Tables };
 
-    ghost view = { λ tables. record { terms = tables.terms; accounts = tables.accounts; rates = tables.rates } };
+    ghost view = { λ tables. record { terms = tables.terms; accounts = tables.accounts;
+        rates = tables.rates } };
 
-    ghost invariant = { λ tables. StandByNumber (record { terms = tables.terms; accounts = tables.accounts; rates = tables.rates }) };
+    ghost invariant = { λ tables. StandByNumber
+        (record { terms = tables.terms; accounts = tables.accounts; rates = tables.rates }) };
 }
 
 impl JournalTables {
@@ -90,7 +92,8 @@ impl JournalTables {
 
     /// A copy of the dividend rates with a corrected one, for its trial.
     pub fn rates_with(&self, alloc: Global, form: &FixRateForm) -> Result<Rates, NoMemory>
-        ensures { IfOk result (λ rates. rates ≡ with_fixed_rate self.now.rates (row_of_fix form.now)) }
+        ensures { IfOk result (λ rates. rates
+            ≡ with_fixed_rate self.now.rates (row_of_fix form.now)) }
     {
         let mut rates: Rates = List::from_slice(alloc, self.rates.as_slice())?;
         let room = Room::new(alloc, rates.len())?;

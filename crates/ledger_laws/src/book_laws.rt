@@ -16,7 +16,8 @@ pub fn lawful_journals_have_a_sound_book()
 /// Where none of the rules before the last one refuses a correction of a lawful journal, its book on trial is sound, whatever the
 /// correction breaks: it is the journal's book, gone on by the correction.
 pub fn corrections_on_trial_have_a_sound_book()
-    ensures { (journal : Journal) (event : Event) (caller : Caller) → LawfulTrialIsSound journal event caller }
+    ensures { (journal : Journal) (event : Event) (caller : Caller)
+        → LawfulTrialIsSound journal event caller }
 {}
 
 /// Tables that have the sheets of a book, numbered from 1 on, and by number the terms of its classes, the households of its

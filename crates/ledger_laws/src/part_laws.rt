@@ -9,7 +9,8 @@ ghost use Rattle.ledger_laws.specs.OwnedByAccounts.{OrderlyNumbersWithin, SoundB
 /// classes that have terms, after any number of sheets; and its orders on a sheet are of its accounts, and of classes that the
 /// sheet lists.
 pub fn parts_are_owned()
-    ensures { (known : Known) (book : Book) (household : ℕ) → SoundPartsAreOwned known book household }
+    ensures { (known : Known) (book : Book) (household : ℕ)
+        → SoundPartsAreOwned known book household }
 {}
 
 /// In an orderly book the numbers of lots in a household's part stay within 32 bits after any number of sheets, for every account
@@ -21,7 +22,8 @@ pub fn numbers_of_lots_stay_within()
 /// So where the tables of the facts stand by number and are within limits, all that a household's step asks for holds before each
 /// sheet of the book.
 pub fn households_can_step_over_each_sheet()
-    ensures { (known : Known) (book : Book) (household : ℕ) → SoundBooksLetStep known book household }
+    ensures { (known : Known) (book : Book) (household : ℕ)
+        → SoundBooksLetStep known book household }
 {}
 
 /// And all that a household's replay asks for over any of the sheets, from its part behind the sheet before them, with rows that

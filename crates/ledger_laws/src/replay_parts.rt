@@ -49,5 +49,6 @@ pub fn orders_stand_sheet_by_sheet()
 /// And a sheet's orders in turn, each under the number of its account's household, are under each household's number its orders
 /// on the sheet, in turn.
 pub fn orders_stand_under_their_households()
-    ensures { (book : Book) (sheet : Sheet) (household : ℕ) → RowsOfSheetAreOfHouseholds book sheet household }
+    ensures { (book : Book) (sheet : Sheet) (household : ℕ)
+        → RowsOfSheetAreOfHouseholds book sheet household }
 {}

@@ -18,7 +18,8 @@ use money_units::{Cents, Mils, Nav};
 /// What a letter has bought is what the purchases under it paid together. It stays within its limits while that is less
 /// than its amount, and its amount, day, credit and rate never change.
 pub fn a_letter_counts_its_purchases()
-    ensures from_its_beginning { (amount day start : ℕ) (front : List Bracket) (purchases : List Purchase)
+    ensures from_its_beginning { (amount day start : ℕ) (front : List Bracket)
+        (purchases : List Purchase)
         → (after_all (begun amount day start front) purchases).bought ≡ gross_total purchases }
     ensures bought { (letter : Letter) (purchases : List Purchase)
         → (after_all letter purchases).bought ≡ letter.bought + gross_total purchases }
@@ -42,7 +43,8 @@ pub fn a_letter_counts_its_purchases()
 /// began with those purchases noted, within its limits. It ends reached only where they make its amount, and by date
 /// only short of it, at a sheet past its months.
 pub fn what_becomes_of_a_letter()
-    ensures bought { (amount day start : ℕ) (front : List Bracket) (events : List Event) (now : Letter)
+    ensures bought { (amount day start : ℕ) (front : List Bracket) (events : List Event)
+        (now : Letter)
         → fate (begun amount day start front) events ≡ Stands now
         → now.bought ≡ gross_total (purchases_of events) }
     ensures stands { (letter : Letter) (events : List Event) (now : Letter)
@@ -93,7 +95,8 @@ pub fn the_escrow_is_held_once(letter: Letter, gross: Cents, price: Cents, mils:
     ensures falls { (after_purchase letter gross price mils).rest ≤ letter.rest }
     ensures by_cost { 1000 * (letter.rest - (after_purchase letter gross price mils).rest)
         ≤ mils_to_hold letter price mils * price }
-    ensures covers { mils_to_hold letter price mils < mils → (after_purchase letter gross price mils).rest ≡ 0 }
+    ensures covers { mils_to_hold letter price mils < mils
+        → (after_purchase letter gross price mils).rest ≡ 0 }
     ensures least { mils_to_hold letter price mils * price < 1000 * letter.rest + price }
     ensures nothing_left { letter.rest ≡ 0 → mils_to_hold letter price mils ≡ 0 }
 {}
@@ -109,14 +112,16 @@ pub fn what_has_expired_stays_so(letter: Letter, day: Day, later: Day)
 /// Where some are left nothing is waived, and no mil is paid beyond what is due.
 pub fn what_is_due_is_paid_or_waived(rows: &[Bracket], letter: Letter, nav: Nav, held: Mils)
     requires nav { 1 ≤ nav }
-    ensures whole { (settlement rows.now letter nav held).cash + (settlement rows.now letter nav held).waived
+    ensures whole { (settlement rows.now letter nav held).cash
+        + (settlement rows.now letter nav held).waived
         ≡ load_due rows.now letter }
     ensures within { (settlement rows.now letter nav held).paid ≤ held }
     ensures worth { (settlement rows.now letter nav held).cash
         ≤ half ((settlement rows.now letter nav held).paid * nav) 1000 }
     ensures covered { (settlement rows.now letter nav held).paid < held
         → (settlement rows.now letter nav held).waived ≡ 0 }
-    ensures least { (settlement rows.now letter nav held).paid * nav < 1000 * load_due rows.now letter + nav }
+    ensures least { (settlement rows.now letter nav held).paid * nav < 1000 * load_due rows.now
+        letter + nav }
 {}
 
 /// The rate of a settlement is never below the letter's and, in a lawful table, never above the ceiling of a front-end
@@ -134,7 +139,8 @@ pub fn a_reached_amount_leaves_nothing_due(rows: &[Bracket], letter: Letter, nav
     requires lawful { front_fault rows.now ≡ None }
     requires rate { letter.rate ≡ bracket rows.now letter.amount }
     requires nav { 1 ≤ nav }
-    ensures rate { letter.amount ≤ letter.start + letter.bought → rate_earned rows.now letter ≡ letter.rate }
+    ensures rate { letter.amount ≤ letter.start + letter.bought
+        → rate_earned rows.now letter ≡ letter.rate }
     ensures due { letter.amount ≤ letter.start + letter.bought → load_due rows.now letter ≡ 0 }
     ensures paid { letter.amount ≤ letter.start + letter.bought
         → (settlement rows.now letter nav held).paid ≡ 0 }

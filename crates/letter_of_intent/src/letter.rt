@@ -49,7 +49,8 @@ impl Letter {
     /// for a twentieth of the amount are to be held.
     pub fn begin(amount: Cents, day: Day, start: u128, terms: &Terms) -> Letter
         ensures letter { result ≡ spec.begun amount day start terms.now.front }
-        ensures limits { 1 ≤ amount → amount ≤ 1000000000000 → start ≤ 10 ^ 21 → spec.IsLetter result }
+        ensures limits { 1 ≤ amount → amount ≤ 1000000000000 → start ≤ 10 ^ 21
+            → spec.IsLetter result }
     {
         Letter {
             amount,
@@ -68,7 +69,8 @@ impl Letter {
         requires price { 1 ≤ price }
         ensures noted { result ≡ spec.noted self.old gross price mils }
         ensures letter { self.new ≡ spec.after_purchase self.old gross price mils }
-        ensures case { becomes self.old (Bought (record { gross = gross; price = price; mils = mils }))
+        ensures case { becomes self.old
+            (Bought (record { gross = gross; price = price; mils = mils }))
             ≡ (if result.reached then Reached self.new else Stands self.new) }
         ensures bought { self.new.bought ≡ self.old.bought + gross }
         ensures reached { IsTrue result.reached ↔ (self.old.amount ≤ self.new.bought) }
@@ -89,8 +91,10 @@ impl Letter {
     /// would be past 2199-12-31, no day is.
     pub fn expired(&self, day: Day) -> bool
         ensures expired { result ≡ spec.has_expired self.now day }
-        ensures case { becomes self.now (Priced day) ≡ (if result then Expired self.now else Stands self.now) }
-        ensures past { (last : ℕ) → spec.last_day self.now ≡ Some last → (IsTrue result ↔ (last < day)) }
+        ensures case { becomes self.now (Priced day)
+            ≡ (if result then Expired self.now else Stands self.now) }
+        ensures past { (last : ℕ) → spec.last_day self.now ≡ Some last
+            → (IsTrue result ↔ (last < day)) }
         ensures never { 2199 < (months_later (date_of self.now.day) 13).year → result ≡ false }
     {
         match add_months(self.day, MONTHS) {

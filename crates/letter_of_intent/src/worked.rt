@@ -93,7 +93,9 @@ pub fn steps_of_an_escrow()
           bought = 1000000;
         }) 4000000 1047 3820439
         ≡ record { hold = 0; reached = true } }
-    ensures whole_cents { (after_purchase (record { amount = 5000000; day = 19905; start = 0; rate = 450; rest = 250000; bought = 0 }) 1 1047 1).rest
+    ensures whole_cents { (after_purchase
+        (record { amount = 5000000; day = 19905; start = 0; rate = 450; rest = 250000;
+        bought = 0 }) 1 1047 1).rest
         ≡ 249999 }
     ensures rounded_up { (begun 21 19905 0 (row_of 0 0 ∷ [])).rest ≡ 2 }
 {}

@@ -98,7 +98,8 @@ fn state_of<L: StepLedger>(
     steps: &mut Steps<L>,
 ) -> Result<Option<OrderState>, NoMemory>
     requires told { (surely_kept keeper.old).rows ≡ rows_of desk.old.book.journal }
-    ensures state { IfOk result (λ state. state ≡ spec.state_traced desk.old.book.journal name.now) }
+    ensures state { IfOk result (λ state. state
+        ≡ spec.state_traced desk.old.book.journal name.now) }
     ensures journal { desk.new.book.journal ≡ desk.old.book.journal }
     ensures keeper { keeper.new ≡ keeper.old }
 {

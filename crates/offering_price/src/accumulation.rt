@@ -37,7 +37,8 @@ fn rate_of(rows: &[Bracket], amount: u128) -> Bps
 /// class has no net asset value yet.
 pub fn credit(holdings: &[Holding]) -> u128
     requires count { length holdings.now ≤ 64000 }
-    requires within { All (λ holding. (holding.mils ≤ 1000000000000) × (holding.cost ≤ 1000000000000000))
+    requires within { All (λ holding. (holding.mils ≤ 1000000000000)
+        × (holding.cost ≤ 1000000000000000))
         holdings.now }
     ensures { result ≡ credit holdings.now }
 {

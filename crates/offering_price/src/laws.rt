@@ -28,7 +28,8 @@ pub fn greater_rates_buy_no_more(gross: Cents, nav: Nav, low: Bps, high: Bps)
     requires order { low ≤ high }
     requires ceiling { high ≤ 850 }
     ensures price { offering_price nav low ≤ offering_price nav high }
-    ensures mils { mils_bought gross (offering_price nav high) ≤ mils_bought gross (offering_price nav low) }
+    ensures mils { mils_bought gross (offering_price nav high)
+        ≤ mils_bought gross (offering_price nav low) }
 {}
 
 /// Proceeds and charge make the gross; without a load there is no charge, and the price is the net asset value.

@@ -43,10 +43,13 @@ pub fn purchases()
 /// $21,367.52 and counts at its cost, so the two together reach the third row.
 pub fn accumulation()
     ensures value { half (2374169 * 900) 1000 ≡ 2136752 }
-    ensures credit { credit (record { mils = 2374169; cost = 2500000; nav = Some 900 } ∷ []) ≡ 2500000 }
+    ensures credit { credit (record { mils = 2374169; cost = 2500000; nav = Some 900 } ∷ [])
+        ≡ 2500000 }
     ensures unpriced { credit (record { mils = 5000; cost = 7000; nav = None } ∷ []) ≡ 7000 }
-    ensures alone { bracket (row_of 0 575 ∷ row_of 2500000 500 ∷ row_of 5000000 450 ∷ []) 2500000 ≡ 500 }
-    ensures together { bracket (row_of 0 575 ∷ row_of 2500000 500 ∷ row_of 5000000 450 ∷ []) (2500000 + 2500000)
+    ensures alone { bracket (row_of 0 575 ∷ row_of 2500000 500 ∷ row_of 5000000 450 ∷ []) 2500000
+        ≡ 500 }
+    ensures together { bracket (row_of 0 575 ∷ row_of 2500000 500 ∷ row_of 5000000 450 ∷ [])
+        (2500000 + 2500000)
         ≡ 450 }
     ensures split { split_of 2500000 900 450
         ≡ Some

@@ -190,7 +190,8 @@ impl OrderBook {
 
     /// How many accounts a household has.
     pub fn accounts_in(&self, household: u32) -> usize
-        ensures { result ≡ count_by (λ account. account.household == household) (accounts_of self.now.journal) }
+        ensures { result ≡ count_by (λ account. account.household == household)
+            (accounts_of self.now.journal) }
     {
         self.indexes.account_counts.count(household)
     }
@@ -252,7 +253,8 @@ impl OrderBook {
 }
 
 fn class_of(event: Option<&Event>) -> Option<&ClassForm>
-    ensures { option_copied result ≡ option_and_then (λ event. class_in event.kind) (option_copied event.entry) }
+    ensures { option_copied result
+        ≡ option_and_then (λ event. class_in event.kind) (option_copied event.entry) }
 {
     match event {
         Some(event) => class_in(event.kind()),

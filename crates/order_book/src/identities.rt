@@ -52,7 +52,8 @@ impl Identities {
     /// Takes in what an event at this place brings.
     pub fn take(&mut self, kind: &EventKind, place: usize)
         requires { HasRoom self.old 1 }
-        ensures kept { (journal : Journal) (moment : ℕ) → place ≡ length journal → KeepsPlaces self.old journal
+        ensures kept { (journal : Journal) (moment : ℕ) → place ≡ length journal
+            → KeepsPlaces self.old journal
             → KeepsPlaces self.new (with_event journal (record { moment = moment; kind = kind.now })) }
         ensures room { (n : ℕ) → HasRoom self.old (n + 1) → HasRoom self.new n }
     {

@@ -66,7 +66,8 @@ impl Indexes {
     pub fn take(&mut self, kind: &EventKind, place: u64)
         requires room { HasAllRoom self.old 1 }
         requires low { CountsAreLow self.old }
-        ensures kept { (journal : Journal) (moment : ℕ) → place ≡ length journal → KeepsAll self.old journal
+        ensures kept { (journal : Journal) (moment : ℕ) → place ≡ length journal
+            → KeepsAll self.old journal
             → Fits journal (record { moment = moment; kind = kind.now })
             → KeepsAll self.new (with_event journal (record { moment = moment; kind = kind.now })) }
         ensures room { (n : ℕ) → HasAllRoom self.old (n + 1) → HasAllRoom self.new n }

@@ -50,7 +50,8 @@ impl Keys {
 
     /// The place that is kept; none for what is too long for a key.
     pub fn place(&self, key: &[u8]) -> Option<usize>
-        ensures { result ≡ (if nat_le (length key.now) 64 then place_of_key self.now key.now else None) }
+        ensures { result ≡ (if nat_le (length key.now) 64 then place_of_key self.now key.now else
+            None) }
     {
         if key.len() <= 64 {
             self.places.get(&key_text(key)).copied()

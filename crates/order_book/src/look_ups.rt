@@ -46,7 +46,8 @@ impl OrderBook {
 
     /// The household of this number; `None` exactly where there is none.
     pub fn household(&self, number: u32) -> Option<&HouseholdForm>
-        ensures { option_copied result ≡ find (is_household number) (households_of self.now.journal) }
+        ensures { option_copied result
+            ≡ find (is_household number) (households_of self.now.journal) }
     {
         match self.brought(Identity::Household(number)) {
             Some(event) => household_in(event.kind()),
@@ -66,7 +67,8 @@ impl OrderBook {
 
     /// The dividend of a class at a pricing moment, as it was declared.
     pub fn dividend(&self, class: u32, moment: Moment) -> Option<&DividendForm>
-        ensures { option_copied result ≡ find (declares class moment) (rates_of self.now.journal).declared }
+        ensures { option_copied result
+            ≡ find (declares class moment) (rates_of self.now.journal).declared }
     {
         let named = Identity::Dividend {
             class,

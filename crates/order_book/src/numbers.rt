@@ -56,7 +56,8 @@ impl Numbers {
 
     /// Takes the memory for so many events.
     pub fn reserve(&mut self, events: usize) -> Result<(), NoMemory>
-        ensures same { (journal : Journal) → KeepsNumbers self.old journal → KeepsNumbers self.new journal }
+        ensures same { (journal : Journal) → KeepsNumbers self.old journal
+            → KeepsNumbers self.new journal }
         ensures room { OnOk result (HasNumberRoom self.new events) }
         ensures kept { (n : ℕ) → HasNumberRoom self.old n → HasNumberRoom self.new n }
     {
@@ -70,7 +71,8 @@ impl Numbers {
         requires calendars { self.old.calendars < 100000000 }
         requires dealers { self.old.dealers < 100000000 }
         requires households { self.old.households < 100000000 }
-        ensures kept { (journal : Journal) (moment : ℕ) → place ≡ length journal → KeepsNumbers self.old journal
+        ensures kept { (journal : Journal) (moment : ℕ) → place ≡ length journal
+            → KeepsNumbers self.old journal
             → KeepsNumbers self.new (with_event journal (record { moment = moment; kind = kind.now })) }
         ensures room { (n : ℕ) → HasNumberRoom self.old (n + 1) → HasNumberRoom self.new n }
     {

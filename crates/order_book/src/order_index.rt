@@ -53,7 +53,8 @@ impl OrderIndex {
 
     /// The place of the order of the same account before the one at a place.
     pub fn earlier(&self, place: usize) -> Option<usize>
-        ensures { result ≡ option_and_then (λ found. found) (slice_get self.now.earlier.items place) }
+        ensures { result ≡ option_and_then (λ found. found)
+            (slice_get self.now.earlier.items place) }
     {
         self.earlier.get(place).copied().flatten()
     }
@@ -86,7 +87,8 @@ impl OrderIndex {
 
 fn put_last(last: &mut HashMap<u32, usize>, account: u32, place: usize)
     requires { 1 ≤ spare last.old }
-    ensures places { (q : ℕ) → get nat_eq last.new q ≡ (if nat_eq account q then Some place else get nat_eq last.old q) }
+    ensures places { (q : ℕ) → get nat_eq last.new q
+        ≡ (if nat_eq account q then Some place else get nat_eq last.old q) }
     ensures room { spare last.old ≤ spare last.new + 1 }
 {
     let put: Result<_, _> = last.insert(account, place);

@@ -52,14 +52,16 @@ impl Orders {
 
     /// The place of the order of the same account before the one at a place.
     pub fn earlier(&self, place: usize) -> Option<usize>
-        ensures { result ≡ option_and_then (λ found. found) (slice_get self.now.index.earlier.items place) }
+        ensures { result ≡ option_and_then (λ found. found)
+            (slice_get self.now.index.earlier.items place) }
     {
         self.index.earlier(place)
     }
 
     /// Takes the memory for so many events.
     pub fn reserve(&mut self, events: usize) -> Result<(), NoMemory>
-        ensures same { (journal : Journal) → KeepsOrders self.old journal → KeepsOrders self.new journal }
+        ensures same { (journal : Journal) → KeepsOrders self.old journal
+            → KeepsOrders self.new journal }
         ensures room { OnOk result (HasOrderRoom self.new events) }
         ensures kept { (n : ℕ) → HasOrderRoom self.old n → HasOrderRoom self.new n }
     {
@@ -70,7 +72,8 @@ impl Orders {
     /// Takes in what an event at this place begins, strikes or replaces.
     pub fn take(&mut self, kind: &EventKind, place: u64)
         requires { HasOrderRoom self.old 1 }
-        ensures kept { (journal : Journal) (moment : ℕ) → place ≡ length journal → KeepsOrders self.old journal
+        ensures kept { (journal : Journal) (moment : ℕ) → place ≡ length journal
+            → KeepsOrders self.old journal
             → Fits journal (record { moment = moment; kind = kind.now })
             → KeepsOrders self.new (with_event journal (record { moment = moment; kind = kind.now })) }
         ensures room { (n : ℕ) → HasOrderRoom self.old (n + 1) → HasOrderRoom self.new n }

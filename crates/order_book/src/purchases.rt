@@ -27,7 +27,8 @@ impl OrderBook {
 }
 
 fn is_before(row: &OrderRow, class: u32, other: Option<&OrderRow>) -> bool
-    ensures { result ≡ option_map_or (ordered_before row.now class) (option_copied other.entry) false }
+    ensures { result ≡ option_map_or (ordered_before row.now class) (option_copied other.entry)
+        false }
 {
     match other {
         Some(other) => is_ordered_before(row, class, other),

@@ -69,7 +69,8 @@ impl FixedRates {
 // Puts the rate in the place of the one before.
 fn put(rates: &mut HashMap<RateName, u64>, name: RateName, rate: u64)
     requires { 1 ≤ spare rates.old }
-    ensures rates { (q : Name) → get same_rate rates.new q ≡ (if same_rate name q then Some rate else get same_rate rates.old q) }
+    ensures rates { (q : Name) → get same_rate rates.new q
+        ≡ (if same_rate name q then Some rate else get same_rate rates.old q) }
     ensures room { spare rates.old ≤ spare rates.new + 1 }
 {
     let put: Result<_, _> = rates.insert(name, rate);

@@ -37,7 +37,8 @@ fn push_standing(standing: &mut Standing, row: &OrderRow) -> Result<(), NoMemory
 }
 
 fn push_begun(standing: &mut Standing, begun: Option<OrderRow>) -> Result<(), NoMemory>
-    ensures { IfOk result (λ _. standing.new ≡ standing.old ++ filter stands (option_to_list begun)) }
+    ensures { IfOk result (λ _. standing.new
+        ≡ standing.old ++ filter stands (option_to_list begun)) }
 {
     match begun {
         Some(row) => push_standing(standing, &row),

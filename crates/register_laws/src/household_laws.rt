@@ -29,7 +29,8 @@ pub fn alike_books_step_alike()
 /// The part of a household of the replay over any sheets, the positions and trades of its accounts in their order, is the replay
 /// of its own book over them.
 pub fn households_are_replayed_alone()
-    ensures { (book : Book) (household : ℕ) (sheets : List Sheet) → ReplayedAlone book household sheets }
+    ensures { (book : Book) (household : ℕ) (sheets : List Sheet)
+        → ReplayedAlone book household sheets }
 {}
 
 /// So in a lawful journal it is the replay of the household's view of the journal, over all sheets and up to each of them.
@@ -51,7 +52,8 @@ pub fn parts_go_on_from_a_checkpoint()
 
 /// And in a corrected book from the part in the other one, where the correction touches no sheet up to there.
 pub fn corrected_parts_go_on_from_a_checkpoint()
-    ensures { (book other : Book) (household from to : ℕ) → CorrectedPartGoesOn book other household from to }
+    ensures { (book other : Book) (household from to : ℕ)
+        → CorrectedPartGoesOn book other household from to }
 {}
 
 /// Each order of a lawful journal is of exactly one household, and the outstanding mils of a class and the cash of a party are
@@ -62,12 +64,14 @@ pub fn totals_are_sums_over_households()
 
 /// A corrected price leaves the part of each household as it was that has no standing order which names its class.
 pub fn corrected_prices_leave_others()
-    ensures { (book : Book) (form : FixPriceForm) (household : ℕ) → PriceLeavesOthers book form household }
+    ensures { (book : Book) (form : FixPriceForm) (household : ℕ)
+        → PriceLeavesOthers book form household }
 {}
 
 /// So does a corrected rate.
 pub fn corrected_rates_leave_others()
-    ensures { (book : Book) (form : FixRateForm) (household : ℕ) → RateLeavesOthers book form household }
+    ensures { (book : Book) (form : FixRateForm) (household : ℕ)
+        → RateLeavesOthers book form household }
 {}
 
 /// The moments of a lawful journal's sheets never fall, in the order of their numbers.

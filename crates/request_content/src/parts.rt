@@ -33,7 +33,8 @@ fn equal_brackets(first: &[Bracket], second: &[Bracket]) -> bool
 /// A table of front-end loads.
 #[tactic(auto, using(crate::proofs::SameParts::brackets_same))]
 pub(crate) fn same_brackets(first: &[Bracket], second: &[Bracket]) -> bool
-    ensures { result ≡ bytes_eq (content.brackets_content first.now) (content.brackets_content second.now) }
+    ensures { result ≡ bytes_eq (content.brackets_content first.now)
+        (content.brackets_content second.now) }
 {
     equal_brackets(first, second)
 }
@@ -47,7 +48,8 @@ fn equal_prices(first: &[(u32, Nav)], second: &[(u32, Nav)]) -> bool
 /// The list of a sheet.
 #[tactic(auto, using(crate::proofs::SameParts::prices_same))]
 pub fn same_prices(first: &[(u32, Nav)], second: &[(u32, Nav)]) -> bool
-    ensures { result ≡ bytes_eq (content.prices_content first.now) (content.prices_content second.now) }
+    ensures { result ≡ bytes_eq (content.prices_content first.now)
+        (content.prices_content second.now) }
 {
     equal_prices(first, second)
 }

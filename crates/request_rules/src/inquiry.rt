@@ -50,7 +50,8 @@ impl<'a> Model for Inquiry<'a> {
 
     ghost Value = { Situation };
 
-    ghost view = { λ inquiry. situation_with inquiry.prices.now.table inquiry.book.now.journal inquiry.moment inquiry.caller };
+    ghost view = { λ inquiry. situation_with inquiry.prices.now.table inquiry.book.now.journal
+        inquiry.moment inquiry.caller };
 
     ghost invariant = { λ inquiry. FitsJournal inquiry.prices.now.table inquiry.book.now.journal };
 }

@@ -9,7 +9,8 @@ ghost use Rattle.row_fields.specs.Readers as field;
 /// The numbers, each in its range.
 pub fn numbers_are_exact()
     ensures identifier { IsField four_bytes range.IsIdentifier field.identifier_at }
-    ensures identifier_or_none { IsField four_bytes range.IsIdentifierOrNone field.identifier_or_none_at }
+    ensures identifier_or_none { IsField four_bytes range.IsIdentifierOrNone
+        field.identifier_or_none_at }
     ensures reference { IsField eight_bytes range.IsReference field.reference_at }
     ensures moment { IsField eight_bytes range.IsMoment field.moment_at }
     ensures day { IsField four_bytes range.IsDay field.day_at }

@@ -1,3 +1,4 @@
+//! Shares come into a position: as a new lot, or into the free one.
 ghost use Rattle.std.specs.Prelude.{◌≡◌, ◌≤◌, true, false, length, map, All, IfOk, OnOk, OnErr};
 ghost use Rattle.std.specs.List.Sorted.{IsPartitionPoint};
 ghost use Rattle.share_lots.specs.Lots as spec;
@@ -92,7 +93,8 @@ fn place_of(lots: &[Lot], lot: &Lot) -> usize
 pub(crate) fn ranked_lots(alloc: Global, lots: &[Lot], next_lot: u32) -> Result<Vec<Lot>, NoMemory>
     requires { spec.IsLotList lots.now next_lot }
     ensures ranked { IfOk result (λ places. places.items ≡ spec.ranked_lots lots.now) }
-    ensures holding { IfOk result (λ places. spec.IsHolding (record { lots = places.items; next_lot = next_lot })) }
+    ensures holding { IfOk result (λ places. spec.IsHolding
+        (record { lots = places.items; next_lot = next_lot })) }
 {
     let mut places = Vec::new(alloc);
     for lot in lots {

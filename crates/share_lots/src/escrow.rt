@@ -1,3 +1,4 @@
+//! Loose mils that are held under a letter, and held mils that become loose.
 ghost use Rattle.std.specs.Prelude.{◌≡◌, ◌≤◌, map, All};
 ghost use Rattle.share_lots.specs.Lots as spec;
 

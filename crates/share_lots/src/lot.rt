@@ -1,3 +1,4 @@
+//! A lot, and the piece of it that a redemption takes.
 use fund_calendar::Day;
 use money_units::{Cents, Mils};
 

@@ -1,3 +1,4 @@
+//! What the lots of a list hold and cost together, and which of two lots comes first.
 ghost use Rattle.std.specs.Prelude.{◌≡◌, ◌+◌, ◌≤◌, sum_by, map};
 ghost use Rattle.share_lots.specs.Lots as spec;
 

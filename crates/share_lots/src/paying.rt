@@ -1,3 +1,4 @@
+//! Held mils that pay a charge, by date and number.
 ghost use Rattle.std.specs.Prelude.{◌≡◌, ◌≤◌, All, find, map, min, sum_by};
 ghost use Rattle.std.specs.Option.{option_copied};
 ghost use Rattle.share_lots.specs.Lots as spec;

@@ -81,7 +81,8 @@ impl Position {
         next_lot: u32,
     ) -> Result<Position, money_units::NoMemory>
         requires { spec.IsLotList lots.now next_lot }
-        ensures { IfOk result (λ p. p ≡ record { lots = spec.ranked_lots lots.now; next_lot = next_lot }) }
+        ensures { IfOk result (λ p. p ≡ record { lots = spec.ranked_lots lots.now;
+            next_lot = next_lot }) }
     {
         let lots = ranked_lots(alloc, lots, next_lot)?;
         Ok(Position { lots, next_lot })
@@ -164,7 +165,8 @@ impl Position {
         free: bool,
     ) -> Result<u32, money_units::NoMemory>
         requires positive { 1 ≤ mils }
-        requires few_mils { spec.loose_total self.old + spec.held_total self.old + mils ≤ spec.most_mils }
+        requires few_mils { spec.loose_total self.old + spec.held_total self.old + mils
+            ≤ spec.most_mils }
         requires low_cost { spec.cost_total self.old + cost ≤ spec.most_cost }
         requires next { (spec.added self.old day mils cost free).holding.next_lot ≤ 4294967295 }
         ensures added { IfOk result
@@ -175,7 +177,8 @@ impl Position {
         ensures mils_grown { OnOk result
             (spec.loose_total self.new + spec.held_total self.new
             ≡ spec.loose_total self.old + spec.held_total self.old + mils) }
-        ensures cost_grown { OnOk result (spec.cost_total self.new ≡ spec.cost_total self.old + cost) }
+        ensures cost_grown { OnOk result
+            (spec.cost_total self.new ≡ spec.cost_total self.old + cost) }
         ensures next_after { OnOk result (self.new.next_lot ≤ self.old.next_lot + 1) }
         ensures unchanged { OnErr result (self.new ≡ self.old) }
     {
@@ -258,7 +261,8 @@ impl Position {
         ensures paid { self.new ≡ taking.after_paying self.old mils }
         ensures whole { spec.held_total self.new + mils ≡ spec.held_total self.old }
         ensures loose_kept { spec.loose_total self.new ≡ spec.loose_total self.old }
-        ensures cost_kept { sum_by (taking.cost_paid self.old.lots mils) self.old.lots + spec.cost_total self.new
+        ensures cost_kept { sum_by (taking.cost_paid self.old.lots mils) self.old.lots
+            + spec.cost_total self.new
             ≡ spec.cost_total self.old }
     {
         pay_lots(&mut self.lots, mils.0);

@@ -1,3 +1,4 @@
+//! What a redemption takes of each lot, by rank, and what it leaves.
 ghost use Rattle.std.specs.Prelude.{◌≡◌, ◌≤◌, ◌<◌, ◌++◌, All, filter, IfOk, OnOk, OnErr};
 ghost use Rattle.share_lots.specs.Lots as spec;
 ghost use Rattle.share_lots.specs.Taking as taking;

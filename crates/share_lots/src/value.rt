@@ -1,3 +1,4 @@
+//! The value of shares at a price.
 ghost use Rattle.std.specs.Prelude.{◌≡◌, ◌≤◌};
 ghost use Rattle.share_lots.specs.Lots.{most_mils};
 ghost use Rattle.share_lots.specs.Values as spec;

@@ -75,7 +75,8 @@ pub(crate) fn row_stays(prices: &PriceBook, sheet: u32, row: &OrderRow) -> bool
 }
 
 fn is_within(sheet: Option<&Sheet>, row: &OrderRow) -> bool
-    ensures { result ≡ option_map_or (λ sheet. could_price sheet row.now) (option_copied sheet.entry) false }
+    ensures { result ≡ option_map_or (λ sheet. could_price sheet row.now)
+        (option_copied sheet.entry) false }
 {
     match sheet {
         Some(sheet) => could_price(sheet, row),

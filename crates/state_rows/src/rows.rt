@@ -32,7 +32,8 @@ pub fn encode_state(alloc: Global, state: &StateRow) -> Result<Vec<u8>, NoMemory
 /// The state whose row the bytes are; `None` exactly where they are no row of a state that keeps the rules and limits.
 pub fn decode_state(alloc: Global, bytes: &[u8]) -> Result<Option<StateRow>, NoMemory>
     // What is read is spelled so, all of the bytes, and keeps the rules.
-    ensures found { IfOk result (λ read. IfSome read (λ state. IsKept state × (bytes.now ≡ state_row state))) }
+    ensures found { IfOk result (λ read. IfSome read
+        (λ state. IsKept state × (bytes.now ≡ state_row state))) }
     // So it can be written again.
     ensures fits { IfOk result (λ read. IfSome read (λ state. fits_lists state ≡ true)) }
     // What keeps the rules and is spelled so is read.
