@@ -47,16 +47,31 @@ pub fn free_shares_bear_no_charge()
 /// 50.000 shares of 2024-07-01 that cost $1,000.00 are sold at 20.00: on the day before the first anniversary for a charge of
 /// 5%, on it, 2025-07-01, of 4%, and from 2029-07-01 on, when the schedule is through, without one.
 pub fn anniversaries_lower_the_charge()
-    ensures day_before { charged (record { lot = 1; day = 19905; mils = 50000; cost = 100000;
-        free = false } ∷ [])
+    ensures day_before { charged (record {
+      lot = 1;
+      day = 19905;
+      mils = 50000;
+      cost = 100000;
+      free = false;
+    } ∷ [])
         2000 20269 (500 ∷ 400 ∷ 300 ∷ 200 ∷ 100 ∷ [])
         ≡ record { value = 100000; base = 100000; charge = 5000 } }
-    ensures first { charged (record { lot = 1; day = 19905; mils = 50000; cost = 100000;
-        free = false } ∷ [])
+    ensures first { charged (record {
+      lot = 1;
+      day = 19905;
+      mils = 50000;
+      cost = 100000;
+      free = false;
+    } ∷ [])
         2000 20270 (500 ∷ 400 ∷ 300 ∷ 200 ∷ 100 ∷ [])
         ≡ record { value = 100000; base = 100000; charge = 4000 } }
-    ensures through { charged (record { lot = 1; day = 19905; mils = 50000; cost = 100000;
-        free = false } ∷ [])
+    ensures through { charged (record {
+      lot = 1;
+      day = 19905;
+      mils = 50000;
+      cost = 100000;
+      free = false;
+    } ∷ [])
         2000 21731 (500 ∷ 400 ∷ 300 ∷ 200 ∷ 100 ∷ [])
         ≡ record { value = 100000; base = 100000; charge = 0 } }
 {}

@@ -38,9 +38,12 @@ impl Model for CashBook {
 
     ghost Value = { Books };
 
-    ghost view = { λ book. record { accounts = book.accounts;
-        corrections = book.corrections.entries; posts = book.posts;
-        room = min (room_in book.accounts) (spare book.corrections) } };
+    ghost view = { λ book. record {
+      accounts = book.accounts;
+      corrections = book.corrections.entries;
+      posts = book.posts;
+      room = min (room_in book.accounts) (spare book.corrections);
+    } };
 
     ghost invariant = { λ book. KeepsWithin book.accounts book.posts };
 }

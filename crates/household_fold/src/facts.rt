@@ -37,9 +37,14 @@ impl<'a> Model for Facts<'a> {
 
     ghost Value = { Known };
 
-    ghost view = { λ facts. record { table = facts.prices.now.table; terms = facts.terms.now;
-        accounts = facts.accounts.now; rates = facts.rates.now; patch = facts.patch;
-        sheet = facts.sheet } };
+    ghost view = { λ facts. record {
+      table = facts.prices.now.table;
+      terms = facts.terms.now;
+      accounts = facts.accounts.now;
+      rates = facts.rates.now;
+      patch = facts.patch;
+      sheet = facts.sheet;
+    } };
 }
 
 impl<'a> Facts<'a> {

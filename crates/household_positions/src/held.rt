@@ -29,8 +29,13 @@ impl Model for HeldPosition {
 
     ghost Value = { position };
 
-    ghost view = { λ p. record { account = p.account; class = p.class; holding = p.holding;
-        in_cash = p.in_cash; letter = p.letter } };
+    ghost view = { λ p. record {
+      account = p.account;
+      class = p.class;
+      holding = p.holding;
+      in_cash = p.in_cash;
+      letter = p.letter;
+    } };
 }
 
 impl HeldPosition {

@@ -33,8 +33,11 @@ impl Model for JournalTables {
 
     ghost Value = { Tables };
 
-    ghost view = { λ tables. record { terms = tables.terms; accounts = tables.accounts;
-        rates = tables.rates } };
+    ghost view = { λ tables. record {
+      terms = tables.terms;
+      accounts = tables.accounts;
+      rates = tables.rates;
+    } };
 
     ghost invariant = { λ tables. StandByNumber
         (record { terms = tables.terms; accounts = tables.accounts; rates = tables.rates }) };

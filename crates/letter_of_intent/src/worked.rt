@@ -94,8 +94,14 @@ pub fn steps_of_an_escrow()
         }) 4000000 1047 3820439
         ≡ record { hold = 0; reached = true } }
     ensures whole_cents { (after_purchase
-        (record { amount = 5000000; day = 19905; start = 0; rate = 450; rest = 250000;
-        bought = 0 }) 1 1047 1).rest
+        (record {
+          amount = 5000000;
+          day = 19905;
+          start = 0;
+          rate = 450;
+          rest = 250000;
+          bought = 0;
+        }) 1 1047 1).rest
         ≡ 249999 }
     ensures rounded_up { (begun 21 19905 0 (row_of 0 0 ∷ [])).rest ≡ 2 }
 {}

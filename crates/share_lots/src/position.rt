@@ -81,8 +81,10 @@ impl Position {
         next_lot: u32,
     ) -> Result<Position, money_units::NoMemory>
         requires { spec.IsLotList lots.now next_lot }
-        ensures { IfOk result (λ p. p ≡ record { lots = spec.ranked_lots lots.now;
-            next_lot = next_lot }) }
+        ensures { IfOk result (λ p. p ≡ record {
+          lots = spec.ranked_lots lots.now;
+          next_lot = next_lot;
+        }) }
     {
         let lots = ranked_lots(alloc, lots, next_lot)?;
         Ok(Position { lots, next_lot })

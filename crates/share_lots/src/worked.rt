@@ -41,8 +41,14 @@ pub fn free_shares_go_first()
 /// Of two lots of one date the one with the smaller number is the lower in rank, and a third of $1.00 is $0.33: what a
 /// lot keeps of its cost is the rest.
 pub fn one_date_goes_by_number()
-    ensures place { placed (record { number = 2; day = 7; loose = 3; held = 0; cost = 100;
-        free = false })
+    ensures place { placed (record {
+      number = 2;
+      day = 7;
+      loose = 3;
+      held = 0;
+      cost = 100;
+      free = false;
+    })
         (record { number = 1; day = 7; loose = 3; held = 0; cost = 100; free = false } ∷ [])
         ≡ record { number = 1; day = 7; loose = 3; held = 0; cost = 100; free = false }
         ∷ record { number = 2; day = 7; loose = 3; held = 0; cost = 100; free = false } ∷ [] }
