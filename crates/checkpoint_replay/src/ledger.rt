@@ -5,7 +5,7 @@ ghost use Rattle.agent_events.specs.declared.order.Party.{Party as AnyParty};
 ghost use Rattle.checkpoint_replay.specs.Differences.{AreChangesOf};
 ghost use Rattle.checkpoint_replay.specs.Moves.{HasRoomFor, households_of, part_after};
 ghost use Rattle.checkpoint_replay.specs.Parts.{first_day, part_in, state_in};
-ghost use Rattle.checkpoint_replay.specs.Reopenings.{IsReplayedTo, move_by_replay};
+ghost use Rattle.checkpoint_replay.specs.Reopenings.{move_by_replay};
 ghost use Rattle.checkpoint_replay.specs.Sheets.{CanAdvance, IsReached};
 ghost use Rattle.checkpoint_replay.specs.Tallied.{IsTallied};
 ghost use Rattle.checkpoint_replay.specs.Totals.{AreWithinLimits, cents_held, mils_held};
@@ -202,39 +202,9 @@ impl Ledger {
         self.reopen_behind(alloc, start, facts, orders, steps)
     }
 
-    /// The same from a sheet on behind which it is known what the replay makes of the household: its positions, and its trades
-    /// so far, which are the first ones of those that are kept. It costs a step for each later sheet at most.
+    /// What a replay makes of one household from a start on: the new trades stand behind so many of the old ones as the start
+    /// keeps. It reads the orders of the later sheets alone, and costs a step for each of these at most.
     pub fn reopen_behind<L: StepLedger>(
-        &self,
-        alloc: Global,
-        start: ReplayStart,
-        facts: &Facts,
-        orders: &NumberedOrders,
-        steps: &mut Steps<L>,
-    ) -> Result<Change, NoMemory>
-        requires begin { start.sheet ≤ facts.now.sheet }
-        requires number { start.state.number ≡ start.household }
-        requires known { IsReplayedTo facts.now orders.now start
-            (part_in self.now.parts start.household).trades }
-        requires ready { CanBeReplayed facts.now start.household orders.now 0 facts.now.sheet
-            first_day }
-        ensures day { IfOk result (λ change.
-            part_after change.moves self.now.parts start.household
-            ≡ days_behind facts.now orders.now 0 facts.now.sheet first_day) }
-        ensures others { IfOk result (λ change. (other : ℕ)
-            → nat_eq other start.household ≡ false
-            → part_after change.moves self.now.parts other ≡ part_in self.now.parts other) }
-        ensures households { IfOk result (λ change.
-            households_of change.moves ≡ start.household ∷ []) }
-        ensures differences { IfOk result (λ change.
-            AreChangesOf change.changes self.now.parts change.moves) }
-        ensures steps { steps.new ≤ steps.old + (facts.now.sheet - start.sheet) }
-    {
-        self.reopen_from(alloc, start, facts, orders, steps)
-    }
-
-    // The same from any sheet on, behind so many of the old trades.
-    fn reopen_from<L: StepLedger>(
         &self,
         alloc: Global,
         start: ReplayStart,

@@ -18,6 +18,7 @@ use Rattle.correction_effects.proofs.FirstOfAll.{least_is_first, none_is_broken}
 use Rattle.correction_effects.proofs.UnreachedLeft.{leaves_unreached}
 use Rattle.correction_effects.specs.FirstOfAll.{AreFirstOfParts, IsOwned}
 use Rattle.correction_effects.specs.Least.{IsLeastOf}
+use Rattle.waiting_laws.specs.SettledOrders.{ReplacesNone}
 use Rattle.correction_effects.specs.Reached.{AreReached}
 use Rattle.correction_effects.specs.declared.least.BrokenTrade.{BrokenTrade}
 use Rattle.correction_trials.specs.Fresh.{KnowsItsAccount}
@@ -118,6 +119,12 @@ not-its journal owners households (EventKind.Enter form) household reached none 
 not-its journal owners households (EventKind.Replace form) household reached none =
     another-owner (household_of (accounts_of journal) form.order.account) household (ap (list_any (nat_eq household)) (sym reached) ∙ none)
 not-its journal owners households _ household reached none = refl
+
+-- nor does it replace one of its orders
+pub unreplaced : (journal : Journal) (owners households : List ℕ) (kind : EventKind) (household : ℕ) → AreReached journal owners kind households → list_any (nat_eq household) households ≡ false → ReplacesNone journal kind household
+unreplaced journal owners households kind household reached none form at =
+    another-owner (household_of (accounts_of journal) form.order.account) household
+    (ap (list_any (nat_eq household)) (sym (subst (λ k. AreReached journal owners k households) at reached)) ∙ none)
 
 -- an element passes the test for itself
 any-of : (household : ℕ) (households : List ℕ) → Contains households household → list_any (nat_eq household) households ≡ true

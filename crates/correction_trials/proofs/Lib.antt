@@ -26,3 +26,5 @@ pub mod TrialSays
 pub mod OneMoved
 -- what the replay of one household makes, and what nothing makes
 pub mod OneMore
+-- the replay of one household from the start that is kept of it
+pub mod ReopenedOne

@@ -83,14 +83,14 @@ rate_served books event form are at most is =
 
 -- ---- a corrected price
 
--- the sheet of the patch lists the class at the moment
-listed : (form : FixPriceForm) (sheets : List Sheet) (sheet : Sheet) → find (lists_at form.class form.moment) sheets ≡ Some sheet → list_any (λ (other : Sheet). other.number == sheet.number && lists_at form.class form.moment other) sheets ≡ true
-listed form [] sheet is = absurd (none-some is)
+-- the sheet that is found lists the class at the moment
+pub listed_on : (class moment : ℕ) (sheets : List Sheet) (sheet : Sheet) → find (lists_at class moment) sheets ≡ Some sheet → list_any (λ (other : Sheet). other.number == sheet.number && lists_at class moment other) sheets ≡ true
+listed_on class moment [] sheet is = absurd (none-some is)
   where
     none-some : None ≡ Some sheet → ⊥
     none-some e = cc
-listed form (first ∷ sheets) sheet is =
-    by (lists_at form.class form.moment first) refl is (λ later. listed form sheets sheet later)
+listed_on class moment (first ∷ sheets) sheet is =
+    by (lists_at class moment first) refl is (λ later. listed_on class moment sheets sheet later)
   where
     same : Some first ≡ Some sheet → first ≡ sheet
     same e = cc
@@ -103,12 +103,12 @@ listed form (first ∷ sheets) sheet is =
     or-right true b e = refl
     or-right false b e = e
 
-    by : (b : Bool) → lists_at form.class form.moment first ≡ b → cond b (Some first) (find (lists_at form.class form.moment) sheets) ≡ Some sheet → (find (lists_at form.class form.moment) sheets ≡ Some sheet → list_any (λ (other : Sheet). other.number == sheet.number && lists_at form.class form.moment other) sheets ≡ true) → list_any (λ (other : Sheet). other.number == sheet.number && lists_at form.class form.moment other) (first ∷ sheets) ≡ true
+    by : (b : Bool) → lists_at class moment first ≡ b → cond b (Some first) (find (lists_at class moment) sheets) ≡ Some sheet → (find (lists_at class moment) sheets ≡ Some sheet → list_any (λ (other : Sheet). other.number == sheet.number && lists_at class moment other) sheets ≡ true) → list_any (λ (other : Sheet). other.number == sheet.number && lists_at class moment other) (first ∷ sheets) ≡ true
     by true lists here rest =
-        or-left (first.number == sheet.number && lists_at form.class form.moment first) (list_any (λ (other : Sheet). other.number == sheet.number && lists_at form.class form.moment other) sheets)
-        (and_from (first.number == sheet.number) (lists_at form.class form.moment first) (eq-eqb first.number sheet.number (ap (λ (s : Sheet). s.number) (same here))) lists)
+        or-left (first.number == sheet.number && lists_at class moment first) (list_any (λ (other : Sheet). other.number == sheet.number && lists_at class moment other) sheets)
+        (and_from (first.number == sheet.number) (lists_at class moment first) (eq-eqb first.number sheet.number (ap (λ (s : Sheet). s.number) (same here))) lists)
     by false lists later rest =
-        or-right (first.number == sheet.number && lists_at form.class form.moment first) (list_any (λ (other : Sheet). other.number == sheet.number && lists_at form.class form.moment other) sheets)
+        or-right (first.number == sheet.number && lists_at class moment first) (list_any (λ (other : Sheet). other.number == sheet.number && lists_at class moment other) sheets)
         (rest later)
 
 pub price_listed : (books : DeskBooks) (form : FixPriceForm) (patch : Patch) → AreBooksOf books.book.journal books → patch_on books.prices.table.sheets form ≡ Some patch → IsListedOn (book_behind books.book.journal) form.class form.moment patch.sheet
@@ -124,7 +124,7 @@ price_listed books form patch are patches =
         none-some : None ≡ Some patch → ⊥
         none-some e = cc
     by (Some sheet) is_found e =
-        subst (λ (p : Patch). IsListedOn (book_behind books.book.journal) form.class form.moment p.sheet) (same e) (listed form sheets sheet is_found)
+        subst (λ (p : Patch). IsListedOn (book_behind books.book.journal) form.class form.moment p.sheet) (same e) (listed_on form.class form.moment sheets sheet is_found)
       where
         same : Some (patch_by form sheet.number) ≡ Some patch → patch_by form sheet.number ≡ patch
         same e = cc

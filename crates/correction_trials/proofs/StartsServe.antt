@@ -1,32 +1,41 @@
 -- Where the replay of a household on trial may begin, and what its correction leaves of the kept states.
-use Rattle.std.proofs.Common.{Bool, Contains, List, [], ap, arith, false, inl, inr, length, nat_eq, refl, subst, sym, take, true, ℕ, ◌<◌, ◌∙◌, ◌∷◌, ◌≡◌, ◌≤◌}
+use Rattle.std.proofs.Common.{Bool, Contains, List, None, Option, Some, [], ap, arith, false, length, nat_eq, refl, subst, sym, take, true, ℕ, ◌<◌, ◌∙◌, ◌∷◌, ◌≡◌, ◌≤◌}
 use Rattle.std.proofs.lemmas.Bool.{true≢false}
 use Rattle.std.proofs.lemmas.List.{length-map}
 use Rattle.std.proofs.lemmas.List.Elements.{All-contains, All-weaker}
 use Rattle.std.specs.List.{list_any}
+use Rattle.std.specs.Option.{option_map_or}
+use Rattle.std.specs.Prelude.{find}
 use Rattle.agent_events.specs.Events.{Event}
 use Rattle.agent_events.specs.declared.event.EventKind.{EventKind}
 use Rattle.agent_events.specs.declared.request.AccountForm.{AccountForm}
+use Rattle.agent_events.specs.declared.order.OrderRow.{OrderRow}
+use Rattle.agent_events.specs.declared.request.EntryForm.{EntryForm}
 use Rattle.agent_events.specs.declared.request.FixPriceForm.{FixPriceForm}
+use Rattle.agent_events.specs.declared.request.FixRateForm.{FixRateForm}
 use Rattle.agent_events.specs.declared.trade.Trade.{Trade}
 use Rattle.checkpoint_replay.specs.Parts.{part_in}
 use Rattle.checkpoint_replay.specs.Reopenings.{IsReplayedTo}
-use Rattle.checkpoint_replay.specs.declared.reopening.ReplayStart.{ReplayStart}
 use Rattle.correction_trials.specs.Fresh.{IsOnTrial}
 use Rattle.correction_trials.specs.Reopened.{IsTriedOver}
 use Rattle.correction_trials.specs.Settled.{AreForgotten, AreForgottenBy, IsTrialOf, KeepsStates}
-use Rattle.correction_trials.specs.Starts.{IsStart, LeavesPartsBefore, first_start, start_at}
+use Rattle.correction_trials.specs.Starts.{LeavesBefore, LeavesSettledBehind, LeavesSettledOnTrial, first_start, start_at, start_by}
+use Rattle.correction_trials.specs.declared.starts.KeptStart.{KeptStart}
 use Rattle.correction_trials.specs.declared.trial.Trial.{Trial}
 use Rattle.correction_trials.specs.declared.trial.Tried.{Tried}
+use Rattle.correction_trials.proofs.ServedTrials.{listed_on}
+use Rattle.desk_books.specs.BooksOfJournals.{AreBooksOf}
 use Rattle.desk_books.specs.declared.books.DeskBooks.{DeskBooks}
 use Rattle.event_laws.specs.EventReplays.{is_correction}
 use Rattle.forward_price.specs.PriceTables.{Table}
+use Rattle.forward_price.specs.declared.price_sheet.Sheet.{Sheet}
 use Rattle.household_fold.specs.Facts.{Known}
 use Rattle.household_replay.specs.Replays.{NumberedOrder}
-use Rattle.kept_of_journals.proofs.StatesStay.{left_is_as_of}
+use Rattle.kept_of_journals.proofs.StatesStay.{left_is_as_of, no_fewer}
 use Rattle.kept_of_journals.proofs.TradesLead.{trades_lead}
 use Rattle.kept_of_journals.specs.KeptOfBooks.{AreKeptOf, AreLikeLong, IsAsOf, part_to}
-use Rattle.kept_states.specs.KeptStates.{states_in}
+use Rattle.kept_states.proofs.StateFacts.{found-before}
+use Rattle.kept_states.specs.KeptStates.{last_before, states_in}
 use Rattle.kept_states.specs.declared.states.HouseholdStates.{HouseholdStates}
 use Rattle.kept_states.specs.declared.states.KeptState.{KeptState}
 use Rattle.ledger_laws.proofs.ReplaysAsPart.{replays_as_part}
@@ -37,11 +46,18 @@ use Rattle.register_laws.specs.Households.{part_of}
 use Rattle.register_laws.specs.Lawful.{book_behind}
 use Rattle.register_laws.specs.OneEventMore.{corrected_table_by}
 use Rattle.register_machine.specs.journal.Journals.{Journal, with_event}
+use Rattle.order_book.specs.Trials.{row_after}
 use Rattle.register_machine.specs.pricing.CorrectedBook.{Book}
 use Rattle.register_machine.specs.pricing.CorrectedPrices.{sheet_as_corrected}
 use Rattle.register_machine.specs.replay.Positions.{Register}
 use Rattle.register_machine.specs.replay.Replay.{replay_to}
 use Rattle.register_machine.specs.replay.Trades.{Day}
+use Rattle.register_machine.specs.rules.NamedThings.{lists_at}
+use Rattle.standing_orders.specs.Priced.{AreSettledOnTrial}
+use Rattle.standing_orders.specs.Rows.{is_settled}
+use Rattle.waiting_laws.proofs.SettledStay.{correction_leaves_settled}
+use Rattle.waiting_laws.specs.IndexOfJournals.{sheets_of}
+use Rattle.waiting_laws.specs.SettledOrders.{ReplacesNone}
 
 -- ---- the two books
 
@@ -60,17 +76,66 @@ like_long journal event corrects is = record {
   sheets =
       ap (λ (book : Book). length book.table.sheets) is.sound.goes_on
       ∙ sheets-kept (book_behind journal).table event.moment event.kind corrects;
+  orders =
+      subst (λ (book : Book). length (book_behind journal).orders ≤ length book.orders) (sym is.sound.goes_on)
+      (no_fewer (length journal) (book_behind journal).orders event.kind);
 }
 
--- no part changes before the sheet of a corrected price
-pub price_before : (journal : Journal) (event : Event) (form : FixPriceForm) (number : ℕ) → is_correction event.kind ≡ true → IsOnTrial journal event → event.kind ≡ EventKind.FixPrice form → IsListedOn (book_behind journal) form.class form.moment number → LeavesPartsBefore journal event number
-price_before journal event form number corrects is at listed household sheet short =
-    ap (λ (accounts : List AccountForm). part_of accounts household (replay_to (book_behind (with_event journal event)) sheet)) (keeps_accounts journal event corrects)
-    ∙ ap (part_of (book_behind journal).accounts household) (is.reach.price_numbered form at number listed sheet short)
+-- what is settled stays so on trial of a corrected price or rate, which change no order
+rows-stay : (journal : Journal) (event : Event) (before : ℕ) → ((row : OrderRow) → row_after event.kind row ≡ row) → LeavesSettledOnTrial journal event before
+rows-stay journal event before same household first number less settled place row short there own =
+    ap (is_settled (sheets_of journal) number) (same row) ∙ settled place row short there own
 
--- none comes before the first sheet
-pub none_before : (journal : Journal) (event : Event) → LeavesPartsBefore journal event 0
-none_before journal event household sheet short = absurd (omega (arith, short))
+-- and behind every correction that replaces none
+settled-stay : (journal : Journal) (event : Event) (before : ℕ) → is_correction event.kind ≡ true → IsOnTrial journal event → ((household : ℕ) → ReplacesNone journal event.kind household) → LeavesSettledBehind journal event before
+settled-stay journal event before corrects is none household first number less few settled =
+    correction_leaves_settled journal event household first number is.sound.goes_on corrects (none household) few settled
+
+-- no part changes before the sheet of a corrected price, or of a corrected rate
+pub price_before : (journal : Journal) (event : Event) (form : FixPriceForm) (number : ℕ) → is_correction event.kind ≡ true → IsOnTrial journal event → event.kind ≡ EventKind.FixPrice form → IsListedOn (book_behind journal) form.class form.moment number → LeavesBefore journal event number
+price_before journal event form number corrects is at listed = record {
+  parts = λ household sheet short.
+      ap (λ (accounts : List AccountForm). part_of accounts household (replay_to (book_behind (with_event journal event)) sheet)) (keeps_accounts journal event corrects)
+      ∙ ap (part_of (book_behind journal).accounts household) (is.reach.price_numbered form at number listed sheet short);
+  trial = rows-stay journal event number (λ row. ap (λ kind. row_after kind row) at);
+  settled = settled-stay journal event number corrects is (λ household entry replaces. absurd (other entry (sym at ∙ replaces)));
+}
+  where
+    other : (entry : EntryForm) → EventKind.FixPrice form ≡ EventKind.Replace entry → ⊥
+    other entry e = cc
+
+rate_before : (journal : Journal) (event : Event) (form : FixRateForm) (number : ℕ) → is_correction event.kind ≡ true → IsOnTrial journal event → event.kind ≡ EventKind.FixRate form → IsListedOn (book_behind journal) form.class form.moment number → LeavesBefore journal event number
+rate_before journal event form number corrects is at listed = record {
+  parts = λ household sheet short.
+      ap (λ (accounts : List AccountForm). part_of accounts household (replay_to (book_behind (with_event journal event)) sheet)) (keeps_accounts journal event corrects)
+      ∙ ap (part_of (book_behind journal).accounts household) (is.reach.rate_numbered form at number listed sheet short);
+  trial = rows-stay journal event number (λ row. ap (λ kind. row_after kind row) at);
+  settled = settled-stay journal event number corrects is (λ household entry replaces. absurd (other entry (sym at ∙ replaces)));
+}
+  where
+    other : (entry : EntryForm) → EventKind.FixRate form ≡ EventKind.Replace entry → ⊥
+    other entry e = cc
+
+-- nothing comes before the first sheet
+pub none_before : (journal : Journal) (event : Event) → LeavesBefore journal event 0
+none_before journal event = record {
+  parts = λ household sheet short. absurd (omega (arith, short));
+  trial = λ household first number less. absurd (omega (arith, less));
+  settled = λ household first number less. absurd (omega (arith, less));
+}
+
+-- the sheet that is found lists the class at the moment
+pub rate_touches : (books : DeskBooks) (event : Event) (form : FixRateForm) → AreBooksOf books.book.journal books → is_correction event.kind ≡ true → IsOnTrial books.book.journal event → event.kind ≡ EventKind.FixRate form → LeavesBefore books.book.journal event (option_map_or (λ (sheet : Sheet). sheet.number) (find (lists_at form.class form.moment) books.prices.table.sheets) 0)
+rate_touches books event form are corrects is at =
+    subst (λ (table : Table). LeavesBefore journal event (option_map_or (λ (sheet : Sheet). sheet.number) (find (lists_at form.class form.moment) table.sheets) 0)) (sym are.prices)
+    (by (find (lists_at form.class form.moment) (sheets_of journal)) refl)
+  where
+    journal : Journal
+    journal = books.book.journal
+
+    by : (found : Option Sheet) → find (lists_at form.class form.moment) (sheets_of journal) ≡ found → LeavesBefore journal event (option_map_or (λ (sheet : Sheet). sheet.number) found 0)
+    by None e = none_before journal event
+    by (Some sheet) e = rate_before journal event form sheet.number corrects is at (listed_on form.class form.moment (sheets_of journal) sheet e)
 
 -- ---- a start
 
@@ -83,28 +148,18 @@ starts-fresh : (known : Known) (rows : List NumberedOrder) (household : ℕ) (tr
 starts-fresh known rows household trades =
     ap (λ (ts : List Trade). record { register = []; trades = ts }) (none-stays trades)
 
--- it is one of the household's own, behind a sheet that is published, where its replay comes to it
-pub record Serves (known : Known) (rows : List NumberedOrder) (trades : List Trade) (household : ℕ) (start : ReplayStart) : Type 0 where
-  pub begin : start.sheet ≤ known.sheet
-  pub own : start.household ≡ household
-  pub number : start.state.number ≡ start.household
-  pub replayed : IsReplayedTo known rows start trades
+-- it is one of the household's own, behind a sheet that is published, where its replay comes to it; and its orders before the place of
+-- the start are settled by then
+pub record Serves (known : Known) (journal : Journal) (event : Event) (rows : List NumberedOrder) (trades : List Trade) (household : ℕ) (start : KeptStart) : Type 0 where
+  pub begin : start.replay.sheet ≤ known.sheet
+  pub own : start.replay.household ≡ household
+  pub number : start.replay.state.number ≡ start.replay.household
+  pub replayed : IsReplayedTo known rows start.replay trades
+  pub settled : AreSettledOnTrial journal (Some event) (sheets_of journal) household start.orders start.replay.sheet
 
-pub start_serves : (books : DeskBooks) (event : Event) (known : Known) (household before : ℕ) (rows : List NumberedOrder) (start : ReplayStart) → IsTriedOver books event known → AreRowsOf rows (book_behind (with_event books.book.journal event)) household → LeavesPartsBefore books.book.journal event before → IsStart (states_in books.kept household) household before start → Serves known rows (part_in books.ledger.parts household).trades household start
-start_serves books event known household before rows start is own leaves at = elim at [
-  | inl first ↦ subst (Serves known rows trades household) (sym first) (record {
-    begin = omega arith;
-    own = refl;
-    number = refl;
-    replayed = starts-fresh known rows household trades;
-  })
-  | inr found ↦ subst (Serves known rows trades household) (sym found.3) (record {
-    begin = within found.0 found.1;
-    own = refl;
-    number = (as-of found.0 found.1).own;
-    replayed = replayed found.0 found.1 found.2;
-  })
-]
+pub start_serves : (books : DeskBooks) (event : Event) (known : Known) (household before : ℕ) (rows : List NumberedOrder) (start : KeptStart) → IsTriedOver books event known → AreRowsOf rows (book_behind (with_event books.book.journal event)) household → LeavesBefore books.book.journal event before → start ≡ start_by household (last_before before (states_in books.kept household)) → Serves known books.book.journal event rows (part_in books.ledger.parts household).trades household start
+start_serves books event known household before rows start is own leaves at =
+    subst (Serves known journal event rows trades household) (sym at) (by (last_before before (states_in books.kept household)) refl)
   where
     journal : Journal
     journal = books.book.journal
@@ -133,8 +188,26 @@ start_serves books event known household before rows start is own leaves at = el
         let first = ap (λ (day : Day). take kept.trades day.trades) (is.books_are.ledger.part household) ∙ trades_lead now household kept are in
         ap (λ (register : Register). record { register = register; trades = take kept.trades trades }) are.register
         ∙ (ap (λ (ts : List Trade). record { register = (part_to now household kept.sheet).register; trades = ts }) first
-        ∙ (sym (leaves household kept.sheet short)
+        ∙ (sym (leaves.parts household kept.sheet short)
         ∙ (replays_as_part known rows after household is.serve.serve.serve.facts own).from_first kept.sheet (published kept there)))
+
+    by : (found : Option KeptState) → last_before before (states_in books.kept household) ≡ found → Serves known journal event rows trades household (start_by household found)
+    by None e = record {
+      begin = omega arith;
+      own = refl;
+      number = refl;
+      replayed = starts-fresh known rows household trades;
+      settled = λ place row short there mine. absurd (omega (arith, short));
+    }
+    by (Some kept) e =
+        let found = found-before before (states_in books.kept household) kept e in
+        record {
+          begin = within kept found.among;
+          own = refl;
+          number = (as-of kept found.among).own;
+          replayed = replayed kept found.among found.earlier;
+          settled = leaves.trial household kept.orders kept.sheet found.earlier (as-of kept found.among).settled;
+        }
 
 -- ---- the kept states
 
@@ -163,12 +236,14 @@ kept_behind books event trial new is are forgotten = by_tried trial.tried forgot
 
     untouched : (household : ℕ) (state : KeptState) → state.sheet < trial.before → IsAsOf now household state → IsAsOf after household state
     untouched household state short of =
-        let same = sym (is.before household state.sheet short) in
+        let same = sym (is.before.parts household state.sheet short) in
         record {
           published = omega (arith, of.published, is.like.sheets);
           own = of.own;
           register = of.register ∙ ap (λ (day : Day). day.register) same;
           counted = of.counted ∙ ap (λ (day : Day). length day.trades) same;
+          begun = omega (arith, of.begun, is.like.orders);
+          settled = is.before.settled household state.orders state.sheet short of.begun of.settled;
         }
 
     each : (household : ℕ) (state : KeptState) → Contains (states_in books.kept household) state × (list_any (nat_eq household) trial.households.items ≡ true → state.sheet < trial.before) → IsAsOf after household state
@@ -180,7 +255,9 @@ kept_behind books event trial new is are forgotten = by_tried trial.tried forgot
 
         by_reach : (reached : Bool) → list_any (nat_eq household) trial.households.items ≡ reached → IsAsOf after household state
         by_reach true at = untouched household state (stays.1 at) of
-        by_reach false at = left_is_as_of now after household state is.like (is.left household at) of
+        by_reach false at =
+            left_is_as_of now after household state is.like (is.left household at)
+            (correction_leaves_settled journal event household state.orders state.sheet is.goes_on is.corrects (is.unreplaced household at) of.begun) of
 
     by_tried : (tried : Tried) → AreForgottenBy tried trial.households.items trial.before books.kept new → KeepsStates journal event new tried
     by_tried (Tried.Breaks _) same = tt

@@ -15,7 +15,9 @@ use Rattle.checkpoint_replay.specs.Parts.{first_day, part_in}
 use Rattle.checkpoint_replay.specs.declared.change.HouseholdMove.{HouseholdMove}
 use Rattle.correction_effects.specs.declared.least.BrokenTrade.{BrokenTrade}
 use Rattle.correction_trials.proofs.ReopenedMore.{households_behind}
-use Rattle.correction_trials.proofs.TrialOrders.{rows_on_trial}
+use Rattle.checkpoint_replay.proofs.ReopenedDay.{AreTheLateOnes}
+use Rattle.checkpoint_replay.specs.declared.reopening.ReplayStart.{ReplayStart}
+use Rattle.correction_trials.proofs.TrialOrders.{late_on_trial}
 use Rattle.correction_trials.specs.Reopened.{AreJoined, IsOneMore, IsTriedOver, SeesBroken, broken_in}
 use Rattle.desk_books.specs.declared.books.DeskBooks.{DeskBooks}
 use Rattle.forward_price.specs.PriceTables.{Table}
@@ -35,7 +37,8 @@ use Rattle.register_machine.specs.pricing.CorrectedOrders.{orders_of}
 use Rattle.register_machine.specs.replay.Replay.{replay}
 use Rattle.register_machine.specs.replay.Trades.{Day}
 use Rattle.register_machine.specs.rules.Breaks.{is_broken, order_corrected}
-use Rattle.standing_orders.specs.Priced.{AreOwnOnTrial}
+use Rattle.standing_orders.specs.Priced.{AreOwnOnTrial, AreSettledOnTrial}
+use Rattle.waiting_laws.specs.IndexOfJournals.{sheets_of}
 
 -- ---- households that rise are different
 
@@ -66,14 +69,23 @@ stand_apart moves others household only distinct =
 
 -- ---- one household
 
-pub own_rows : (books : DeskBooks) (event : Event) (known : Known) (household : ℕ) (rows : List NumberedOrder) → IsTriedOver books event known → AreOwnOnTrial books.book.journal (Some event) books.prices.table.sheets books.orders.owners household rows → AreRowsOf rows (book_behind (with_event books.book.journal event)) household
-own_rows books event known household rows is own =
-    rows_on_trial books.book.journal event books.orders.owners household rows is.corrects is.trial is.books_are.index.owned
-    (subst (λ (table : Table). AreOwnOnTrial books.book.journal (Some event) table.sheets books.orders.owners household rows) is.books_are.prices own)
+-- all orders of a household on trial, under their sheets
+abbrev pub all_rows : DeskBooks → Event → ℕ → List NumberedOrder
+all_rows books event household = rows_of_part (book_behind (with_event books.book.journal event)) household
 
-pub can_reopen : (books : DeskBooks) (event : Event) (known : Known) (household : ℕ) (rows : List NumberedOrder) → IsTriedOver books event known → AreOwnOnTrial books.book.journal (Some event) books.prices.table.sheets books.orders.owners household rows → CanBeReplayed known household rows 0 known.sheet first_day
-can_reopen books event known household rows is own =
-    (reopens known rows (book_behind (with_event books.book.journal event)) household is.trial.sound.sound is.serve.serve (own_rows books event known household rows is own)).ready
+pub own_rows : (books : DeskBooks) (event : Event) (known : Known) (household : ℕ) → IsTriedOver books event known → AreRowsOf (all_rows books event household) (book_behind (with_event books.book.journal event)) household
+own_rows books event known household is = rows_by_sheets (book_behind (with_event books.book.journal event)) household is.trial.orders.numbered
+
+pub can_reopen : (books : DeskBooks) (event : Event) (known : Known) (household : ℕ) → IsTriedOver books event known → CanBeReplayed known household (all_rows books event household) 0 known.sheet first_day
+can_reopen books event known household is =
+    (reopens known (all_rows books event household) (book_behind (with_event books.book.journal event)) household is.trial.sound.sound is.serve.serve (own_rows books event known household is)).ready
+
+-- those that are gathered from a place on are the late ones
+pub late_rows : (books : DeskBooks) (event : Event) (known : Known) (household first : ℕ) (start : ReplayStart) (late : List NumberedOrder) → IsTriedOver books event known → AreOwnOnTrial books.book.journal (Some event) books.prices.table.sheets books.orders.owners household first late → AreSettledOnTrial books.book.journal (Some event) (sheets_of books.book.journal) household first start.sheet → AreTheLateOnes known (all_rows books event household) late start
+late_rows books event known household first start late is own settled n behind short =
+    late_on_trial books.book.journal event books.orders.owners household first start.sheet (all_rows books event household) late is.corrects is.trial is.books_are.index.owned
+    (subst (λ (table : Table). AreOwnOnTrial books.book.journal (Some event) table.sheets books.orders.owners household first late) is.books_are.prices own)
+    settled (own_rows books event known household is) n behind (omega (arith, short, is.serve.serve.last))
 
 -- what is broken between the ledger and the new trades is broken in the household's part
 pub sees_part : (books : DeskBooks) (event : Event) (known : Known) (household : ℕ) (one : Moves) (old new : Option BrokenTrade) → IsTriedOver books event known → IsOneMore books event known household one → SeesBroken (orders_of (with_event books.book.journal event)) (find (is_broken (order_corrected event.kind) (part_in books.ledger.parts household).trades) (part_after one.moves books.ledger.parts household).trades) old new → SeesBroken (book_behind (with_event books.book.journal event)).orders (broken_in books.book.journal event household) old new

@@ -1,26 +1,34 @@
 -- What a trial leaves of the kept states: where it breaks no order, those that its correction doesn't touch.
 use Rattle.std.specs.List.{list_any}
-use Rattle.std.specs.Prelude.{All, Contains, List, false, nat_eq, true, ℕ, ◌<◌, ◌≡◌}
+use Rattle.std.specs.Prelude.{All, Contains, List, false, length, nat_eq, true, ℕ, ◌<◌, ◌≡◌}
 use Rattle.agent_events.specs.Events.{Event}
-use Rattle.correction_trials.specs.Starts.{LeavesPartsBefore}
+use Rattle.correction_trials.specs.Starts.{LeavesBefore}
 use Rattle.correction_trials.specs.Trials.{Says}
 use Rattle.correction_trials.specs.declared.trial.Trial.{Trial}
 use Rattle.correction_trials.specs.declared.trial.Tried.{Tried}
 use Rattle.desk_books.specs.declared.books.DeskBooks.{DeskBooks}
+use Rattle.event_laws.specs.EventReplays.{is_correction}
 use Rattle.kept_of_journals.specs.KeptOfBooks.{AreKeptOf, AreLikeLong}
 use Rattle.kept_states.specs.KeptStates.{states_in}
 use Rattle.kept_states.specs.declared.states.HouseholdStates.{HouseholdStates}
 use Rattle.register_laws.specs.CorrectionReach.{LeavesPart}
 use Rattle.register_laws.specs.Lawful.{book_behind}
+use Rattle.register_laws.specs.OneEventMore.{book_after}
 use Rattle.register_machine.specs.journal.Journals.{Journal, with_event}
+use Rattle.waiting_laws.specs.SettledOrders.{ReplacesNone}
 
--- The trial of a correction: what it says, whose parts stay, and before which sheet no part changes.
+-- The trial of a correction: what it says, whose parts and orders stay, and before which sheet nothing changes.
 pub record IsTrialOf (books : DeskBooks) (event : Event) (trial : Trial) : Type 0 where
   pub says : Says books.book.journal event books.ledger.parts trial.tried
   pub left : (household : ℕ) → list_any (nat_eq household) trial.households.items ≡ false
       → LeavesPart (book_behind books.book.journal) (book_behind (with_event books.book.journal event)) household
+  pub unreplaced : (household : ℕ) → list_any (nat_eq household) trial.households.items ≡ false
+      → ReplacesNone books.book.journal event.kind household
   pub like : AreLikeLong (book_behind books.book.journal) (book_behind (with_event books.book.journal event))
-  pub before : LeavesPartsBefore books.book.journal event trial.before
+  pub before : LeavesBefore books.book.journal event trial.before
+  pub goes_on : book_behind (with_event books.book.journal event)
+      ≡ book_after (length books.book.journal) (book_behind books.book.journal) event.moment event.kind
+  pub corrects : is_correction event.kind ≡ true
 
 -- of these households, only states behind sheets before this one; of others, no new ones
 abbrev pub AreBefore : List ℕ → ℕ → List (ℕ × HouseholdStates) → List (ℕ × HouseholdStates) → Type 0

@@ -1,18 +1,41 @@
--- Where the replay of a household may begin: before all sheets, or at a state that is kept of it behind a sheet which the correction
--- doesn't touch.
-use Rattle.std.specs.Prelude.{Contains, List, [], ℕ, ◌<◌, ◌≡◌, ◌⊎◌}
+-- Where the replay of a household begins: before all sheets, or at the last state that is kept of it behind a sheet which the
+-- correction doesn't touch.
+use Rattle.std.specs.Option.{option_map_or}
+use Rattle.std.specs.Prelude.{List, Option, Some, [], length, ℕ, ◌<◌, ◌≡◌, ◌≤◌}
 use Rattle.agent_events.specs.Events.{Event}
 use Rattle.checkpoint_replay.specs.declared.reopening.ReplayStart.{ReplayStart}
+use Rattle.correction_trials.specs.declared.starts.KeptStart.{KeptStart}
 use Rattle.kept_of_journals.specs.KeptOfBooks.{part_to}
 use Rattle.kept_states.specs.declared.states.KeptState.{KeptState}
 use Rattle.register_laws.specs.Lawful.{book_behind}
 use Rattle.register_machine.specs.journal.Journals.{Journal, with_event}
+use Rattle.standing_orders.specs.Priced.{AreSettledOnTrial}
+use Rattle.waiting_laws.specs.IndexOfJournals.{sheets_of}
+use Rattle.waiting_laws.specs.SettledOrders.{AreSettled}
 
 -- no part changes behind a sheet before this one
 abbrev pub LeavesPartsBefore : Journal → Event → ℕ → Type 0
 LeavesPartsBefore journal event before =
     (household sheet : ℕ) → sheet < before
     → part_to (book_behind (with_event journal event)) household sheet ≡ part_to (book_behind journal) household sheet
+
+-- what is settled of a household up to a sheet before this one stays so, on trial and behind the event
+abbrev pub LeavesSettledOnTrial : Journal → Event → ℕ → Type 0
+LeavesSettledOnTrial journal event before =
+    (household first number : ℕ) → number < before → AreSettled (book_behind journal) household first number
+    → AreSettledOnTrial journal (Some event) (sheets_of journal) household first number
+
+abbrev pub LeavesSettledBehind : Journal → Event → ℕ → Type 0
+LeavesSettledBehind journal event before =
+    (household first number : ℕ) → number < before → first ≤ length (book_behind journal).orders
+    → AreSettled (book_behind journal) household first number
+    → AreSettled (book_behind (with_event journal event)) household first number
+
+-- The event touches no sheet before this one.
+pub record LeavesBefore (journal : Journal) (event : Event) (before : ℕ) : Type 0 where
+  pub parts : LeavesPartsBefore journal event before
+  pub trial : LeavesSettledOnTrial journal event before
+  pub settled : LeavesSettledBehind journal event before
 
 -- before all sheets nothing is known of the household
 abbrev pub first_start : ℕ → ReplayStart
@@ -23,8 +46,8 @@ abbrev pub start_at : ℕ → KeptState → ReplayStart
 start_at household kept =
     record { household = household; state = kept.state; sheet = kept.sheet; kept = kept.trades }
 
--- a start at one of these states, behind a sheet before this one, or before all sheets
-abbrev pub IsStart : List KeptState → ℕ → ℕ → ReplayStart → Type 0
-IsStart states household before start =
-    (start ≡ first_start household)
-    ⊎ ((kept : KeptState) × Contains states kept × (kept.sheet < before) × (start ≡ start_at household kept))
+-- at the state that is found, or before all sheets
+abbrev pub start_by : ℕ → Option KeptState → KeptStart
+start_by household found =
+    option_map_or (λ (kept : KeptState). record { replay = start_at household kept; orders = kept.orders })
+    found (record { replay = first_start household; orders = 0 })

@@ -4,7 +4,7 @@ ghost use Rattle.std.specs.List.{IsDistinct};
 ghost use Rattle.std.specs.List.Sorted.{IsStrictlyIncreasing};
 ghost use Rattle.checkpoint_replay.specs.Moves.{AreApart, AreMoves, households_of};
 ghost use Rattle.correction_trials.specs.Reopened.{AreJoined, AreReopened, IsOneMore, IsTriedOver, ReopensMore, moves_of};
-ghost use Rattle.correction_trials.specs.Starts.{LeavesPartsBefore};
+ghost use Rattle.correction_trials.specs.Starts.{LeavesBefore};
 
 use crate::breaking::see_broken;
 use crate::starts::start_of;
@@ -38,7 +38,7 @@ pub(crate) fn reopen_all<L: StepLedger>(
     steps: &mut Steps<L>,
 ) -> Result<Reopened, NoMemory>
     requires tried { IsTriedOver books.now event.now facts.now }
-    requires before { LeavesPartsBefore books.now.book.journal event.now before }
+    requires before { LeavesBefore books.now.book.journal event.now before }
     requires rising { IsStrictlyIncreasing households.now }
     ensures reopened { IfOk result (λ reopened. AreReopened books.now event.now facts.now
         households.now reopened.change reopened.first.least) }
@@ -69,7 +69,7 @@ fn reopen_more<L: StepLedger>(
     steps: &mut Steps<L>,
 ) -> Result<Reopened, NoMemory>
     requires tried { IsTriedOver books.now event.now facts.now }
-    requires before { LeavesPartsBefore books.now.book.journal event.now before }
+    requires before { LeavesBefore books.now.book.journal event.now before }
     requires apart { IsDistinct nat_eq (households_of (moves_of so_far.change) ++ household ∷ []) }
     ensures more { IfOk result (λ more. ReopensMore books.now event.now facts.now household
         so_far.change so_far.first.least more.change more.first.least) }
@@ -96,22 +96,23 @@ fn reopen_one<L: StepLedger>(
     steps: &mut Steps<L>,
 ) -> Result<Change, NoMemory>
     requires tried { IsTriedOver books.now event.now facts.now }
-    requires before { LeavesPartsBefore books.now.book.journal event.now before }
+    requires before { LeavesBefore books.now.book.journal event.now before }
     ensures one { IfOk result (IsOneMore books.now event.now facts.now household) }
     ensures steps { steps.new ≤ steps.old + facts.now.sheet }
 {
+    let start = start_of(alloc, &books.kept, household, before)?;
     let orders = orders_of_household(
         alloc,
         books.book.orders(),
         &books.prices,
         &books.orders,
         household,
+        start.orders,
         Some(event),
     )?;
-    let start = start_of(alloc, &books.kept, household, before)?;
     books
         .ledger
-        .reopen_behind(alloc, start, facts, &orders, steps)
+        .reopen_behind(alloc, start.replay, facts, &orders, steps)
 }
 
 // A change, and that of one household behind it.

@@ -1,5 +1,6 @@
 //! The trial of a correction.
-ghost use Rattle.std.specs.Prelude.{◌≡◌, ◌≤◌, ◌+◌, ◌*◌, IfOk, OnOk, is_some, true, length, ℕ, List};
+ghost use Rattle.std.specs.Prelude.{◌≡◌, ◌≤◌, ◌+◌, ◌*◌, IfOk, OnOk, find, is_some, true, length, ℕ, List};
+ghost use Rattle.std.specs.Option.{option_map_or};
 ghost use Rattle.agent_events.specs.declared.event.EventKind.{EventKind as Kind};
 ghost use Rattle.agent_events.specs.declared.reply.Refusal.{Refusal as AnyRefusal};
 ghost use Rattle.checkpoint_replay.specs.Differences.{AreChangesOf};
@@ -9,7 +10,7 @@ ghost use Rattle.correction_trials.specs.Changed.{AreMovesOf, IsMovedWith};
 ghost use Rattle.correction_trials.specs.Reopened.{IsReopenedWhole, IsTriedOver, TakesFewSteps, changes_of, moves_of};
 ghost use Rattle.correction_trials.specs.Served.{known_in};
 ghost use Rattle.correction_trials.specs.Settled.{AreForgotten, AreForgottenBy, IsTrialOf, KeepsStates};
-ghost use Rattle.correction_trials.specs.Starts.{LeavesPartsBefore};
+ghost use Rattle.correction_trials.specs.Starts.{LeavesBefore};
 ghost use Rattle.correction_trials.specs.Trials.{IsFresh, Says};
 ghost use Rattle.correction_trials.specs.declared.trial.Tried.{Tried as AnyTried};
 ghost use Rattle.desk_books.specs.BooksOfJournals.{AreBooksOf, ShowTheSame};
@@ -18,6 +19,7 @@ ghost use Rattle.forward_price.specs.PriceTables.{patched};
 ghost use Rattle.household_fold.specs.Facts.{FactsFit, sheets_known};
 ghost use Rattle.register_laws.specs.CorrectionReach.{order_changed};
 ghost use Rattle.register_laws.specs.Lawful.{book_behind};
+ghost use Rattle.register_machine.specs.rules.NamedThings.{lists_at};
 
 use crate::forgetting::forget_all;
 use crate::moving::{bearer_of, with_gains};
@@ -33,7 +35,7 @@ use correction_effects::{BrokenTrade, FirstBroken, households_reached};
 use desk_books::{DeskBooks, LedgerChange};
 use forward_price::{Patch, PriceBook};
 use household_fold::{Facts, Steps};
-use journal_tables::patch_of;
+use journal_tables::{patch_of, sheet_priced};
 use kept_states::KeptStates;
 use money_units::NoMemory;
 use std::alloc::Global;
@@ -177,7 +179,20 @@ fn try_rate<L: StepLedger>(
 {
     let _rate = form.rate.millionths();
     let rates = books.tables.rates_with(alloc, form)?;
-    try_with(alloc, books, event, &rates, None, 0, steps)
+    let before = sheet_touched(&books.prices, form);
+    try_with(alloc, books, event, &rates, None, before, steps)
+}
+
+// The number of the sheet that pays the corrected rate, 0 where none is published.
+fn sheet_touched(prices: &PriceBook, form: &FixRateForm) -> u32
+    ensures { result
+        ≡ option_map_or (λ sheet. sheet.number)
+        (find (lists_at form.now.class form.now.moment) prices.now.table.sheets) 0 }
+{
+    match sheet_priced(prices.sheets(), form.class.number(), form.moment) {
+        Some(sheet) => sheet.number,
+        None => 0,
+    }
 }
 
 // A corrected order is tried by what is kept.
@@ -208,7 +223,7 @@ fn try_with<L: StepLedger>(
     steps: &mut Steps<L>,
 ) -> Result<Trial, NoMemory>
     requires tried { IsTriedOver books.now event.now (known_in books.now rates.now patch) }
-    requires before { LeavesPartsBefore books.now.book.journal event.now before }
+    requires before { LeavesBefore books.now.book.journal event.now before }
     ensures trial { IfOk result (IsTrialOf books.now event.now) }
     ensures steps { OnOk result (TakesFewSteps books.now event.now steps.old steps.new) }
 {

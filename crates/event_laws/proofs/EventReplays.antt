@@ -138,7 +138,7 @@ earlier-number journal lawful form k d short =
     (λ same. let is = (numbered journal lawful).corrected.each k d short in omega (arith, same, is, short))
 
 -- each sheet before a new one isn't later
-never-after : (journal : Journal) (event : Event) → IsLawful (with_event journal event) → (form : SheetForm) → event.kind ≡ EventKind.Sheet form → All (λ (s : Sheet). s.moment ≤ℤ pos form.moment) (book_behind journal).table.sheets
+pub never-after : (journal : Journal) (event : Event) → IsLawful (with_event journal event) → (form : SheetForm) → event.kind ≡ EventKind.Sheet form → All (λ (s : Sheet). s.moment ≤ℤ pos form.moment) (book_behind journal).table.sheets
 never-after journal event lawful form is k d short =
     let at : (get_or sheets k d).moment ≡ pos (moment_of (get_or sheets k d)) = dated journal k d short in
     let low : get_or (sheets ++ sheet_behind journal form ∷ []) k d ≡ get_or sheets k d = get_or_append_left sheets (sheet_behind journal form ∷ []) d k short in

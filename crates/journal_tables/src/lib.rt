@@ -10,6 +10,6 @@ mod rows;
 mod tables;
 
 pub use crate::change::TableChange;
-pub use crate::patches::patch_of;
+pub use crate::patches::{patch_of, sheet_priced};
 pub use crate::room::Room;
 pub use crate::tables::JournalTables;

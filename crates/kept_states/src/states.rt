@@ -1,6 +1,7 @@
 //! The states that are kept of each household.
 ghost use Rattle.std.specs.Prelude.{◌≡◌, ◌<◌, ◌≤◌, ◌+◌, ◌⊎◌, ℕ, [], All, Contains, IfOk, IfSome, OnErr, OnOk, false, filter, nat_eq, nat_le, nat_lt};
-ghost use Rattle.kept_states.specs.KeptStates.{is_due, states_in};
+ghost use Rattle.kept_states.specs.KeptStates.{is_due, last_before, states_in, thinned, with_one_more};
+ghost use Rattle.std.specs.Option.{option_copied};
 
 use household_fold::HouseholdState;
 use money_units::NoMemory;
@@ -8,12 +9,14 @@ use std::alloc::Global;
 use std::collections::HashMap;
 use std::marker::Model;
 
-/// What a household came to behind a sheet: its positions, and how many trades it had by then.
+/// What a household came to behind a sheet: its positions, and how many trades it had by then. None of its orders among the first
+/// of the book, so many, is executed behind the sheet.
 #[derive(Drop)]
 pub struct KeptState {
     pub sheet: u32,
     pub state: HouseholdState,
     pub trades: usize,
+    pub orders: usize,
 }
 
 /// The states that are kept of one household, by rising sheet.
@@ -58,8 +61,8 @@ impl KeptStates {
     /// The last state of a household behind a sheet before this one; `None` where none is kept. It costs a look at the few
     /// states of the household.
     pub fn before(&self, household: u32, sheet: u32) -> Option<&KeptState>
-        ensures { IfSome result (λ kept. Contains (states_in self.now household) kept.now
-            × (kept.now.sheet < sheet)) }
+        ensures { option_copied result
+            ≡ last_before sheet (states_in self.now household) }
     {
         match self.rows.get(&household) {
             Some(own) => last_before(&own.states, sheet),
@@ -82,6 +85,8 @@ impl KeptStates {
     pub fn keep(&mut self, household: u32, state: KeptState) -> Result<(), NoMemory>
         ensures own { All (λ kept. Contains (states_in self.old household) kept ⊎ (kept ≡ state))
             (states_in self.new household) }
+        ensures more { OnOk result (states_in self.new household
+            ≡ with_one_more (states_in self.old household) state) }
         ensures others { (other : ℕ) → nat_eq household other ≡ false
             → states_in self.new other ≡ states_in self.old other }
     {
@@ -107,9 +112,15 @@ impl KeptStates {
 
 // The last of these states that is behind a sheet before this one.
 fn last_before(states: &[KeptState], sheet: u32) -> Option<&KeptState>
-    ensures { IfSome result (λ kept. Contains states.now kept.now × (kept.now.sheet < sheet)) }
+    ensures { option_copied result ≡ last_before sheet states.now }
 {
-    states.iter().rev().find(|kept| kept.sheet < sheet)
+    let mut found = None;
+    for kept in states {
+        if kept.sheet < sheet {
+            found = Some(kept);
+        }
+    }
+    found
 }
 
 fn is_due(states: &[KeptState], sheet: u32) -> bool
@@ -158,7 +169,7 @@ fn put(
 
 // These states, without the second one where there is no place for one more.
 fn thinned(states: Vec<KeptState>) -> Vec<KeptState>
-    ensures { All (Contains states.items) result.items }
+    ensures { result.items ≡ thinned states.items }
 {
     let mut states = states;
     if MOST_STATES <= states.len() {
@@ -169,8 +180,7 @@ fn thinned(states: Vec<KeptState>) -> Vec<KeptState>
 
 // So many of these states as have a place beside one more, and that one.
 fn with_one_more(states: Vec<KeptState>, state: KeptState) -> Result<Vec<KeptState>, NoMemory>
-    ensures { IfOk result (λ more. All
-        (λ kept. Contains states.items kept ⊎ (kept ≡ state)) more.items) }
+    ensures { IfOk result (λ more. more.items ≡ with_one_more states.items state) }
 {
     let mut states = thinned(states);
     states.push(state)?;

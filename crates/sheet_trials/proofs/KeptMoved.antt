@@ -17,6 +17,7 @@ use Rattle.register_laws.specs.Lawful.{book_behind}
 use Rattle.register_machine.specs.journal.Journals.{Journal}
 use Rattle.register_machine.specs.pricing.CorrectedBook.{Book}
 use Rattle.register_machine.specs.replay.Trades.{Day}
+use Rattle.waiting_laws.specs.SettledOrders.{AllAreSettled}
 
 -- the state of a household, where there is one, has its number and its positions
 there : (empty : Bool) (own state : Household) → cond empty None (Some own) ≡ Some state → state ≡ own
@@ -29,14 +30,16 @@ state-there parts household state same =
     there (length register == 0) (record { number = household; register = register }) state same
 
 -- one that the ledger shows, kept with the last sheet
-pub shown-is-as-of : (book : Book) (parts : List (ℕ × HouseholdPart)) (household : ℕ) (kept : KeptState) → IsLedgerOf book parts → kept.sheet ≡ length book.table.sheets → state_in parts household ≡ Some kept.state → kept.trades ≡ length (part_in parts household).trades → IsAsOf book household kept
-shown-is-as-of book parts household kept ledger last shown counted =
+pub shown-is-as-of : (book : Book) (parts : List (ℕ × HouseholdPart)) (household : ℕ) (kept : KeptState) → IsLedgerOf book parts → kept.sheet ≡ length book.table.sheets → state_in parts household ≡ Some kept.state → kept.trades ≡ length (part_in parts household).trades → AllAreSettled book kept.orders kept.sheet → IsAsOf book household kept
+shown-is-as-of book parts household kept ledger last shown counted settled =
     let is = state-there parts household kept.state shown in
     last_is_as_of book household kept (record {
       sheet = last;
       own = ap (λ (state : Household). state.number) is;
       register = ap (λ (state : Household). state.register) is ∙ ap (λ (day : Day). day.register) (ledger.part household);
       counted = counted ∙ ap (λ (day : Day). length day.trades) (ledger.part household);
+      begun = settled.begun;
+      settled = settled.settled household;
     })
 
 -- with one more, kept states are still what the households came to

@@ -4,12 +4,14 @@ ghost use Rattle.desk_books.specs.BooksOfJournals.{AreBooksOf, ShowTheSame};
 ghost use Rattle.kept_of_journals.specs.KeptOfBooks.{AreKeptOf};
 ghost use Rattle.ledger_of_journals.specs.Ledgers.{IsLedgerOf};
 ghost use Rattle.register_machine.specs.pricing.CorrectedBook.{Book};
+ghost use Rattle.waiting_laws.specs.SettledOrders.{AllAreSettled, first_waiting};
 
 use checkpoint_replay::{HouseholdMove, Ledger};
 use desk_books::DeskBooks;
 use forward_price::PriceBook;
 use kept_states::{KeptState, KeptStates};
 use money_units::NoMemory;
+use standing_orders::HouseholdOrders;
 use std::alloc::Global;
 
 /// Keeps what each of the households that are moved came to behind the last sheet, where the last state of it that is kept is old
@@ -25,7 +27,18 @@ pub(crate) fn keep_moved(
     ensures ledger { books.new.ledger ≡ books.old.ledger }
 {
     let sheet = last_number(&books.prices)?;
-    keep_states(alloc, &mut books.kept, &books.ledger, sheet, moves)
+    let orders = first_waiting(&books.orders);
+    keep_states(alloc, &mut books.kept, &books.ledger, sheet, orders, moves)
+}
+
+// The place of the first order that waits, or how many orders there are.
+fn first_waiting(orders: &HouseholdOrders) -> usize
+    ensures { result ≡ first_waiting orders.now.waiting (length orders.now.owners) }
+{
+    match orders.waiting().first() {
+        Some(place) => *place,
+        None => orders.owners().len(),
+    }
 }
 
 // The number of the last sheet, 0 where there is none.
@@ -44,13 +57,14 @@ fn keep_states(
     kept: &mut KeptStates,
     ledger: &Ledger,
     sheet: u32,
+    orders: usize,
     moves: &[HouseholdMove],
 ) -> Result<(), NoMemory>
     ensures { (book : Book) → IsLedgerOf book ledger.now.parts → sheet ≡ length book.table.sheets
-        → AreKeptOf book kept.old → AreKeptOf book kept.new }
+        → AllAreSettled book orders sheet → AreKeptOf book kept.old → AreKeptOf book kept.new }
 {
     for change in moves {
-        keep_state(alloc, kept, ledger, sheet, change.household)?;
+        keep_state(alloc, kept, ledger, sheet, orders, change.household)?;
     }
     Ok(())
 }
@@ -60,10 +74,11 @@ fn keep_state(
     kept: &mut KeptStates,
     ledger: &Ledger,
     sheet: u32,
+    orders: usize,
     household: u32,
 ) -> Result<(), NoMemory>
     ensures { (book : Book) → IsLedgerOf book ledger.now.parts → sheet ≡ length book.table.sheets
-        → AreKeptOf book kept.old → AreKeptOf book kept.new }
+        → AllAreSettled book orders sheet → AreKeptOf book kept.old → AreKeptOf book kept.new }
 {
     if !kept.is_due(household, sheet) {
         return Ok(());
@@ -78,6 +93,7 @@ fn keep_state(
                     sheet,
                     state,
                     trades,
+                    orders,
                 },
             )
         }

@@ -1,6 +1,7 @@
 pub mod GatheredRows
 pub mod InTurn
 pub mod IndexKept
+pub mod LateOrders
 pub mod OwnOrders
 pub mod OwnPlaces
 pub mod OwnerChains

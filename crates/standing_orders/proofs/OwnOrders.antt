@@ -29,7 +29,8 @@ use Rattle.standing_orders.proofs.InTurn.{filter-alike, turns-filter}
 use Rattle.standing_orders.proofs.PricedOrders.{filter-both, filter-known, found-all, mapped-found, orders-standing, under-number}
 use Rattle.standing_orders.specs.Entries.{is_under, numbered_at, numbered_begun, numbered_on, order_of, row_of, rows_of}
 use Rattle.household_replay.specs.Replays.{NumberedOrder}
-use Rattle.standing_orders.specs.Places.{places_from, places_where}
+use Rattle.standing_orders.proofs.LateOrders.{late-gathered}
+use Rattle.standing_orders.specs.Places.{not_before, places_from, places_where}
 use Rattle.standing_orders.specs.Priced.{AreOwnOnTrial, own_on}
 use Rattle.standing_orders.specs.Rows.{AreOwners, is_owner, sheet_number}
 use Rattle.standing_orders.specs.declared.entries.NumberedRow.{NumberedRow}
@@ -233,14 +234,14 @@ on-known number sheets rows =
     by_sheet (Some n) on = refl
     by_sheet None on = absurd (true≢false (sym on))
 
-pub own-by-sheet : (journal : Journal) (trial : Option Event) (sheets : List Sheet) (owners : List ℕ) (household : ℕ) (gathered turned grouped : List NumberedRow) (orders : List NumberedOrder)
+pub own-by-sheet : (journal : Journal) (trial : Option Event) (sheets : List Sheet) (owners : List ℕ) (household first : ℕ) (gathered turned grouped : List NumberedRow) (orders : List NumberedOrder)
     → TrialFits journal trial
-    → gathered ≡ filter_map (numbered_at sheets trial (orders_of journal)) (places_where (is_owner household) owners) ++ option_to_list (numbered_begun sheets (accounts_of journal) household (row_begun (length journal) trial))
+    → gathered ≡ filter_map (numbered_at sheets trial (orders_of journal)) (not_before first (places_where (is_owner household) owners)) ++ option_to_list (numbered_begun sheets (accounts_of journal) household (row_begun (length journal) trial))
     → rows_of turned ≡ all_in_turn (rows_of gathered) → IsPermutation gathered turned
     → ((n : ℕ) → filter (is_under n) grouped ≡ filter (is_under n) turned)
     → orders ≡ map order_of grouped
-    → AreOwnOnTrial journal trial sheets owners household orders
-own-by-sheet journal trial sheets owners household gathered turned grouped orders fits gathered_is turned_is moved grouped_is orders_are book of_trial are sheet =
+    → AreOwnOnTrial journal trial sheets owners household first orders
+own-by-sheet journal trial sheets owners household first gathered turned grouped orders fits gathered_is turned_is moved grouped_is orders_are book of_trial are before settled sheet behind =
     ap (λ rows. map (λ (row : NumberedOrder). row.order) (filter (λ (row : NumberedOrder). row.number == number) rows)) orders_are
     ∙ (under-number number grouped
     ∙ ap (map (λ (row : OrderRow). row.order))
@@ -264,28 +265,47 @@ own-by-sheet journal trial sheets owners household gathered turned grouped order
     all : List OrderRow
     all = map (row_on_trial trial) (orders_of journal) ++ begun
 
+    late : List NumberedRow
+    late = filter_map (numbered_at sheets trial (orders_of journal)) (not_before first (places_where (is_owner household) owners))
+
+    every : List NumberedRow
+    every = filter_map (numbered_at sheets trial (orders_of journal)) (places_where (is_owner household) owners)
+
+    one-begun : List NumberedRow
+    one-begun = option_to_list (numbered_begun sheets (accounts_of journal) household (row_begun (length journal) trial))
+
     known : All (HasSheet sheets) turned
     known = All-permutation (HasSheet sheets) gathered turned moved
         (subst (All (HasSheet sheets)) (sym gathered_is)
-        (All-append (HasSheet sheets) (filter_map (numbered_at sheets trial (orders_of journal)) (places_where (is_owner household) owners)) (option_to_list (numbered_begun sheets (accounts_of journal) household (row_begun (length journal) trial)))
-        (sheets-gathered sheets trial (orders_of journal) (places_where (is_owner household) owners))
+        (All-append (HasSheet sheets) late one-begun
+        (sheets-gathered sheets trial (orders_of journal) (not_before first (places_where (is_owner household) owners)))
         (sheet-begun sheets (accounts_of journal) household (row_begun (length journal) trial))))
 
-    rows-are : rows_of gathered ≡ filter (passes_on sheets) (filter own all)
+    rows-are : rows_of (every ++ one-begun) ≡ filter (passes_on sheets) (filter own all)
     rows-are =
-        ap rows_of gathered_is
-        ∙ (map-append row_of (filter_map (numbered_at sheets trial (orders_of journal)) (places_where (is_owner household) owners)) (option_to_list (numbered_begun sheets (accounts_of journal) household (row_begun (length journal) trial)))
-        ∙ (ap (λ front. front ++ rows_of (option_to_list (numbered_begun sheets (accounts_of journal) household (row_begun (length journal) trial)))) (rows-gathered sheets (accounts_of journal) household trial (orders_of journal) owners are)
+        map-append row_of every one-begun
+        ∙ (ap (λ front. front ++ rows_of one-begun) (rows-gathered sheets (accounts_of journal) household trial (orders_of journal) owners are)
         ∙ (ap (λ back. filter (passes_on sheets) (filter own (map (row_on_trial trial) (orders_of journal))) ++ back) (row-begun-own sheets (accounts_of journal) household (row_begun (length journal) trial))
         ∙ (sym (filter-append (passes_on sheets) (filter own (map (row_on_trial trial) (orders_of journal))) (filter own begun))
-        ∙ ap (filter (passes_on sheets)) (sym (filter-append own (map (row_on_trial trial) (orders_of journal)) begun))))))
+        ∙ ap (filter (passes_on sheets)) (sym (filter-append own (map (row_on_trial trial) (orders_of journal)) begun)))))
+
+    -- the late ones are all that are on the sheet
+    late-are : filter (is_on number sheets) (rows_of gathered) ≡ filter (is_on number sheets) (rows_of (every ++ one-begun))
+    late-are =
+        ap (λ rows. filter (is_on number sheets) (rows_of rows)) gathered_is
+        ∙ (ap (filter (is_on number sheets)) (map-append row_of late one-begun)
+        ∙ (filter-append (is_on number sheets) (rows_of late) (rows_of one-begun)
+        ∙ (ap (λ front. front ++ filter (is_on number sheets) (rows_of one-begun)) (late-gathered sheets (accounts_of journal) household trial (orders_of journal) owners first before number are behind settled)
+        ∙ (sym (filter-append (is_on number sheets) (rows_of every) (rows_of one-begun))
+        ∙ ap (filter (is_on number sheets)) (sym (map-append row_of every one-begun))))))
 
     found : filter (is_on number sheets) (rows_of gathered) ≡ filter own (filter (is_on number sheets) (filter stands all))
     found =
-        ap (filter (is_on number sheets)) rows-are
+        late-are
+        ∙ (ap (filter (is_on number sheets)) rows-are
         ∙ (on-known number sheets (filter own all)
         ∙ (ap (filter (is_on number sheets)) (filter-swap stands own all)
-        ∙ filter-swap (is_on number sheets) own (filter stands all)))
+        ∙ filter-swap (is_on number sheets) own (filter stands all))))
 
     standing : filter stands book.orders ≡ filter stands all
     standing =

@@ -1,5 +1,5 @@
 -- What a sheet prices that is published behind the others has waited until then.
-use Rattle.std.proofs.Common.{Bool, List, None, Option, Some, [], ap, arith, cond, false, filter, is_none, not, option_map, pos, refl, slice_get, subst, sym, true, ℕ, ◌&&◌, ◌++◌, ◌==◌, ◌∙◌, ◌∷◌, ◌≡◌, ◌≢◌, ◌≤ℤ◌, ◌||◌}
+use Rattle.std.proofs.Common.{All, Bool, List, None, Option, Some, [], ap, arith, cond, false, filter, is_none, nat_le, not, option_map, pos, refl, slice_get, subst, sym, true, ℕ, ◌&&◌, ◌++◌, ◌==◌, ◌∙◌, ◌∷◌, ◌≡◌, ◌≢◌, ◌≤ℤ◌, ◌||◌}
 use Rattle.std.proofs.lemmas.Bool.{and_parts, eqb-true, false≢true}
 use Rattle.std.proofs.lemmas.Int.{ints}
 use Rattle.std.proofs.lemmas.List.Elements.{All-contains}
@@ -19,7 +19,7 @@ use Rattle.register_machine.specs.replay.Replay.{is_priced_on, priced_in}
 use Rattle.standing_orders.proofs.PricedOrders.{or-first, or-second}
 use Rattle.standing_orders.specs.Entries.{is_priced}
 use Rattle.standing_orders.specs.Places.{is_among, passes_at}
-use Rattle.standing_orders.specs.Rows.{could_price, is_taken, is_within, sheet_number, stays, waits}
+use Rattle.standing_orders.specs.Rows.{could_price, is_settled, is_taken, is_within, sheet_number, stays, waits}
 use Rattle.standing_orders.specs.WaitingLaws.{AllLeftWait, IsNumbered, LastLeaves, LastTakes, PricedAfterWaiting}
 
 not-earlier : (a b : Sheet) → b.moment ≤ℤ a.moment → is_earlier a b ≡ false
@@ -68,6 +68,34 @@ priced_after_waiting sheets last row comes priced = by_before (next_sheet sheets
         ap (λ is. is && is_none (sheet_number sheets row)) parts.0
         ∙ ap (λ (found : Option Sheet). is_none (option_map (λ (sheet : Sheet). sheet.number) found)) e
     by_before (Some s) e = absurd (never s e)
+
+-- ---- what is settled stays settled
+
+-- a sheet that isn't earlier than any before it leaves each order its sheet
+number-stays : (sheets : List Sheet) (last : Sheet) (row : OrderRow) (n : ℕ) → All (λ (s : Sheet). s.moment ≤ℤ last.moment) sheets → sheet_number sheets row ≡ Some n → sheet_number (sheets ++ last ∷ []) row ≡ Some n
+number-stays sheets last row n earlier has =
+    ap (option_map (λ (sheet : Sheet). sheet.number)) (fold-append (considered passes is_earlier) None sheets (last ∷ []))
+    ∙ by (next_sheet sheets (classes_in row.order.body) (pos row.receipt)) refl has
+  where
+    passes : Sheet → Bool
+    passes = prices_order (classes_in row.order.body) (pos row.receipt)
+
+    by : (found : Option Sheet) → next_sheet sheets (classes_in row.order.body) (pos row.receipt) ≡ found → option_map (λ (sheet : Sheet). sheet.number) found ≡ Some n → option_map (λ (sheet : Sheet). sheet.number) (considered passes is_earlier (next_sheet sheets (classes_in row.order.body) (pos row.receipt)) last) ≡ Some n
+    by None e is = cc
+    by (Some s) e is =
+        let chosen : IsBest passes is_earlier sheets s = subst (IsChoice passes is_earlier sheets) e (best-choice passes is_earlier earlier-order sheets) in
+        ap (option_map (λ (sheet : Sheet). sheet.number))
+        (ap (λ (found : Option Sheet). considered passes is_earlier found last) e
+        ∙ stays-first passes s last (All-contains (λ (sheet : Sheet). sheet.moment ≤ℤ last.moment) sheets s earlier chosen.among))
+        ∙ is
+
+pub settled_more : (sheets : List Sheet) (last : Sheet) (number : ℕ) (row : OrderRow) → All (λ (s : Sheet). s.moment ≤ℤ last.moment) sheets → is_settled sheets number row ≡ true → is_settled (sheets ++ last ∷ []) number row ≡ true
+settled_more sheets last number row earlier settled = by (stands row) (sheet_number sheets row) refl settled
+  where
+    by : (on : Bool) (found : Option ℕ) → sheet_number sheets row ≡ found → (not on || option_map_or (λ own. nat_le own number) found false) ≡ true → (not on || option_map_or (λ own. nat_le own number) (sheet_number (sheets ++ last ∷ []) row) false) ≡ true
+    by false found e settled = refl
+    by true None e settled = absurd (false≢true settled)
+    by true (Some n) e settled = ap (λ (found : Option ℕ). option_map_or (λ own. nat_le own number) found false) (number-stays sheets last row n earlier e) ∙ settled
 
 -- ---- what the last sheet takes of those that wait for it
 

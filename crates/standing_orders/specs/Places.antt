@@ -1,7 +1,8 @@
 -- Places in a list.
 use Rattle.std.specs.List.{list_any, slice_get}
 use Rattle.std.specs.Option.{option_map_or}
-use Rattle.std.specs.Prelude.{Bool, List, [], ℕ, ◌++◌, ◌+◌, ◌∷◌, ◌≤◌, false, if◌then◌else◌, nat_eq, nat_lt, suc}
+use Rattle.std.specs.Prelude.{Bool, List, Option, [], ℕ, ◌++◌, ◌+◌, ◌∷◌, ◌≤◌, false, filter, if◌then◌else◌, nat_eq, nat_le, nat_lt, option_and_then, suc}
+use Rattle.register_machine.specs.journal.Choices.{when}
 
 -- the places, from a place on, at which something passes
 abbrev pub places_from : {X : Type 0} → ℕ → (X → Bool) → List X → List ℕ
@@ -10,6 +11,13 @@ places_from place test (x ∷ xs) = (if test x then place ∷ [] else []) ++ pla
 
 abbrev pub places_where : {X : Type 0} → (X → Bool) → List X → List ℕ
 places_where test xs = places_from 0 test xs
+
+-- those of some places that aren't before this one, and a place unless it is before it
+abbrev pub not_before : ℕ → List ℕ → List ℕ
+not_before first places = filter (λ place. nat_le first place) places
+
+abbrev pub unless_before : ℕ → Option ℕ → Option ℕ
+unless_before first found = option_and_then (λ place. when (nat_le first place) place) found
 
 -- the item at a place passes
 abbrev pub passes_at : {X : Type 0} → (X → Bool) → List X → ℕ → Bool

@@ -1,12 +1,12 @@
 -- What the orders of a sheet and those of a household are, by the corrected book.
 use Rattle.std.specs.List.{slice_get}
-use Rattle.std.specs.Prelude.{List, Option, Some, map, true, ℕ, ◌≡◌}
+use Rattle.std.specs.Prelude.{List, Option, Some, map, true, ℕ, ◌<◌, ◌≡◌}
 use Rattle.agent_events.specs.Events.{Event}
 use Rattle.agent_events.specs.declared.order.OrderRow.{OrderRow}
 use Rattle.agent_events.specs.declared.request.AccountForm.{AccountForm}
 use Rattle.forward_price.specs.declared.price_sheet.Sheet.{Sheet}
-use Rattle.order_book.specs.Trials.{with_trial}
-use Rattle.register_laws.specs.Households.{own_orders}
+use Rattle.order_book.specs.Trials.{row_on_trial, with_trial}
+use Rattle.register_laws.specs.Households.{is_of_household, own_orders}
 use Rattle.register_machine.specs.journal.Journals.{Journal}
 use Rattle.register_machine.specs.journal.Kinds.{accounts_of}
 use Rattle.register_machine.specs.pricing.CorrectedBook.{Book}
@@ -15,7 +15,7 @@ use Rattle.register_machine.specs.replay.Replay.{orders_on, priced_orders}
 use Rattle.standing_orders.specs.Entries.{is_priced}
 use Rattle.household_replay.specs.Replays.{NumberedOrder, orders_under}
 use Rattle.standing_orders.specs.Places.{is_among}
-use Rattle.standing_orders.specs.Rows.{AreOwners, HasEach, is_taken}
+use Rattle.standing_orders.specs.Rows.{AreOwners, HasEach, is_settled, is_taken}
 
 -- the rows, the sheets and the households are those of this corrected book
 pub record IsOfBook (book : Book) (rows : List OrderRow) (published : List Sheet) (owners : List ℕ) : Type 0 where
@@ -52,13 +52,24 @@ pub record IsOfTrial (book : Book) (opened : List AccountForm) (rows : List Orde
   pub orders : book.orders ≡ rows
   pub sheets : book.table.sheets ≡ published
 
--- under the number of each sheet are the household's own orders on it, in turn
-abbrev pub AreOwnBySheet : Book → ℕ → List NumberedOrder → Type 0
-AreOwnBySheet book household rows =
-    (sheet : Sheet) → orders_under sheet.number rows ≡ map (λ row. row.order) (own_on book household sheet)
+-- under the number of each sheet behind this one are the household's own orders on it, in turn
+abbrev pub AreOwnBehind : Book → ℕ → ℕ → List NumberedOrder → Type 0
+AreOwnBehind book household number rows =
+    (sheet : Sheet) → number < sheet.number
+    → orders_under sheet.number rows ≡ map (λ row. row.order) (own_on book household sheet)
 
--- So it is for every corrected book of the journal with the event on trial, where the households are those of the rows.
-abbrev pub AreOwnOnTrial : Journal → Option Event → List Sheet → List ℕ → ℕ → List NumberedOrder → Type 0
-AreOwnOnTrial journal trial sheets owners household orders =
+-- The household's orders at the places before this one are settled up to a sheet, as the event on trial leaves them.
+abbrev pub AreSettledOnTrial : Journal → Option Event → List Sheet → ℕ → ℕ → ℕ → Type 0
+AreSettledOnTrial journal trial sheets household first number =
+    (place : ℕ) (row : OrderRow) → place < first → slice_get (orders_of journal) place ≡ Some row
+    → is_of_household (accounts_of journal) household row.order.account ≡ true
+    → is_settled sheets number (row_on_trial trial row) ≡ true
+
+-- So it is for every corrected book of the journal with the event on trial, where the households are those of the rows, and behind
+-- every sheet up to which the orders before the first place are settled.
+abbrev pub AreOwnOnTrial : Journal → Option Event → List Sheet → List ℕ → ℕ → ℕ → List NumberedOrder → Type 0
+AreOwnOnTrial journal trial sheets owners household first orders =
     (book : Book) → IsOfTrial book (accounts_of journal) (orders_of (with_trial journal trial)) sheets
-    → AreOwners (accounts_of journal) (orders_of journal) owners → AreOwnBySheet book household orders
+    → AreOwners (accounts_of journal) (orders_of journal) owners
+    → (number : ℕ) → AreSettledOnTrial journal trial sheets household first number
+    → AreOwnBehind book household number orders

@@ -1,7 +1,7 @@
 -- The rows of a book of orders: whose they are, and which of them wait for a price.
 use Rattle.std.specs.List.{slice_get}
 use Rattle.std.specs.Option.{option_map_or}
-use Rattle.std.specs.Prelude.{Bool, List, Option, Some, false, is_none, map, not, option_map, pos, true, ℕ, ◌&&◌, ◌==◌, ◌≡◌}
+use Rattle.std.specs.Prelude.{Bool, List, Option, Some, false, is_none, map, nat_le, not, option_map, pos, true, ℕ, ◌&&◌, ◌==◌, ◌||◌, ◌≡◌}
 use Rattle.agent_events.specs.declared.order.OrderRow.{OrderRow}
 use Rattle.agent_events.specs.declared.request.AccountForm.{AccountForm}
 use Rattle.forward_price.specs.PriceTables.{prices_order, sheet_numbered}
@@ -27,6 +27,11 @@ sheet_number sheets row = option_map (λ sheet. sheet.number) (sheet_of sheets r
 -- the order stands, and no sheet prices it yet
 abbrev pub waits : List Sheet → OrderRow → Bool
 waits sheets row = stands row && is_none (sheet_number sheets row)
+
+-- the order is struck, or a sheet up to the one of this number prices it
+abbrev pub is_settled : List Sheet → ℕ → OrderRow → Bool
+is_settled sheets number row =
+    not (stands row) || option_map_or (λ own. nat_le own number) (sheet_number sheets row) false
 
 -- the sheet lists the classes of an order, and its moment is greater than the receipt
 abbrev pub could_price : Sheet → OrderRow → Bool

@@ -8,7 +8,7 @@ ghost use Rattle.register_laws.specs.Households.{is_of_household};
 ghost use Rattle.register_machine.specs.journal.Kinds.{accounts_of};
 ghost use Rattle.register_machine.specs.pricing.CorrectedOrders.{orders_of};
 ghost use Rattle.standing_orders.specs.Entries.{numbered_at, numbered_begun, numbered_on};
-ghost use Rattle.standing_orders.specs.Places.{places_where};
+ghost use Rattle.standing_orders.specs.Places.{not_before, places_where, unless_before};
 ghost use Rattle.standing_orders.specs.Priced.{AreOwnOnTrial};
 ghost use Rattle.standing_orders.specs.Rows.{is_owner};
 
@@ -23,23 +23,25 @@ use money_units::NoMemory;
 use order_book::{OrderBook, row_begun, row_on_trial};
 use std::alloc::Global;
 
-/// The orders of a household that sheets price, under the numbers of their sheets, which rise; each sheet's by receipt, and at
-/// equal receipts by place in the journal. With an event on trial they are as they will be once it is noted. It looks at the
-/// household's orders alone.
+/// The orders of a household that sheets price, from this place in the book on, under the numbers of their sheets, which rise;
+/// each sheet's by receipt, and at equal receipts by place in the journal. With an event on trial they are as they will be once
+/// it is noted. They are all that are executed behind a sheet where those at earlier places are settled up to it. It looks at
+/// the household's orders from that place on alone.
 pub fn orders_of_household(
     alloc: Global,
     book: &OrderBook,
     prices: &PriceBook,
     index: &HouseholdOrders,
     household: u32,
+    first: usize,
     trial: Option<&Event>,
 ) -> Result<NumberedOrders, NoMemory>
     requires { TrialFits book.now.journal (option_copied trial) }
     ensures own { IfOk result (AreOwnOnTrial book.now.journal (option_copied trial.entry)
-        prices.now.table.sheets index.now.owners household) }
+        prices.now.table.sheets index.now.owners household first) }
     ensures by_sheet { IfOk result (λ orders. IsNonDecreasingBy (λ order. order.number) orders) }
 {
-    let mut entries = entries_of(alloc, book, prices, index, household, trial)?;
+    let mut entries = entries_of(alloc, book, prices, index, household, first, trial)?;
     push_found(&mut entries, entry_begun(book, prices, household, trial))?;
     put_in_turn(&mut entries)?;
     put_by_number(&mut entries)?;
@@ -53,14 +55,15 @@ fn entries_of(
     prices: &PriceBook,
     index: &HouseholdOrders,
     household: u32,
+    first: usize,
     trial: Option<&Event>,
 ) -> Result<Vec<NumberedRow>, NoMemory>
     ensures { IfOk result (λ entries. entries.items
         ≡ filter_map (numbered_at prices.now.table.sheets (option_copied trial.entry)
         (orders_of book.now.journal))
-        (places_where (is_owner household) index.now.owners)) }
+        (not_before first (places_where (is_owner household) index.now.owners))) }
 {
-    let places = own_places(alloc, index, household)?;
+    let places = own_places(alloc, index, household, first)?;
     let mut entries = Vec::new(alloc);
     for place in places.as_slice() {
         push_found(&mut entries, entry_at(book, prices, trial, *place))?;
@@ -68,23 +71,34 @@ fn entries_of(
     Ok(entries)
 }
 
-// The places of the household's orders, rising.
+// The places of the household's orders from this one on, rising.
 fn own_places(
     alloc: Global,
     index: &HouseholdOrders,
     household: u32,
+    first: usize,
 ) -> Result<Vec<usize>, NoMemory>
     ensures { IfOk result (λ places. places.items
-        ≡ places_where (is_owner household) index.now.owners) }
+        ≡ not_before first (places_where (is_owner household) index.now.owners)) }
 {
     let mut places = Vec::new(alloc);
-    let mut at = index.last_order(household);
+    let mut at = unless_before(first, index.last_order(household));
     'orders: while let Some(place) = at {
         places.push(place)?;
-        at = index.earlier_order(place);
+        at = unless_before(first, index.earlier_order(place));
     }
     places.reverse();
     Ok(places)
+}
+
+// The place, unless it is before the first one.
+fn unless_before(first: usize, found: Option<usize>) -> Option<usize>
+    ensures { result ≡ unless_before first found }
+{
+    match found {
+        Some(place) if first <= place => Some(place),
+        _ => None,
+    }
 }
 
 fn entry_at(

@@ -79,7 +79,7 @@ module _ (journal : Journal) (event : Event) (lawful : IsLawful (with_event jour
 
 -- ---- orders that are struck, and prices that are corrected
 
-got-under : (f : OrderRow → OrderRow) (rows : List OrderRow) (k : ℕ) → slice_get (map f rows) k ≡ option_map f (slice_get rows k)
+pub got-under : (f : OrderRow → OrderRow) (rows : List OrderRow) (k : ℕ) → slice_get (map f rows) k ≡ option_map f (slice_get rows k)
 got-under f [] k = refl
 got-under f (row ∷ rows) zero = refl
 got-under f (row ∷ rows) (suc k) = got-under f rows k
@@ -112,7 +112,7 @@ struck-keeps named accounts sheets rows owners waiting is = record {
         by false = refl
 
 -- a corrected price moves no order to another sheet
-number-fixed : (form : FixPriceForm) (table : Table) (row : OrderRow) → sheet_number (map (sheet_as_corrected (form ∷ [])) table.sheets) row ≡ sheet_number table.sheets row
+pub number-fixed : (form : FixPriceForm) (table : Table) (row : OrderRow) → sheet_number (map (sheet_as_corrected (form ∷ [])) table.sheets) row ≡ sheet_number table.sheets row
 number-fixed form table row =
     ap (λ priced. option_map_or (λ (p : Priced). p.sheet) (slice_get priced 0) None)
     (price-orders form (record { table = table; classes = []; accounts = []; orders = record { place = row.place; receipt = row.receipt; struck = false; order = row.order } ∷ []; rates = record { declared = []; fixed = [] } }))
@@ -165,11 +165,11 @@ left-index journal owners waiting owned within enough = record {
 
 -- ---- an order more
 
-as-many : (accounts : List AccountForm) (rows : List OrderRow) (owners : List ℕ) → AreOwners accounts rows owners → length rows ≡ length owners
+pub as-many : (accounts : List AccountForm) (rows : List OrderRow) (owners : List ℕ) → AreOwners accounts rows owners → length rows ≡ length owners
 as-many accounts rows owners are =
     sym (length-map rows (λ (row : OrderRow). household_of accounts row.order.account)) ∙ (ap length are ∙ length-map owners Some)
 
-got-more : {X : Type 0} (xs : List X) (x found : X) (k : ℕ) → slice_get (xs ++ x ∷ []) k ≡ Some found → (slice_get xs k ≡ Some found) ⊎ ((k ≡ length xs) × (x ≡ found))
+pub got-more : {X : Type 0} (xs : List X) (x found : X) (k : ℕ) → slice_get (xs ++ x ∷ []) k ≡ Some found → (slice_get xs k ≡ Some found) ⊎ ((k ≡ length xs) × (x ≡ found))
 got-more [] x found zero is = inr (refl, some-same is)
 got-more [] x found (suc k) is = absurd (none-some is)
 got-more (y ∷ xs) x found zero is = inl is

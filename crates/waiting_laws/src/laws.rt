@@ -5,6 +5,7 @@ ghost use Rattle.agent_events.specs.declared.event.Placed.{Placed};
 ghost use Rattle.agent_events.specs.declared.request.EntryForm.{EntryForm};
 ghost use Rattle.agent_events.specs.declared.request.SheetForm.{SheetForm};
 ghost use Rattle.register_machine.specs.journal.Journals.{Journal};
+ghost use Rattle.waiting_laws.specs.SettledOrders.{CorrectionLeavesSettled, LawfulLeavesSettled, SettledBeforeWaiting};
 ghost use Rattle.waiting_laws.specs.IndexOfJournals.{IsIndexOf, LawfulBeginsOrder, LawfulEntersOrder, LawfulLeavesIndex, LawfulReplacesOrder, LawfulSheetTakes};
 
 /// The empty index is that of the empty journal.
@@ -43,4 +44,25 @@ pub fn replaced_orders_may_wait()
 pub fn sheets_take_what_they_price()
     ensures { (journal : Journal) (event : Event) (form : SheetForm) (owners waiting : List ℕ)
         → LawfulSheetTakes journal event form owners waiting }
+{}
+
+/// The orders before the first place that waits are settled up to the last sheet.
+#[tactic(auto, using(crate::proofs::SettledStay::settled_before_waiting))]
+pub fn orders_before_the_waiting_are_settled()
+    ensures { (journal : Journal) (owners waiting : List ℕ)
+        → SettledBeforeWaiting journal owners waiting }
+{}
+
+/// An event that is no correction leaves settled what is settled.
+#[tactic(auto, using(crate::proofs::SettledStay::event_leaves_settled))]
+pub fn events_leave_settled_orders()
+    ensures { (journal : Journal) (event : Event) (household first number : ℕ)
+        → LawfulLeavesSettled journal event household first number }
+{}
+
+/// A correction that replaces no order of a household leaves settled what is settled of it.
+#[tactic(auto, using(crate::proofs::SettledStay::correction_leaves_settled))]
+pub fn corrections_leave_settled_orders()
+    ensures { (journal : Journal) (event : Event) (household first number : ℕ)
+        → CorrectionLeavesSettled journal event household first number }
 {}

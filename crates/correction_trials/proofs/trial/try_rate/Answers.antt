@@ -1,8 +1,9 @@
 use Rattle.std.proofs.Common.{List, None, subst, sym, ℕ, ◌≤◌}
 use Rattle.agent_events.specs.declared.rows.RateRow.{RateRow}
 use Rattle.correction_trials.specs.Served.{ServeTrial, known_in}
+use Rattle.correction_trials.specs.Starts.{LeavesBefore}
 use Rattle.correction_trials.proofs.FreshTrials.{fresh_is_on_trial}
-use Rattle.correction_trials.proofs.StartsServe.{none_before}
+use Rattle.correction_trials.proofs.StartsServe.{rate_touches}
 use Rattle.correction_trials.proofs.ServedTrials.{rate_served}
 use Rattle.correction_trials.proofs.trial.try_rate.Goals as goal
 
@@ -16,4 +17,8 @@ try_with-requires-clause-tried g c =
     }
 
 pub try_with-requires-clause-before : goal.try_with-requires-clause-before
-try_with-requires-clause-before g c = none_before c.args.books.now.book.journal c.args.event.now
+try_with-requires-clause-before g c =
+    subst (LeavesBefore c.args.books.now.book.journal c.args.event.now) (sym c.sheet_touched-before.ensures)
+    (rate_touches c.args.books.now c.args.event.now c.args.form.now c.requires.books c.requires.correction
+    (fresh_is_on_trial c.args.books.now.book.journal c.args.event.now c.requires.books.lawful c.requires.correction c.requires.fresh)
+    c.requires.kind)

@@ -2,7 +2,7 @@ use Rattle.std.proofs.Common.{subst}
 use Rattle.agent_events.specs.declared.event.EventKind.{EventKind}
 use Rattle.correction_effects.specs.Reached.{AreReached}
 use Rattle.order_book.specs.Books.{NotedJournal}
-use Rattle.correction_trials.proofs.BrokenOfAll.{part-left}
+use Rattle.correction_trials.proofs.BrokenOfAll.{part-left, unreplaced}
 use Rattle.correction_trials.proofs.StartsServe.{like_long}
 use Rattle.correction_trials.proofs.trial.try_with.Goals as goal
 
@@ -17,5 +17,8 @@ returns-clause-trial g c =
       says = c.in_ok-tried.ensures.tried;
       left = λ household none. part-left c.args.books.now c.args.event.now _ c.in_ok-households.households.items household c.requires.tried reached none;
       like = like_long c.args.books.now.book.journal c.args.event.now c.requires.tried.corrects c.requires.tried.trial;
+      unreplaced = λ household none. unreplaced journal owners households c.args.event.now.kind household reached none;
       before = c.requires.before;
+      goes_on = c.requires.tried.trial.sound.goes_on;
+      corrects = c.requires.tried.corrects;
     }

@@ -3,9 +3,10 @@ use Rattle.std.proofs.Common.{length, ◌≡◌}
 use Rattle.kept_of_journals.specs.KeptOfBooks.{AreKeptOf}
 use Rattle.ledger_of_journals.specs.Ledgers.{IsLedgerOf}
 use Rattle.register_machine.specs.pricing.CorrectedBook.{Book}
+use Rattle.waiting_laws.specs.SettledOrders.{AllAreSettled}
 use Rattle.sheet_trials.proofs.keeping.keep_states.Given as goal
 
 abbrev pub invariant-loop-change : goal.invariant-loop-change
 invariant-loop-change l =
     (book : Book) → IsLedgerOf book l.ledger.parts → l.sheet ≡ length book.table.sheets
-    → AreKeptOf book l.fn.kept → AreKeptOf book l.kept
+    → AllAreSettled book l.orders l.sheet → AreKeptOf book l.fn.kept → AreKeptOf book l.kept

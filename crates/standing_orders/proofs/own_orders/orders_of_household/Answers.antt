@@ -6,7 +6,7 @@ use Rattle.standing_orders.proofs.OwnOrders.{own-by-sheet}
 use Rattle.standing_orders.proofs.SortedEntries.{orders-rise}
 use Rattle.standing_orders.specs.Entries.{numbered_at, order_of}
 use Rattle.household_replay.specs.Replays.{NumberedOrder}
-use Rattle.standing_orders.specs.Places.{places_where}
+use Rattle.standing_orders.specs.Places.{not_before, places_where}
 use Rattle.standing_orders.specs.Rows.{is_owner}
 use Rattle.standing_orders.specs.declared.entries.NumberedRow.{NumberedRow}
 use Rattle.standing_orders.proofs.own_orders.orders_of_household.Goals as goal
@@ -17,12 +17,12 @@ orders_of-requires c =
 
 pub returns-clause-own : goal.returns-clause-own
 returns-clause-own c =
-    own-by-sheet c.args.book.now.journal (option_copied c.args.trial) c.args.prices.now.table.sheets c.args.index.now.owners c.args.household
+    own-by-sheet c.args.book.now.journal (option_copied c.args.trial) c.args.prices.now.table.sheets c.args.index.now.owners c.args.household c.args.first
     c.push_found.new.entries.items c.put_in_turn.new.entries.items c.put_by_number.new.entries.items _
     c.requires
     (c.in_ok-push_found.ensures
     ∙ (ap (λ (front : List NumberedRow). front ++ option_to_list c.entry_begun.result) c.in_ok-entries.ensures
-    ∙ ap (λ (begun : Option NumberedRow). filter_map (numbered_at c.args.prices.now.table.sheets (option_copied c.args.trial) (orders_of c.args.book.now.journal)) (places_where (is_owner c.args.household) c.args.index.now.owners) ++ option_to_list begun) c.entry_begun.ensures))
+    ∙ ap (λ (begun : Option NumberedRow). filter_map (numbered_at c.args.prices.now.table.sheets (option_copied c.args.trial) (orders_of c.args.book.now.journal)) (not_before c.args.first (places_where (is_owner c.args.household) c.args.index.now.owners)) ++ option_to_list begun) c.entry_begun.ensures))
     c.in_ok-put_in_turn.ensures.turn c.put_in_turn.ensures.same c.in_ok-put_by_number.ensures.same
     (c.in_ok-orders.ensures ∙ ap (map order_of) c.as_slice.ensures.value)
 
