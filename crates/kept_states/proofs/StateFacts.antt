@@ -1,8 +1,8 @@
 -- Which states are left of some, with one more.
-use Rattle.std.proofs.Common.{All, Bool, Contains, List, None, Option, Some, [], cond, drop, false, fold, inl, inr, length, nat_le, nat_lt, refl, subst, sym, take, true, ℕ, ◌++◌, ◌<◌, ◌∷◌, ◌≡◌, ◌⊎◌}
-use Rattle.std.proofs.lemmas.List.Elements.{All-append, All-contains_itself, All-drop, All-push, All-take, All-weaker}
+use Rattle.std.proofs.Common.{All, Bool, Contains, Err, List, None, Ok, Option, Result, Some, [], arith, cond, drop, false, fold, inl, inr, length, nat_le, nat_lt, refl, subst, suc, sym, take, true, ℕ, ◌++◌, ◌<◌, ◌∙◌, ◌∷◌, ◌≡◌, ◌⊎◌}
+use Rattle.std.proofs.lemmas.List.Elements.{All-append, All-nil, All-contains_itself, All-drop, All-push, All-take, All-weaker}
 use Rattle.std.proofs.lemmas.Bool.{ltb-true}
-use Rattle.std.proofs.lemmas.List.Elements.{Contains-cons_head, Contains-cons_tail}
+use Rattle.std.specs.Prelude.{OnErr, OnOk}
 use Rattle.kept_states.specs.KeptStates.{last_before, thinned, with_one_more}
 use Rattle.kept_states.specs.declared.states.KeptState.{KeptState}
 
@@ -36,14 +36,14 @@ found-behind : (sheet : ℕ) (states : List KeptState) (first : Option KeptState
 found-behind sheet [] first kept is = inl is
 found-behind sheet (state ∷ states) first kept is = elim (found-behind sheet states (cond (nat_lt state.sheet sheet) (Some state) first) kept is) [
   | inl here ↦ by (nat_lt state.sheet sheet) refl here
-  | inr behind ↦ inr (record { among = Contains-cons_tail state states kept behind.among; earlier = behind.earlier })
+  | inr behind ↦ inr (record { among = (suc behind.among.0, omega (arith, behind.among.1), behind.among.2); earlier = behind.earlier })
 ]
   where
     some-same : Some state ≡ Some kept → state ≡ kept
     some-same h = cc
 
     by : (before : Bool) → nat_lt state.sheet sheet ≡ before → cond before (Some state) first ≡ Some kept → (first ≡ Some kept) ⊎ IsBefore sheet (state ∷ states) kept
-    by true e here = inr (subst (IsBefore sheet (state ∷ states)) (some-same here) (record { among = Contains-cons_head state states; earlier = ltb-true state.sheet sheet e }))
+    by true e here = inr (subst (IsBefore sheet (state ∷ states)) (some-same here) (record { among = (0, omega arith, refl); earlier = ltb-true state.sheet sheet e }))
     by false e here = inl here
 
 pub found-before : (sheet : ℕ) (states : List KeptState) (kept : KeptState) → last_before sheet states ≡ Some kept → IsBefore sheet states kept
@@ -54,3 +54,9 @@ found-before sheet states kept is = elim (found-behind sheet states None kept is
   where
     none-some : None ≡ Some kept → ⊥
     none-some h = cc
+
+-- ---- states kept with one more, where there is memory for it, and none where there isn't
+
+pub kept-some : {X E : Type 0} (put : Result X E) (old new left more : List KeptState) (state : KeptState) → OnOk put (new ≡ more) → OnErr put (new ≡ left) → left ≡ [] → more ≡ with_one_more old state → All (λ kept. Contains old kept ⊎ kept ≡ state) new
+kept-some (Ok x) old new left more state ok err none is = subst (All (λ kept. Contains old kept ⊎ kept ≡ state)) (sym (ok ∙ is)) (one-more old state)
+kept-some (Err e) old new left more state ok err none is = subst (All (λ kept. Contains old kept ⊎ kept ≡ state)) (sym (err ∙ none)) (All-nil (λ kept. Contains old kept ⊎ kept ≡ state))

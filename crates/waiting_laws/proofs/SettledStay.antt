@@ -1,10 +1,10 @@
 -- The orders of a household that are settled stay so with an event more.
-use Rattle.std.proofs.Common.{All, Bool, List, None, Option, Some, [], ap, append-nil, arith, cond, false, get_or, inl, inr, length, map, option_map, option_to_list, pos, refl, slice_get, subst, suc, sym, true, zero, ℕ, ◌&&◌, ◌++◌, ◌+◌, ◌<◌, ◌==◌, ◌∙◌, ◌∷◌, ◌≡◌, ◌≤ℤ◌, ◌≤◌, ◌||◌}
-use Rattle.std.proofs.lemmas.Bool.{and_parts, eqb-true, false≢true, le-leb, true≢false}
+use Rattle.std.proofs.Common.{All, Bool, List, None, Option, Some, [], ap, append-nil, arith, cond, false, inl, inr, length, map, option_map, pos, refl, slice_get, subst, suc, sym, true, zero, ℕ, ◌&&◌, ◌++◌, ◌<◌, ◌==◌, ◌∙◌, ◌∷◌, ◌≡◌, ◌≤ℤ◌, ◌≤◌, ◌||◌}
+use Rattle.std.proofs.lemmas.Bool.{and_parts, le-leb, true≢false}
 use Rattle.std.proofs.lemmas.List.Elements.{All-contains}
 use Rattle.std.specs.List.{list_all, list_any}
 use Rattle.std.specs.Option.{option_map_or}
-use Rattle.std.specs.Prelude.{find, is_none, nat_le, not}
+use Rattle.std.specs.Prelude.{is_none, nat_le, not}
 use Rattle.agent_events.specs.Events.{Event}
 use Rattle.agent_events.specs.declared.event.EventKind.{EventKind}
 use Rattle.agent_events.specs.declared.order.OrderRow.{OrderRow}
@@ -180,7 +180,7 @@ number-within sheets row n numbers has = by (next_sheet sheets (classes_in row.o
 
 first-within : (many : ℕ) (places : List ℕ) → RisesWithin 0 many places → first_waiting places many ≤ many
 first-within many [] rises = omega arith
-first-within many (place ∷ places) rises = let high = rises.1.0 in omega (arith, high)
+first-within many (place ∷ places) rises = let high = rises.1 in omega (arith, high)
 
 settled-before : (journal : Journal) (owners waiting : List ℕ) → IsLawful journal → IsIndexOf journal owners waiting → (household : ℕ) → AreSettled (book_behind journal) household (first_waiting waiting (length owners)) (length (sheets_of journal))
 settled-before journal owners waiting lawful is household place row short there own = by (stands row) refl (sheet_number (sheets_of journal) row) refl

@@ -47,21 +47,18 @@ pub fn sheets_take_what_they_price()
 {}
 
 /// The orders before the first place that waits are settled up to the last sheet.
-#[tactic(auto, using(crate::proofs::SettledStay::settled_before_waiting))]
 pub fn orders_before_the_waiting_are_settled()
     ensures { (journal : Journal) (owners waiting : List ℕ)
         → SettledBeforeWaiting journal owners waiting }
 {}
 
 /// An event that is no correction leaves settled what is settled.
-#[tactic(auto, using(crate::proofs::SettledStay::event_leaves_settled))]
 pub fn events_leave_settled_orders()
     ensures { (journal : Journal) (event : Event) (household first number : ℕ)
         → LawfulLeavesSettled journal event household first number }
 {}
 
 /// A correction that replaces no order of a household leaves settled what is settled of it.
-#[tactic(auto, using(crate::proofs::SettledStay::correction_leaves_settled))]
 pub fn corrections_leave_settled_orders()
     ensures { (journal : Journal) (event : Event) (household first number : ℕ)
         → CorrectionLeavesSettled journal event household first number }

@@ -13,16 +13,16 @@ orders-init c =
 pub orders-smaller : goal.orders-smaller
 orders-smaller c =
     let walked = subst (λ (at : Option ℕ). HasWalked c.args.first (is_owner c.args.household) c.args.index.now.owners c.orders.places.items at) c.in-Some.is c.orders.invariant in
-    subst (λ (at : Option ℕ). option_map_or (λ n. suc n) c.unless_before-at-2.result 0 < option_map_or (λ n. suc n) at 0) (sym c.in-Some.is)
-    (falls-back c.args.first (is_owner c.args.household) c.args.index.now.owners c.in-Some.place c.unless_before-at-2.result
-    (c.unless_before-at-2.ensures ∙ ap (unless_before c.args.first) (next-own c.args.first c.args.household c.args.index.now.owners c.orders.places.items c.in-Some.place c.earlier_order.result walked c.earlier_order.ensures)))
+    subst (λ (at : Option ℕ). option_map_or (λ n. suc n) c.unless_before-at-in-Some.result 0 < option_map_or (λ n. suc n) at 0) (sym c.in-Some.is)
+    (falls-back c.args.first (is_owner c.args.household) c.args.index.now.owners c.in-Some.place c.unless_before-at-in-Some.result
+    (c.unless_before-at-in-Some.ensures ∙ ap (unless_before c.args.first) (next-own c.args.first c.args.household c.args.index.now.owners c.orders.places.items c.in-Some.place c.earlier_order.result walked c.earlier_order.ensures)))
 
 pub orders-preserved : goal.orders-preserved
 orders-preserved c =
     let walked = subst (λ (at : Option ℕ). HasWalked c.args.first (is_owner c.args.household) c.args.index.now.owners c.orders.places.items at) c.in-Some.is c.orders.invariant in
-    subst (λ places. HasWalked c.args.first (is_owner c.args.household) c.args.index.now.owners places c.unless_before-at-2.result) (sym c.in_ok-push.ensures.items)
-    (goes-back c.args.first (is_owner c.args.household) c.args.index.now.owners c.orders.places.items c.in-Some.place c.unless_before-at-2.result walked
-    (c.unless_before-at-2.ensures ∙ ap (unless_before c.args.first) (next-own c.args.first c.args.household c.args.index.now.owners c.orders.places.items c.in-Some.place c.earlier_order.result walked c.earlier_order.ensures)))
+    subst (λ places. HasWalked c.args.first (is_owner c.args.household) c.args.index.now.owners places c.unless_before-at-in-Some.result) (sym c.in_ok-push.ensures.items)
+    (goes-back c.args.first (is_owner c.args.household) c.args.index.now.owners c.orders.places.items c.in-Some.place c.unless_before-at-in-Some.result walked
+    (c.unless_before-at-in-Some.ensures ∙ ap (unless_before c.args.first) (next-own c.args.first c.args.household c.args.index.now.owners c.orders.places.items c.in-Some.place c.earlier_order.result walked c.earlier_order.ensures)))
 
 pub returns : goal.returns
 returns c =

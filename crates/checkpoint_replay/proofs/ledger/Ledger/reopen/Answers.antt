@@ -1,7 +1,6 @@
 use Rattle.checkpoint_replay.proofs.ReopenedDay.{others-stay, ready-behind, reopened-day, starts-fresh}
 use Rattle.checkpoint_replay.specs.Moves.{households_of}
 use Rattle.checkpoint_replay.specs.Parts.{part_in}
-use Rattle.checkpoint_replay.specs.Reopenings.{IsReplayedTo}
 use Rattle.checkpoint_replay.specs.declared.reopening.ReplayStart.{ReplayStart}
 use Rattle.household_fold.specs.Households.{Household}
 use Rattle.std.proofs.Common.{ap, arith, refl}
