@@ -11,7 +11,7 @@ mod FoundParts
 -- what changes of shares add up to
 mod ShareFacts
 -- the one move of a reopened household
-mod ReopenedDay
+pub mod ReopenedDay
 -- what two changes bring together
 mod JoinFacts
 -- the totals stay the sums over all trades
