@@ -1,5 +1,5 @@
 -- The least of the broken trades of the households that a correction reaches is the first one of all.
-use Rattle.std.proofs.Common.{All, Bool, Contains, List, None, Option, Some, [], ap, cond, eq-eqb, eqb-true, false, find, is_some, nat_eq, not, option_map, option_to_list, refl, sym, true, ℕ, ◌&&◌, ◌<◌, ◌==◌, ◌∙◌, ◌∷◌, ◌≡◌, ◌||◌}
+use Rattle.std.proofs.Common.{All, Bool, Contains, List, None, Option, Some, [], ap, cond, eq-eqb, eqb-true, false, find, is_some, nat_eq, not, option_map, option_to_list, refl, subst, sym, true, ℕ, ◌&&◌, ◌<◌, ◌==◌, ◌∙◌, ◌∷◌, ◌≡◌, ◌||◌}
 use Rattle.std.proofs.lemmas.Bool.{and_parts, true≢false}
 use Rattle.std.proofs.lemmas.List.Elements.{All-contains}
 use Rattle.std.proofs.lemmas.List.Folds.{Any-from_list_any}

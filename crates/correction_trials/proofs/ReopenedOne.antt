@@ -1,5 +1,5 @@
 -- The replay of one household from the start that is kept of it, by its late orders.
-use Rattle.std.proofs.Common.{List, Some, [], subst, sym, ℕ, ◌-◌, ◌∷◌, ◌≡◌, ◌≤◌}
+use Rattle.std.proofs.Common.{List, Some, [], subst, sym, ℕ, ◌-◌, ◌∷◌, ◌≡◌}
 use Rattle.agent_events.specs.Events.{Event}
 use Rattle.checkpoint_replay.proofs.ReopenedDay.{AreTheLateOnes, late-day, ready-late}
 use Rattle.checkpoint_replay.specs.Moves.{part_after}

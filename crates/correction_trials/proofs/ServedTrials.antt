@@ -153,7 +153,7 @@ price_served books event form patch are at patches is =
         none-some e = cc
     by (Some sheet) is_found e =
         subst (λ (p : Patch). ServeTrial (known_by books books.tables.rates (Some p) (corrected_table journal)) journal event) (same e)
-        (price-by books event form sheet.number are at (listed form (corrected_table journal).sheets sheet is_found) is)
+        (price-by books event form sheet.number are at (listed_on form.class form.moment (corrected_table journal).sheets sheet is_found) is)
       where
         same : Some (patch_by form sheet.number) ≡ Some patch → patch_by form sheet.number ≡ patch
         same e = cc

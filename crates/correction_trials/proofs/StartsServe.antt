@@ -5,7 +5,7 @@ use Rattle.std.proofs.lemmas.List.{length-map}
 use Rattle.std.proofs.lemmas.List.Elements.{All-contains, All-weaker}
 use Rattle.std.specs.List.{list_any}
 use Rattle.std.specs.Option.{option_map_or}
-use Rattle.std.specs.Prelude.{find}
+use Rattle.std.specs.Prelude.{find, is_some, option_map}
 use Rattle.agent_events.specs.Events.{Event}
 use Rattle.agent_events.specs.declared.event.EventKind.{EventKind}
 use Rattle.agent_events.specs.declared.request.AccountForm.{AccountForm}
@@ -19,7 +19,7 @@ use Rattle.checkpoint_replay.specs.Reopenings.{IsReplayedTo}
 use Rattle.correction_trials.specs.Fresh.{IsOnTrial}
 use Rattle.correction_trials.specs.Reopened.{IsTriedOver}
 use Rattle.correction_trials.specs.Settled.{AreForgotten, AreForgottenBy, IsTrialOf, KeepsStates}
-use Rattle.correction_trials.specs.Starts.{LeavesBefore, LeavesSettledBehind, LeavesSettledOnTrial, first_start, start_at, start_by}
+use Rattle.correction_trials.specs.Starts.{LeavesBefore, LeavesSettledBehind, LeavesSettledOnTrial, first_start, first_touched, number_listed, start_at, start_by}
 use Rattle.correction_trials.specs.declared.starts.KeptStart.{KeptStart}
 use Rattle.correction_trials.specs.declared.trial.Trial.{Trial}
 use Rattle.correction_trials.specs.declared.trial.Tried.{Tried}
@@ -28,7 +28,9 @@ use Rattle.desk_books.specs.BooksOfJournals.{AreBooksOf}
 use Rattle.desk_books.specs.declared.books.DeskBooks.{DeskBooks}
 use Rattle.event_laws.specs.EventReplays.{is_correction}
 use Rattle.forward_price.specs.PriceTables.{Table}
+use Rattle.forward_price.specs.declared.price_sheet.Patch.{Patch}
 use Rattle.forward_price.specs.declared.price_sheet.Sheet.{Sheet}
+use Rattle.journal_tables.specs.TablesOfJournals.{patch_by, patch_on}
 use Rattle.household_fold.specs.Facts.{Known}
 use Rattle.household_replay.specs.Replays.{NumberedOrder}
 use Rattle.kept_of_journals.proofs.StatesStay.{left_is_as_of, no_fewer}
@@ -41,7 +43,7 @@ use Rattle.kept_states.specs.declared.states.KeptState.{KeptState}
 use Rattle.ledger_laws.proofs.ReplaysAsPart.{replays_as_part}
 use Rattle.ledger_laws.specs.PartsByFacts.{AreRowsOf}
 use Rattle.ledger_of_journals.proofs.CorrectedParts.{keeps_accounts}
-use Rattle.register_laws.specs.CorrectionReach.{IsListedOn}
+use Rattle.register_laws.specs.CorrectionReach.{IsListedOn, order_changed}
 use Rattle.register_laws.specs.Households.{part_of}
 use Rattle.register_laws.specs.Lawful.{book_behind}
 use Rattle.register_laws.specs.OneEventMore.{corrected_table_by}
@@ -136,6 +138,23 @@ rate_touches books event form are corrects is at =
     by : (found : Option Sheet) → find (lists_at form.class form.moment) (sheets_of journal) ≡ found → LeavesBefore journal event (option_map_or (λ (sheet : Sheet). sheet.number) found 0)
     by None e = none_before journal event
     by (Some sheet) e = rate_before journal event form sheet.number corrects is at (listed_on form.class form.moment (sheets_of journal) sheet e)
+
+-- the number of the patch of a corrected price is that of the sheet that is found
+pub patch_touches : (sheets : List Sheet) (form : FixPriceForm) (patch : Patch) → patch_on sheets form ≡ Some patch → patch.sheet ≡ number_listed form.class form.moment sheets
+patch_touches sheets form patch is = by (find (lists_at form.class form.moment) sheets) is
+  where
+    by : (found : Option Sheet) → option_map (λ (sheet : Sheet). patch_by form sheet.number) found ≡ Some patch → patch.sheet ≡ option_map_or (λ (sheet : Sheet). sheet.number) found 0
+    by None e = cc
+    by (Some sheet) e = sym (ap (λ (p : Patch). p.sheet) (same e))
+      where
+        same : Some (patch_by form sheet.number) ≡ Some patch → patch_by form sheet.number ≡ patch
+        same h = cc
+
+-- of a corrected order no sheet is looked for
+pub orders_touch_all : (sheets : List Sheet) (kind : EventKind) → is_some (order_changed kind) ≡ true → first_touched sheets kind ≡ 0
+orders_touch_all sheets (EventKind.FixPrice form) changes = absurd (true≢false (sym changes))
+orders_touch_all sheets (EventKind.FixRate form) changes = absurd (true≢false (sym changes))
+orders_touch_all sheets _ changes = refl
 
 -- ---- a start
 

@@ -1,5 +1,5 @@
 -- What the households that were reopened so far come to.
-use Rattle.std.specs.List.{Any}
+use Rattle.std.specs.List.{Any, sum_by}
 use Rattle.std.specs.List.Sorted.{IsStrictlyIncreasing}
 use Rattle.std.specs.Prelude.{All, Contains, List, None, Option, Some, [], length, true, ℕ, ◌*◌, ◌+◌, ◌≤◌, ◌++◌, ◌+ℤ◌, ◌∷◌, ◌≡◌}
 use Rattle.agent_events.specs.Events.{Event}
@@ -19,6 +19,7 @@ use Rattle.correction_effects.specs.declared.least.BrokenTrade.{BrokenTrade}
 use Rattle.correction_effects.specs.declared.turns.Turn.{Turn}
 use Rattle.correction_trials.specs.Fresh.{IsOnTrial}
 use Rattle.correction_trials.specs.Served.{ServeTrial}
+use Rattle.correction_trials.specs.Starts.{sheets_replayed}
 use Rattle.desk_books.specs.BooksOfJournals.{AreBooksOf}
 use Rattle.desk_books.specs.declared.books.DeskBooks.{DeskBooks}
 use Rattle.event_laws.specs.EventReplays.{is_correction}
@@ -108,8 +109,10 @@ pub record IsReopenedWhole (books : DeskBooks) (event : Event) (known : Known) (
   pub reached : AreReached books.book.journal books.orders.owners event.kind households
   pub all : AreReopened books event known households change first
 
--- as many steps as there are sheets for each household that the correction reaches, at most
-abbrev pub TakesFewSteps : DeskBooks → Event → ℕ → ℕ → Type 0
-TakesFewSteps books event before after =
-    (households : List ℕ) × AreReached books.book.journal books.orders.owners event.kind households
-    × (after ≤ before + length households * length (book_behind books.book.journal).table.sheets)
+-- For each household that the correction reaches, at most as many steps as there are sheets; and no more than there are behind the
+-- last state that is kept of it behind a sheet before this one.
+pub record TakesFewSteps (books : DeskBooks) (event : Event) (touched before after : ℕ) : Type 0 where
+  pub households : List ℕ
+  pub reached : AreReached books.book.journal books.orders.owners event.kind households
+  pub few : after ≤ before + length households * length (book_behind books.book.journal).table.sheets
+  pub behind : after ≤ before + sum_by (sheets_replayed books.kept touched (length books.prices.table.sheets)) households

@@ -1,14 +1,19 @@
 -- Where the replay of a household begins: before all sheets, or at the last state that is kept of it behind a sheet which the
 -- correction doesn't touch.
 use Rattle.std.specs.Option.{option_map_or}
-use Rattle.std.specs.Prelude.{List, Option, Some, [], length, ℕ, ◌<◌, ◌≡◌, ◌≤◌}
+use Rattle.std.specs.Prelude.{List, Option, Some, [], find, length, ℕ, ◌-◌, ◌<◌, ◌≡◌, ◌≤◌}
 use Rattle.agent_events.specs.Events.{Event}
+use Rattle.agent_events.specs.declared.event.EventKind.{EventKind}
 use Rattle.checkpoint_replay.specs.declared.reopening.ReplayStart.{ReplayStart}
 use Rattle.correction_trials.specs.declared.starts.KeptStart.{KeptStart}
+use Rattle.forward_price.specs.declared.price_sheet.Sheet.{Sheet}
 use Rattle.kept_of_journals.specs.KeptOfBooks.{part_to}
+use Rattle.kept_states.specs.KeptStates.{last_before, states_in}
+use Rattle.kept_states.specs.declared.states.HouseholdStates.{HouseholdStates}
 use Rattle.kept_states.specs.declared.states.KeptState.{KeptState}
 use Rattle.register_laws.specs.Lawful.{book_behind}
 use Rattle.register_machine.specs.journal.Journals.{Journal, with_event}
+use Rattle.register_machine.specs.rules.NamedThings.{lists_at}
 use Rattle.standing_orders.specs.Priced.{AreSettledOnTrial}
 use Rattle.waiting_laws.specs.IndexOfJournals.{sheets_of}
 use Rattle.waiting_laws.specs.SettledOrders.{AreSettled}
@@ -51,3 +56,18 @@ abbrev pub start_by : ℕ → Option KeptState → KeptStart
 start_by household found =
     option_map_or (λ (kept : KeptState). record { replay = start_at household kept; orders = kept.orders })
     found (record { replay = first_start household; orders = 0 })
+
+-- how many sheets, as far as the last one, the replay of a household goes over behind its start
+abbrev pub sheets_replayed : List (ℕ × HouseholdStates) → ℕ → ℕ → ℕ → ℕ
+sheets_replayed rows before last household =
+    last - (start_by household (last_before before (states_in rows household))).replay.sheet
+
+-- the number of the sheet that lists a class at a moment, 0 where there is none
+abbrev pub number_listed : ℕ → ℕ → List Sheet → ℕ
+number_listed class moment sheets = option_map_or (λ sheet. sheet.number) (find (lists_at class moment) sheets) 0
+
+-- the sheet that a corrected price or rate touches; where a corrected order is executed isn't looked for
+abbrev pub first_touched : List Sheet → EventKind → ℕ
+first_touched sheets (EventKind.FixPrice form) = number_listed form.class form.moment sheets
+first_touched sheets (EventKind.FixRate form) = number_listed form.class form.moment sheets
+first_touched sheets _ = 0

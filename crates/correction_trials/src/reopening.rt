@@ -1,10 +1,10 @@
 //! The households that a correction reaches are replayed with it, one after another.
 ghost use Rattle.std.specs.Prelude.{◌≡◌, ◌≤◌, ◌+◌, ◌*◌, ◌++◌, ◌∷◌, [], IfOk, OnOk, length, nat_eq};
-ghost use Rattle.std.specs.List.{IsDistinct};
+ghost use Rattle.std.specs.List.{IsDistinct, sum_by};
 ghost use Rattle.std.specs.List.Sorted.{IsStrictlyIncreasing};
 ghost use Rattle.checkpoint_replay.specs.Moves.{AreApart, AreMoves, households_of};
 ghost use Rattle.correction_trials.specs.Reopened.{AreJoined, AreReopened, IsOneMore, IsTriedOver, ReopensMore, moves_of};
-ghost use Rattle.correction_trials.specs.Starts.{LeavesBefore};
+ghost use Rattle.correction_trials.specs.Starts.{LeavesBefore, sheets_replayed};
 
 use crate::breaking::see_broken;
 use crate::starts::start_of;
@@ -44,6 +44,8 @@ pub(crate) fn reopen_all<L: StepLedger>(
         households.now reopened.change reopened.first.least) }
     ensures steps { OnOk result (steps.new
         ≤ steps.old + length households.now * facts.now.sheet) }
+    ensures behind { OnOk result (steps.new ≤ steps.old
+        + sum_by (sheets_replayed books.now.kept before facts.now.sheet) households.now) }
 {
     let mut reopened = Reopened {
         change: None,
@@ -74,6 +76,8 @@ fn reopen_more<L: StepLedger>(
     ensures more { IfOk result (λ more. ReopensMore books.now event.now facts.now household
         so_far.change so_far.first.least more.change more.first.least) }
     ensures steps { OnOk result (steps.new ≤ steps.old + facts.now.sheet) }
+    ensures behind { OnOk result (steps.new
+        ≤ steps.old + sheets_replayed books.now.kept before facts.now.sheet household) }
 {
     let Reopened { change, first } = so_far;
     let mut first = first;
@@ -99,6 +103,8 @@ fn reopen_one<L: StepLedger>(
     requires before { LeavesBefore books.now.book.journal event.now before }
     ensures one { IfOk result (IsOneMore books.now event.now facts.now household) }
     ensures steps { steps.new ≤ steps.old + facts.now.sheet }
+    ensures behind { steps.new
+        ≤ steps.old + sheets_replayed books.now.kept before facts.now.sheet household }
 {
     let start = start_of(alloc, &books.kept, household, before)?;
     let orders = orders_of_household(

@@ -1,6 +1,6 @@
 //! The trial of a correction.
-ghost use Rattle.std.specs.Prelude.{◌≡◌, ◌≤◌, ◌+◌, ◌*◌, IfOk, OnOk, find, is_some, true, length, ℕ, List};
-ghost use Rattle.std.specs.Option.{option_map_or};
+ghost use Rattle.std.specs.Prelude.{◌≡◌, ◌≤◌, ◌+◌, ◌*◌, IfOk, OnOk, is_some, true, length, ℕ, List};
+ghost use Rattle.std.specs.List.{sum_by};
 ghost use Rattle.agent_events.specs.declared.event.EventKind.{EventKind as Kind};
 ghost use Rattle.agent_events.specs.declared.reply.Refusal.{Refusal as AnyRefusal};
 ghost use Rattle.checkpoint_replay.specs.Differences.{AreChangesOf};
@@ -10,7 +10,7 @@ ghost use Rattle.correction_trials.specs.Changed.{AreMovesOf, IsMovedWith};
 ghost use Rattle.correction_trials.specs.Reopened.{IsReopenedWhole, IsTriedOver, TakesFewSteps, changes_of, moves_of};
 ghost use Rattle.correction_trials.specs.Served.{known_in};
 ghost use Rattle.correction_trials.specs.Settled.{AreForgotten, AreForgottenBy, IsTrialOf, KeepsStates};
-ghost use Rattle.correction_trials.specs.Starts.{LeavesBefore};
+ghost use Rattle.correction_trials.specs.Starts.{LeavesBefore, first_touched, number_listed, sheets_replayed};
 ghost use Rattle.correction_trials.specs.Trials.{IsFresh, Says};
 ghost use Rattle.correction_trials.specs.declared.trial.Tried.{Tried as AnyTried};
 ghost use Rattle.desk_books.specs.BooksOfJournals.{AreBooksOf, ShowTheSame};
@@ -19,7 +19,6 @@ ghost use Rattle.forward_price.specs.PriceTables.{patched};
 ghost use Rattle.household_fold.specs.Facts.{FactsFit, sheets_known};
 ghost use Rattle.register_laws.specs.CorrectionReach.{order_changed};
 ghost use Rattle.register_laws.specs.Lawful.{book_behind};
-ghost use Rattle.register_machine.specs.rules.NamedThings.{lists_at};
 
 use crate::forgetting::forget_all;
 use crate::moving::{bearer_of, with_gains};
@@ -59,7 +58,8 @@ pub(crate) struct Trial {
 }
 
 /// Tries a correction that no rule before the last one refuses: the households that it can reach are replayed with it, by at most
-/// as many steps each as there are sheets, and no others. Past the limits of a post it is `NoMemory`. Where it breaks no order, the
+/// as many steps each as there are sheets, and for a corrected price or rate as there are sheets behind the last state of it that
+/// is kept before that sheet; and no others. Past the limits of a post it is `NoMemory`. Where it breaks no order, the
 /// states that are kept of those households behind the sheets that it touches are forgotten. The books show what they showed before.
 pub fn try_correction<L: StepLedger>(
     alloc: Global,
@@ -79,6 +79,12 @@ pub fn try_correction<L: StepLedger>(
         × AreReached books.old.book.journal books.old.orders.owners event.now.kind households
         × (steps.new ≤ steps.old
         + length households * length (book_behind books.old.book.journal).table.sheets)) }
+    ensures behind { OnOk result ((households : List ℕ)
+        × AreReached books.old.book.journal books.old.orders.owners event.now.kind households
+        × (steps.new ≤ steps.old
+        + sum_by (sheets_replayed books.old.kept
+        (first_touched books.old.prices.table.sheets event.now.kind)
+        (length books.old.prices.table.sheets)) households)) }
 {
     let trial = try_kind(alloc, books, event, steps)?;
     Ok(settle(&mut books.kept, trial))
@@ -118,7 +124,8 @@ fn try_kind<L: StepLedger>(
     requires correction { is_correction event.now.kind ≡ true }
     requires fresh { IsFresh books.now.book.journal event.now }
     ensures trial { IfOk result (IsTrialOf books.now event.now) }
-    ensures steps { OnOk result (TakesFewSteps books.now event.now steps.old steps.new) }
+    ensures steps { OnOk result (TakesFewSteps books.now event.now
+        (first_touched books.now.prices.table.sheets event.now.kind) steps.old steps.new) }
 {
     match event.kind() {
         EventKind::FixPrice(form) => try_price(alloc, books, event, form, steps),
@@ -143,7 +150,8 @@ fn try_price<L: StepLedger>(
     requires fresh { IsFresh books.now.book.journal event.now }
     requires kind { event.now.kind ≡ Kind.FixPrice form.now }
     ensures trial { IfOk result (IsTrialOf books.now event.now) }
-    ensures steps { OnOk result (TakesFewSteps books.now event.now steps.old steps.new) }
+    ensures steps { OnOk result (TakesFewSteps books.now event.now
+        (first_touched books.now.prices.table.sheets event.now.kind) steps.old steps.new) }
 {
     match patch_of(&books.prices, form) {
         Some(patch) => {
@@ -175,7 +183,8 @@ fn try_rate<L: StepLedger>(
     requires fresh { IsFresh books.now.book.journal event.now }
     requires kind { event.now.kind ≡ Kind.FixRate form.now }
     ensures trial { IfOk result (IsTrialOf books.now event.now) }
-    ensures steps { OnOk result (TakesFewSteps books.now event.now steps.old steps.new) }
+    ensures steps { OnOk result (TakesFewSteps books.now event.now
+        (first_touched books.now.prices.table.sheets event.now.kind) steps.old steps.new) }
 {
     let _rate = form.rate.millionths();
     let rates = books.tables.rates_with(alloc, form)?;
@@ -185,9 +194,7 @@ fn try_rate<L: StepLedger>(
 
 // The number of the sheet that pays the corrected rate, 0 where none is published.
 fn sheet_touched(prices: &PriceBook, form: &FixRateForm) -> u32
-    ensures { result
-        ≡ option_map_or (λ sheet. sheet.number)
-        (find (lists_at form.now.class form.now.moment) prices.now.table.sheets) 0 }
+    ensures { result ≡ number_listed form.now.class form.now.moment prices.now.table.sheets }
 {
     match sheet_priced(prices.sheets(), form.class.number(), form.moment) {
         Some(sheet) => sheet.number,
@@ -207,7 +214,8 @@ fn try_order<L: StepLedger>(
     requires fresh { IsFresh books.now.book.journal event.now }
     requires order { is_some (order_changed event.now.kind) ≡ true }
     ensures trial { IfOk result (IsTrialOf books.now event.now) }
-    ensures steps { OnOk result (TakesFewSteps books.now event.now steps.old steps.new) }
+    ensures steps { OnOk result (TakesFewSteps books.now event.now
+        (first_touched books.now.prices.table.sheets event.now.kind) steps.old steps.new) }
 {
     try_with(alloc, books, event, books.tables.rates(), None, 0, steps)
 }
@@ -225,7 +233,7 @@ fn try_with<L: StepLedger>(
     requires tried { IsTriedOver books.now event.now (known_in books.now rates.now patch) }
     requires before { LeavesBefore books.now.book.journal event.now before }
     ensures trial { IfOk result (IsTrialOf books.now event.now) }
-    ensures steps { OnOk result (TakesFewSteps books.now event.now steps.old steps.new) }
+    ensures steps { OnOk result (TakesFewSteps books.now event.now before steps.old steps.new) }
 {
     let facts = Facts {
         prices: &books.prices,

@@ -11,6 +11,7 @@ pub loop-household-init : goal.loop-household-init
 loop-household-init g c = record {
   reopened = subst (λ (first : Option BrokenTrade). AreReopened c.args.books.now c.args.event.now c.args.facts.now [] None first) (sym c.new.ensures) (none_yet c.args.books.now c.args.event.now c.args.facts.now);
   steps = omega arith;
+  behind = omega arith;
 }
 
 pub reopen_more-requires-clause-apart : goal.reopen_more-requires-clause-apart

@@ -1,9 +1,10 @@
-use Rattle.std.proofs.Common.{Some, [], ap, subst, ◌∙◌, ◌∷◌, ◌≡◌}
+use Rattle.std.proofs.Common.{Some, [], ap, subst, ◌+◌, ◌-◌, ◌∙◌, ◌∷◌, ◌≤◌}
 use Rattle.std.proofs.lemmas.Result.{IfOk-weaker}
 use Rattle.checkpoint_replay.specs.Moves.{households_of}
 use Rattle.correction_trials.proofs.OneMore.{one_more}
 use Rattle.correction_trials.proofs.ReopenedOne.{day, ready, serves}
 use Rattle.correction_trials.proofs.TrialSteps.{all_rows, own_rows}
+use Rattle.correction_trials.specs.declared.starts.KeptStart.{KeptStart}
 use Rattle.order_book.specs.Books.{NotedJournal}
 use Rattle.standing_orders.specs.Priced.{AreOwnOnTrial}
 use Rattle.correction_trials.proofs.reopening.reopen_one.Goals as goal
@@ -37,3 +38,7 @@ returns-clause-one g c =
     (IfOk-weaker c.reopen_behind.result _ _ (λ one only. day books event known c.args.household c.args.before c.in_ok-start.start c.in_ok-orders.orders c.requires.tried c.requires.before c.in_ok-start.ensures own one.moves only) c.reopen_behind.ensures.moves)
     (IfOk-weaker c.reopen_behind.result _ _ (λ one only. ap households_of only ∙ ap (λ number. number ∷ []) served.own) c.reopen_behind.ensures.moves)
     c.reopen_behind.ensures.differences
+
+pub returns-clause-behind : goal.returns-clause-behind
+returns-clause-behind g c =
+    subst (λ (start : KeptStart). c.reopen_behind.new.steps ≤ c.args.steps.now + (c.args.facts.now.sheet - start.replay.sheet)) c.in_ok-start.ensures c.reopen_behind.ensures.steps
