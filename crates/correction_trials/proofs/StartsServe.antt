@@ -23,6 +23,7 @@ use Rattle.correction_trials.specs.Starts.{LeavesBefore, LeavesSettledBehind, Le
 use Rattle.correction_trials.specs.declared.starts.KeptStart.{KeptStart}
 use Rattle.correction_trials.specs.declared.trial.Trial.{Trial}
 use Rattle.correction_trials.specs.declared.trial.Tried.{Tried}
+use Rattle.correction_trials.proofs.ForgetFacts.{left-stays}
 use Rattle.correction_trials.proofs.ServedTrials.{listed_on}
 use Rattle.desk_books.specs.BooksOfJournals.{AreBooksOf}
 use Rattle.desk_books.specs.declared.books.DeskBooks.{DeskBooks}
@@ -238,7 +239,8 @@ forgotten_stay trial old new book forgotten are = by_tried trial.tried forgotten
     by_tried (Tried.Breaks _) same = subst (AreKeptOf book) (sym same) are
     by_tried (Tried.Moves change) left = λ household.
         All-weaker (λ (state : KeptState). Contains (states_in old household) state × (list_any (nat_eq household) trial.households.items ≡ true → state.sheet < trial.before)) (IsAsOf book household)
-        (λ state is. All-contains (IsAsOf book household) (states_in old household) state (are household) is.0) (states_in new household) (left household)
+        (λ state is. All-contains (IsAsOf book household) (states_in old household) state (are household) is.0) (states_in new household)
+        (left-stays trial.households.items trial.before old new left household)
 
 -- and they are what their households came to behind the correction
 pub kept_behind : (books : DeskBooks) (event : Event) (trial : Trial) (new : List (ℕ × HouseholdStates)) → IsTrialOf books event trial → AreKeptOf (book_behind books.book.journal) books.kept → AreForgotten trial books.kept new → KeepsStates books.book.journal event new trial.tried
@@ -282,4 +284,4 @@ kept_behind books event trial new is are forgotten = by_tried trial.tried forgot
     by_tried (Tried.Breaks _) same = tt
     by_tried (Tried.Moves change) left = λ household.
         All-weaker (λ (state : KeptState). Contains (states_in books.kept household) state × (list_any (nat_eq household) trial.households.items ≡ true → state.sheet < trial.before)) (IsAsOf after household)
-        (each household) (states_in new household) (left household)
+        (each household) (states_in new household) (left-stays trial.households.items trial.before books.kept new left household)

@@ -1,6 +1,6 @@
 -- What a trial leaves of the kept states: where it breaks no order, those that its correction doesn't touch.
 use Rattle.std.specs.List.{list_any}
-use Rattle.std.specs.Prelude.{All, Contains, List, false, length, nat_eq, true, ℕ, ◌<◌, ◌≡◌}
+use Rattle.std.specs.Prelude.{List, false, filter, length, nat_eq, nat_lt, not, true, ℕ, ◌||◌, ◌≡◌}
 use Rattle.agent_events.specs.Events.{Event}
 use Rattle.correction_trials.specs.Starts.{LeavesBefore}
 use Rattle.correction_trials.specs.Trials.{Says}
@@ -11,6 +11,7 @@ use Rattle.event_laws.specs.EventReplays.{is_correction}
 use Rattle.kept_of_journals.specs.KeptOfBooks.{AreKeptOf, AreLikeLong}
 use Rattle.kept_states.specs.KeptStates.{states_in}
 use Rattle.kept_states.specs.declared.states.HouseholdStates.{HouseholdStates}
+use Rattle.kept_states.specs.declared.states.KeptState.{KeptState}
 use Rattle.register_laws.specs.CorrectionReach.{LeavesPart}
 use Rattle.register_laws.specs.Lawful.{book_behind}
 use Rattle.register_laws.specs.OneEventMore.{book_after}
@@ -30,11 +31,13 @@ pub record IsTrialOf (books : DeskBooks) (event : Event) (trial : Trial) : Type 
       ≡ book_after (length books.book.journal) (book_behind books.book.journal) event.moment event.kind
   pub corrects : is_correction event.kind ≡ true
 
--- of these households, only states behind sheets before this one; of others, no new ones
+-- of these households the states behind sheets before this one, of others all
+abbrev pub states_left : List ℕ → ℕ → List (ℕ × HouseholdStates) → ℕ → List KeptState
+states_left households before old household =
+    filter (λ state. not (list_any (nat_eq household) households) || nat_lt state.sheet before) (states_in old household)
+
 abbrev pub AreBefore : List ℕ → ℕ → List (ℕ × HouseholdStates) → List (ℕ × HouseholdStates) → Type 0
-AreBefore households before old new =
-    (household : ℕ) → All (λ state. Contains (states_in old household) state
-    × (list_any (nat_eq household) households ≡ true → state.sheet < before)) (states_in new household)
+AreBefore households before old new = (household : ℕ) → states_in new household ≡ states_left households before old household
 
 abbrev pub AreForgottenBy : Tried → List ℕ → ℕ → List (ℕ × HouseholdStates) → List (ℕ × HouseholdStates) → Type 0
 AreForgottenBy (Tried.Breaks _) households before old new = new ≡ old
