@@ -12,7 +12,7 @@ use Rattle.http_calls.specs.declared.calls.CallAsk.{CallAsk}
 use Rattle.http_replies.specs.Bytes.{fault_bytes}
 use Rattle.http_stream.specs.Stream.{IsItem, Message, Stream, StreamItem, Undecided, with_more}
 use Rattle.http_stream.specs.declared.fault.HttpFault.{HttpFault}
-use Rattle.http_stream.proofs.ItemLaws.{item-more}
+use Rattle.http_stream.proofs.ItemLaws.{item_more}
 use Rattle.connection_service.specs.Answers.{Answers, AnswersBy, At}
 use Rattle.connection_service.specs.Runs.{Run, stream_of}
 use Rattle.connection_service.specs.Serving.{Ends, FewerAhead, GoesAs, GoesOnBehind, IsOverBehind, IsReplied, IsServed, IsServing, IsWithin, IsWritten, ahead, going_on, going_over, memory_text}
@@ -26,7 +26,7 @@ run-more : (operator : List ℕ) (stream : Stream) (opened : At) (left : Stream)
 run-more operator stream opened left at texts more Run.none = Run.none
 run-more operator stream opened left at texts more (Run.more between after mid now before item text run is answers) =
     Run.more (with_more between more) (with_more after more) mid now before item text
-    (run-more operator stream opened between mid before more run) (item-more ends between item after more is) answers
+    (run-more operator stream opened between mid before more run) (item_more ends between item after more is) answers
 
 -- the texts of a run with one text more
 texts-more : (texts : List (List ℕ)) (text : List ℕ) → concat (texts ++ text ∷ []) ≡ concat texts ++ text

@@ -5,9 +5,9 @@ use Rattle.std.proofs.lemmas.List.{length-drop, length-take}
 use Rattle.std.proofs.lemmas.Bool.Decides.{nat_tests}
 use Rattle.httparse.specs.Grammar.{RequestHead, print_request}
 use Rattle.http_stream.specs.declared.fault.HttpFault.{HttpFault}
-use Rattle.http_stream.specs.Heads.{Named, body_length, body_limit, is_length, length_name, length_of, named, pairs_of, coding_name, said_length, within_limit}
+use Rattle.http_stream.specs.Heads.{Named, body_length, body_limit, is_length, length_name, length_of, fields_named, pairs_of, coding_name, said_length, within_limit}
 use Rattle.std.specs.Str.Parse.{digits_value}
-use Rattle.http_stream.specs.Lines.{Front, field_limit, front, head_limit, scan_of, unscanned}
+use Rattle.http_stream.specs.Lines.{Front, field_limit, front, head_limit, scan_of, scan_of_nothing}
 use Rattle.http_stream.specs.Stream.{IsItem, Message, Shown, Shows, Stream, StreamItem, Undecided, behind, body_at, found_of, item_closes, item_limit, message_of, size_of, whole_at}
 use Rattle.http_stream.proofs.LineLaws.{scan-size}
 
@@ -38,7 +38,7 @@ ended-few : (rest : List ℕ) (size : ℕ) → front rest ≡ Front.Ended size �
 ended-few rest size is =
     let found = ended-few-by rest size (scan_of (take head_limit rest)).ended (ltb (field_limit + 1) (scan_of (take head_limit rest)).filled)
     (ltb (length rest) head_limit) refl refl refl is in
-    let bound : (scan_of (take head_limit rest)).size ≤ 0 + length (take head_limit rest) = scan-size unscanned (take head_limit rest) in
+    let bound : (scan_of (take head_limit rest)).size ≤ 0 + length (take head_limit rest) = scan-size scan_of_nothing (take head_limit rest) in
     let taken : length (take head_limit rest) ≡ min head_limit (length rest) = length-take head_limit rest in
     omega arith
 
@@ -73,15 +73,15 @@ said-few-by found said true one a b is =
 said-few-by found said false true a b is = length-few-by found.value said (is_length found.value) refl (rw (a, b) at is)
 said-few-by found said false false a b is = absurd (let same : bad HttpFault.S400 ≡ good said = rw (a, b) at is in cc)
 
-body-few-by : (head : RequestHead) (said : Option ℕ) (coded : Bool) → ltb 0 (named coding_name (pairs_of head)).count ≡ coded → body_length head ≡ Ok said
+body-few-by : (head : RequestHead) (said : Option ℕ) (coded : Bool) → ltb 0 (fields_named coding_name (pairs_of head)).count ≡ coded → body_length head ≡ Ok said
     → unwrap_or said 0 ≤ body_limit
 body-few-by head said true e is = absurd (let same : bad HttpFault.S501 ≡ good said = rw e at is in cc)
 body-few-by head said false e is =
-    let found = named length_name (pairs_of head) in
+    let found = fields_named length_name (pairs_of head) in
     said-few-by found said (eqb found.count 0) (eqb found.count 1) refl refl (rw e at is)
 
 body-few : (head : RequestHead) (said : Option ℕ) → body_length head ≡ Ok said → unwrap_or said 0 ≤ body_limit
-body-few head said is = body-few-by head said (ltb 0 (named coding_name (pairs_of head)).count) refl is
+body-few head said is = body-few-by head said (ltb 0 (fields_named coding_name (pairs_of head)).count) refl is
 
 -- a head that stands at the front is no longer than a head may be
 head-few : (rest : List ℕ) (head : RequestHead) → Shows rest (Shown.Head head) → length (print_request head) ≤ head_limit

@@ -12,7 +12,8 @@ pub fn reading_examples()
     ensures ends_of_lines { records_of (codes "a\r\nb\nc\rd")
         ≡ (codes "a" ∷ []) ∷ (codes "b" ∷ []) ∷ (codes "c" ∷ []) ∷ (codes "d" ∷ []) ∷ [] }
     ensures byte_order_mark { records_of (239 ∷ 187 ∷ 191 ∷ codes "a\n") ≡ (codes "a" ∷ []) ∷ [] }
-    ensures quotes { records_of (codes "\"a,b\",\"c\"\"d\"\n") ≡ (codes "a,b" ∷ codes "c\"d" ∷ []) ∷ [] }
+    ensures quotes { records_of (codes "\"a,b\",\"c\"\"d\"\n")
+        ≡ (codes "a,b" ∷ codes "c\"d" ∷ []) ∷ [] }
     ensures quote_left_open { records_of (codes "\"a,b\n") ≡ (codes "a,b\n" ∷ []) ∷ [] }
 {}
 

@@ -10,7 +10,7 @@ use Rattle.http_stream.specs.Kept.{StandsAt}
 use Rattle.http_stream.specs.Stream.{IsHeadAt, IsItem, Message, Shown, Shows, Stream, StreamItem, after_item, behind, body_at, found_of, item_closes, message_of, size_of, whole_at}
 use Rattle.http_calls.specs.declared.calls.CallAsk.{CallAsk}
 use Rattle.http_calls.specs.declared.feed.Step.{Step}
-use Rattle.http_calls.specs.Calls.{answer, answered, closes_by, ends, fault_closes}
+use Rattle.http_calls.specs.Calls.{answer, target_answer, closes_by, ends, fault_closes}
 use Rattle.http_calls.specs.Steps.{StepsAs, answer_at}
 
 abbrev message_at : RequestHead → HeadAt → List ℕ → Message
@@ -18,9 +18,9 @@ message_at head at rest = message_of head at.length (body_at head at.length rest
 
 answer-is : (rest : List ℕ) (head : RequestHead) (at : HeadAt) → IsHeadAt rest head at → answer_at rest at ≡ answer (message_at head at rest)
 answer-is rest head at is =
-    ap (λ target. answered target (span_bytes rest at.method) at.length (take (unwrap_or at.length 0) (drop at.size rest))) is.target
-    ∙ ap (λ method. answered head.target method at.length (take (unwrap_or at.length 0) (drop at.size rest))) is.method
-    ∙ ap (λ size. answered head.target head.method at.length (take (unwrap_or at.length 0) (drop size rest))) is.size
+    ap (λ target. target_answer target (span_bytes rest at.method) at.length (take (unwrap_or at.length 0) (drop at.size rest))) is.target
+    ∙ ap (λ method. target_answer head.target method at.length (take (unwrap_or at.length 0) (drop at.size rest))) is.method
+    ∙ ap (λ size. target_answer head.target head.method at.length (take (unwrap_or at.length 0) (drop size rest))) is.size
 
 found-is : (rest : List ℕ) (head : RequestHead) (at : HeadAt) → IsHeadAt rest head at → at.size + unwrap_or at.length 0 ≤ length rest
     → found_of rest (Shown.Head head) ≡ Some (StreamItem.Whole (message_at head at rest), size_of head at.length)

@@ -83,11 +83,11 @@ answered_at Route.Look parts method size body =
 abbrev pub answered_by : List (List ℕ) → List ℕ → Option ℕ → List ℕ → Result CallAsk HttpFault
 answered_by parts method size body = answered_at (route_of parts) parts method size body
 
-abbrev pub answered : List ℕ → List ℕ → Option ℕ → List ℕ → Result CallAsk HttpFault
-answered target method size body = answered_by (parts_of (path_of target)) method size body
+abbrev pub target_answer : List ℕ → List ℕ → Option ℕ → List ℕ → Result CallAsk HttpFault
+target_answer target method size body = answered_by (parts_of (path_of target)) method size body
 
 abbrev pub answer : Message → Result CallAsk HttpFault
-answer message = answered message.target message.method message.length message.body
+answer message = target_answer message.target message.method message.length message.body
 
 -- a fault that closes the connection
 abbrev pub fault_closes : HttpFault → Bool

@@ -6,7 +6,7 @@ use Rattle.http_stream.specs.declared.head.HeadAt.{HeadAt}
 use Rattle.http_stream.specs.Stream.{IsItem, Stream, StreamItem, Undecided}
 use Rattle.http_calls.specs.declared.feed.Step.{Step}
 use Rattle.http_calls.specs.declared.calls.CallAsk.{CallAsk}
-use Rattle.http_calls.specs.Calls.{answered, ends, item_answer, item_key}
+use Rattle.http_calls.specs.Calls.{target_answer, ends, item_answer, item_key}
 
 -- nothing where no further item is decided; else the next item's call or fault, which says whether the connection closes
 abbrev pub StepsAs : Stream → Step → Stream → Type 0
@@ -20,4 +20,4 @@ StepsAs stream (Step.Fault fault last) after =
 -- what the message asks whose head stands here
 abbrev pub answer_at : List ℕ → HeadAt → Result CallAsk HttpFault
 answer_at rest at =
-    answered (span_bytes rest at.target) (span_bytes rest at.method) at.length (take (unwrap_or at.length 0) (drop at.size rest))
+    target_answer (span_bytes rest at.target) (span_bytes rest at.method) at.length (take (unwrap_or at.length 0) (drop at.size rest))

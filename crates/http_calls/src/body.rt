@@ -112,7 +112,8 @@ fn entry_members(
     order_verb: &[u8],
     members: &[MemberText],
 ) -> Result<Request, FormFault>
-    ensures { Gives result (form.entry_members verb.now order_verb.now (map member_view members.now)) }
+    ensures { Gives result (form.entry_members verb.now order_verb.now
+        (map member_view members.now)) }
 {
     match order_count(order_verb) {
         None => asked_by_texts(alloc, verb, entry_names(), members),

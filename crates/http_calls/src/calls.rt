@@ -34,7 +34,7 @@ pub(crate) fn answered(
     size: Option<usize>,
     body: &[u8],
 ) -> Result<Result<CallAsk, HttpFault>, NoMemory>
-    ensures { IfOk result (λ answer. answer ≡ spec.answered target.now method.now size body.now) }
+    ensures { IfOk result (λ answer. answer ≡ spec.target_answer target.now method.now size body.now) }
 {
     let parts = parts_of(alloc, target)?;
     answered_by(alloc, &parts, method, size, body)
@@ -89,7 +89,8 @@ fn posted_answer(
     body: &[u8],
 ) -> Result<Result<CallAsk, HttpFault>, NoMemory>
     ensures { IfOk result (λ answer. answer ≡ (if bytes_eq method.now (codes "POST")
-        then spec.with_length size (CallAsk.One (asked_by_body (form.field (map (λ part. part.now) parts.now) 3) body.now))
+        then spec.with_length size (CallAsk.One
+        (asked_by_body (form.field (map (λ part. part.now) parts.now) 3) body.now))
         else Err HttpFault.S405)) }
 {
     if !same_bytes(method, b"POST") {
@@ -108,7 +109,8 @@ fn look_answer(
     method: &[u8],
 ) -> Result<Result<CallAsk, HttpFault>, NoMemory>
     ensures { IfOk result (λ answer. answer ≡ (if bytes_eq method.now (codes "GET")
-        then Ok (CallAsk.One (asked_by (form.field (map (λ part. part.now) parts.now) 3) (drop 3 (map (λ part. part.now) parts.now))))
+        then Ok (CallAsk.One (asked_by (form.field (map (λ part. part.now) parts.now) 3)
+        (drop 3 (map (λ part. part.now) parts.now))))
         else Err HttpFault.S405)) }
 {
     if !same_bytes(method, b"GET") {

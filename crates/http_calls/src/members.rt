@@ -99,7 +99,8 @@ fn member_named<'a>(members: &'a [MemberText], name: &[u8]) -> Option<&'a Member
 
 /// Whether every member has one of these names.
 pub(crate) fn are_named(names: &[&[u8]], members: &[MemberText]) -> bool
-    ensures { result ≡ form.are_named (map (λ name. name.now) names.now) (map member_view members.now) }
+    ensures { result ≡ form.are_named (map (λ name. name.now) names.now)
+        (map member_view members.now) }
 {
     all_among(names, members)
 }

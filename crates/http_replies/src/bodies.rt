@@ -22,7 +22,8 @@ pub(crate) fn json_body(alloc: Global, reply: &Reply) -> Result<String, NoMemory
 }
 
 fn without_ok(texts: &[Vec<u8>]) -> &[Vec<u8>]
-    ensures { map (λ text. text.items) result.now ≡ spec.without_ok (map (λ text. text.items) texts.now) }
+    ensures { map (λ text. text.items) result.now
+        ≡ spec.without_ok (map (λ text. text.items) texts.now) }
 {
     match texts {
         [] => &[],
@@ -38,7 +39,8 @@ fn without_ok(texts: &[Vec<u8>]) -> &[Vec<u8>]
 
 fn object_text(alloc: Global, names: &[&str], texts: &[Vec<u8>]) -> Result<String, NoMemory>
     ensures { IfOk result (λ body. string_bytes body
-        ≡ compact_text (spec.object_of (zip (map (λ name. name.now) names.now) (map (λ text. text.items) texts.now)))) }
+        ≡ compact_text (spec.object_of (zip (map (λ name. name.now) names.now)
+        (map (λ text. text.items) texts.now)))) }
 {
     let value = object_value(alloc, names, texts)?;
     Ok(value.to_string(alloc)?)
@@ -46,7 +48,8 @@ fn object_text(alloc: Global, names: &[&str], texts: &[Vec<u8>]) -> Result<Strin
 
 fn object_value(alloc: Global, names: &[&str], texts: &[Vec<u8>]) -> Result<Value, NoMemory>
     ensures { IfOk result (λ value. view value
-        ≡ spec.object_of (zip (map (λ name. name.now) names.now) (map (λ text. text.items) texts.now))) }
+        ≡ spec.object_of (zip (map (λ name. name.now) names.now)
+        (map (λ text. text.items) texts.now))) }
 {
     Ok(Value::Object(members_of(alloc, names, texts)?))
 }
@@ -57,7 +60,8 @@ fn members_of(
     texts: &[Vec<u8>],
 ) -> Result<Map<String, Value>, NoMemory>
     ensures { IfOk result (λ members. members_view members.entries
-        ≡ fold spec.put_text no_members (zip (map (λ name. name.now) names.now) (map (λ text. text.items) texts.now))) }
+        ≡ fold spec.put_text no_members (zip (map (λ name. name.now) names.now)
+        (map (λ text. text.items) texts.now))) }
 {
     let mut members = Map::new(alloc);
     for i in 0..names.len().min(texts.len()) {

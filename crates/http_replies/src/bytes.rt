@@ -157,7 +157,8 @@ fn phrase_of(status: u16) -> &'static [u8]
 }
 
 fn push_field(bytes: &mut Vec<u8>, name: &[u8], value: &[u8]) -> Result<(), NoMemory>
-    ensures { OnOk result (bytes.new.items ≡ bytes.old.items ++ spec.field_line name.now value.now) }
+    ensures { OnOk result (bytes.new.items
+        ≡ bytes.old.items ++ spec.field_line name.now value.now) }
 {
     bytes.extend_from_slice(name)?;
     bytes.extend_from_slice(b": ")?;

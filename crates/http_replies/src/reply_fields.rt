@@ -137,7 +137,8 @@ fn state_word(state: OrderState) -> &'static [u8]
 // The account, the reference and how the order stands.
 fn push_order(alloc: Global, traced: &TraceReply, fields: &mut Fields) -> Result<(), NoMemory>
     ensures { OnOk result (fields.new ≡ fields.old
-        ++ number_text traced.now.account ∷ number_text traced.now.ref_no ∷ state_text traced.now.state ∷ []) }
+        ++ number_text traced.now.account ∷ number_text traced.now.ref_no
+        ∷ state_text traced.now.state ∷ []) }
 {
     fields.push(alloc, &number_of(alloc, traced.account.number() as u64)?)?;
     fields.push(alloc, &number_of(alloc, traced.ref_no.number())?)?;
@@ -156,8 +157,10 @@ fn push_moments(alloc: Global, traced: &TraceReply, fields: &mut Fields) -> Resu
 
 // What was traded, and the loose mils of an order that is short.
 fn push_trade(alloc: Global, traced: &TraceReply, fields: &mut Fields) -> Result<(), NoMemory>
-    ensures { OnOk result (fields.new ≡ fields.old ++ money_text traced.now.price ∷ shares_text traced.now.mils
-        ∷ money_text traced.now.cash ∷ money_text traced.now.charge ∷ shares_text traced.now.loose ∷ []) }
+    ensures { OnOk result (fields.new
+        ≡ fields.old ++ money_text traced.now.price ∷ shares_text traced.now.mils
+        ∷ money_text traced.now.cash ∷ money_text traced.now.charge ∷ shares_text traced.now.loose
+        ∷ []) }
 {
     fields.push(alloc, &money_of(alloc, traced.price.0 as u128)?)?;
     fields.push(alloc, &shares_of(alloc, traced.mils.0 as u128)?)?;

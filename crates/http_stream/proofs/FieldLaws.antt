@@ -13,7 +13,7 @@ use Rattle.http_stream.specs.declared.head.Facts.{Facts}
 use Rattle.http_stream.specs.declared.head.HeadAt.{HeadAt}
 use Rattle.http_stream.specs.declared.head.Parsed.{Parsed}
 use Rattle.http_stream.specs.declared.head.Tally.{Tally}
-use Rattle.http_stream.specs.Heads.{Named, Pair, body_length, closes, coding_name, is_close, key_name, key_of, length_by, length_name, named, named_with, only_value, pairs_of, said_length, unnamed}
+use Rattle.http_stream.specs.Heads.{Named, Pair, body_length, closes, coding_name, is_close, key_name, key_of, length_by, length_name, fields_named, named_with, only_value, pairs_of, said_length, none_named}
 use Rattle.http_stream.specs.Reading.{AreFactsWithin, FieldFacts, JudgedAs, ParsesAs, facts_of, facts_with, length_said, named_of, no_facts, only_span}
 use Rattle.http_stream.specs.Stream.{Begins, IsHeadAt}
 

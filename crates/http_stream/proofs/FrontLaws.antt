@@ -8,7 +8,7 @@ use Rattle.http_stream.specs.declared.fault.HttpFault.{HttpFault}
 use Rattle.http_stream.specs.declared.intake.Seen.{Seen}
 use Rattle.http_stream.specs.declared.scan.Scan.{Scan}
 use Rattle.http_stream.specs.Kept.{IsFrontScan, IsScanned, SeenAs}
-use Rattle.http_stream.specs.Lines.{Front, field_limit, front, front_of, head_limit, scan_of, unscanned, with_byte}
+use Rattle.http_stream.specs.Lines.{Front, field_limit, front, front_of, head_limit, scan_of, scan_of_nothing, with_byte}
 use Rattle.http_stream.specs.Stream.{Shown}
 use Rattle.http_stream.proofs.LineLaws.{ended-stays, scan-size}
 
@@ -19,7 +19,7 @@ front_scan-is rest scan is =
     let first : take scan.size (take head_limit rest) ≡ take scan.size rest = take-take scan.size head_limit rest is.few in
     let start : scan ≡ scan_of (take scan.size (take head_limit rest)) = rw first is.is in
     ap (λ s. fold with_byte s (drop scan.size (take head_limit rest))) start
-    ∙ sym (fold-append with_byte unscanned (take scan.size (take head_limit rest)) (drop scan.size (take head_limit rest)))
+    ∙ sym (fold-append with_byte scan_of_nothing (take scan.size (take head_limit rest)) (drop scan.size (take head_limit rest)))
     ∙ ap scan_of (take-append-drop scan.size (take head_limit rest))
 
 -- no head's text ended among few bytes, or among as many as a head may have

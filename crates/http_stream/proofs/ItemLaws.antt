@@ -127,9 +127,9 @@ shown-decided stream shown item used found e =
     let none : None ≡ some_item item used = sym (ap (found_of stream) e) ∙ found in cc
 
 -- what is decided stays decided
-pub item-more : (ends : Message → Bool) (stream : Stream) (item : StreamItem) (after : Stream) (more : List ℕ)
+pub item_more : (ends : Message → Bool) (stream : Stream) (item : StreamItem) (after : Stream) (more : List ℕ)
     → IsItem ends stream item after → IsItem ends (with_more stream more) item (with_more after more)
-item-more ends stream item after more x =
+item_more ends stream item after more x =
     let holds = found-more stream.rest more x.shown item x.used x.found in
     record {
       shown = x.shown;
@@ -150,7 +150,7 @@ pub items-more : (ends : Message → Bool) (stream : Stream) (items : List Strea
 items-more ends stream items after more (Items.none s) = Items.none (with_more s more)
 items-more ends stream items after more (Items.next s item between rest t one others) =
     Items.next (with_more s more) item (with_more between more) rest (with_more t more)
-    (item-more ends s item between more one) (items-more ends between rest t more others)
+    (item_more ends s item between more one) (items-more ends between rest t more others)
 
 pub items-then : (ends : Message → Bool) (stream between after : Stream) (items others : List StreamItem)
     → Items ends stream items between → Items ends between others after → Items ends stream (items ++ others) after

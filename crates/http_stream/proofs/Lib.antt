@@ -1,4 +1,5 @@
 pub mod LineLaws
+pub mod ScanLaws
 pub mod FrontLaws
 pub mod HeadLaws
 pub mod FieldLaws

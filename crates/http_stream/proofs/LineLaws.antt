@@ -6,7 +6,7 @@ use Rattle.std.proofs.lemmas.List.Folds.{fold_stays}
 use Rattle.std.proofs.lemmas.List.Sums.{fold-append}
 use Rattle.http_stream.specs.declared.scan.Line.{Line}
 use Rattle.http_stream.specs.declared.scan.Scan.{Scan}
-use Rattle.http_stream.specs.Lines.{Front, front, front_of, head_limit, line_ended, line_with, scan_of, unscanned, with_byte}
+use Rattle.http_stream.specs.Lines.{Front, front, front_of, head_limit, line_ended, line_with, scan_of, scan_of_nothing, with_byte}
 
 pub ended-stays : (scan : Scan) → scan.ended ≡ true → (bytes : List ℕ) → fold with_byte scan bytes ≡ scan
 ended-stays scan e bytes = fold_stays with_byte scan (λ byte. rw e refl) bytes
@@ -32,4 +32,4 @@ scan-size scan (byte ∷ bytes) = omega (arith, scan-size (with_byte scan byte) 
 
 -- the scan of a whole text goes on from that of its first bytes
 pub scan-on : (text : List ℕ) (n : ℕ) → fold with_byte (scan_of (take n text)) (drop n text) ≡ scan_of text
-scan-on text n = sym (fold-append with_byte unscanned (take n text) (drop n text)) ∙ ap scan_of (take-append-drop n text)
+scan-on text n = sym (fold-append with_byte scan_of_nothing (take n text) (drop n text)) ∙ ap scan_of (take-append-drop n text)

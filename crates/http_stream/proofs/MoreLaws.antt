@@ -9,7 +9,7 @@ use Rattle.httparse.specs.Grammar.{RequestHead}
 use Rattle.http_stream.specs.declared.head.HeadAt.{HeadAt}
 use Rattle.http_stream.specs.declared.scan.Scan.{Scan}
 use Rattle.http_stream.specs.Kept.{IsKept, IsScanned, StandsAt}
-use Rattle.http_stream.specs.Lines.{Front, field_limit, front, front_of, head_limit, scan_of, unscanned, with_byte}
+use Rattle.http_stream.specs.Lines.{Front, field_limit, front, front_of, head_limit, scan_of, scan_of_nothing, with_byte}
 use Rattle.http_stream.specs.Stream.{Begins, Shown, Shows, Stream, with_more}
 use Rattle.http_stream.proofs.HeadLaws.{head-append}
 use Rattle.http_stream.proofs.LineLaws.{ended-stays, scan-size}
@@ -27,7 +27,7 @@ ended-more rest more few ended =
     let all : take head_limit rest ≡ rest = take_all head_limit rest (omega arith) in
     let done : (scan_of rest).ended ≡ true = rw all at ended in
     let goes_on : take head_limit (rest ++ more) ≡ rest ++ take (head_limit - length rest) more = take-more head_limit rest more (omega arith) in
-    ap scan_of goes_on ∙ fold-append with_byte unscanned rest (take (head_limit - length rest) more)
+    ap scan_of goes_on ∙ fold-append with_byte scan_of_nothing rest (take (head_limit - length rest) more)
     ∙ ended-stays (scan_of rest) done (take (head_limit - length rest) more) ∙ ap scan_of (sym all)
 
 -- where a head's text ended, it doesn't matter how many bytes came
@@ -78,7 +78,7 @@ pub ended-size : (rest : List ℕ) (size : ℕ) → front rest ≡ Front.Ended s
 ended-size rest size is =
     let found = ended-size-by rest size (scan_of (take head_limit rest)).ended (ltb (field_limit + 1) (scan_of (take head_limit rest)).filled)
     (ltb (length rest) head_limit) refl refl refl is in
-    let bound : (scan_of (take head_limit rest)).size ≤ 0 + length (take head_limit rest) = scan-size unscanned (take head_limit rest) in
+    let bound : (scan_of (take head_limit rest)).size ≤ 0 + length (take head_limit rest) = scan-size scan_of_nothing (take head_limit rest) in
     let taken : length (take head_limit rest) ≡ min head_limit (length rest) = length-take head_limit rest in
     omega arith
 

@@ -17,15 +17,15 @@ pub record Named : Type 0 where
   pub count : ℕ
   pub value : List ℕ
 
-abbrev pub unnamed : Named
-unnamed = record { count = 0; value = [] }
+abbrev pub none_named : Named
+none_named = record { count = 0; value = [] }
 
 abbrev pub named_with : List ℕ → Named → Pair → Named
 named_with name found pair =
     if str_eq_ignore_ascii_case pair.0 name then record { count = found.count + 1; value = pair.1 } else found
 
-abbrev pub named : List ℕ → List Pair → Named
-named name pairs = fold (named_with name) unnamed pairs
+abbrev pub fields_named : List ℕ → List Pair → Named
+fields_named name pairs = fold (named_with name) none_named pairs
 
 abbrev pub key_name : List ℕ
 key_name = codes "x-agent-key"
@@ -70,13 +70,13 @@ said_length found =
 -- order: a coding of the body, two lengths or one not in its form, a length past the limit
 abbrev pub length_by : List Pair → Result (Option ℕ) HttpFault
 length_by pairs =
-    if nat_lt 0 (named coding_name pairs).count then Err HttpFault.S501 else said_length (named length_name pairs)
+    if nat_lt 0 (fields_named coding_name pairs).count then Err HttpFault.S501 else said_length (fields_named length_name pairs)
 
 abbrev pub pairs_of : RequestHead → List Pair
 pairs_of head = map name_and_value head.fields
 
 abbrev pub key_of : RequestHead → List ℕ
-key_of head = only_value (named key_name (pairs_of head))
+key_of head = only_value (fields_named key_name (pairs_of head))
 
 abbrev pub body_length : RequestHead → Result (Option ℕ) HttpFault
 body_length head = length_by (pairs_of head)

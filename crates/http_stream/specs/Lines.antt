@@ -25,12 +25,12 @@ with_byte scan byte =
     else if byte == 10 then line_ended scan.line scan.filled (scan.size + 1)
     else record { line = line_with scan.line byte; filled = scan.filled; size = scan.size + 1; ended = false }
 
-abbrev pub unscanned : Scan
-unscanned = record { line = Line.Nothing; filled = 0; size = 0; ended = false }
+abbrev pub scan_of_nothing : Scan
+scan_of_nothing = record { line = Line.Nothing; filled = 0; size = 0; ended = false }
 
 -- what the lines of a text show
 abbrev pub scan_of : List ℕ → Scan
-scan_of text = fold with_byte unscanned text
+scan_of text = fold with_byte scan_of_nothing text
 
 -- a head has at most so many bytes and so many fields
 abbrev pub head_limit : ℕ

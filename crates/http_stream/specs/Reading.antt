@@ -9,7 +9,7 @@ use Rattle.http_stream.specs.declared.head.Facts.{Facts}
 use Rattle.http_stream.specs.declared.head.HeadAt.{HeadAt}
 use Rattle.http_stream.specs.declared.head.Parsed.{Parsed}
 use Rattle.http_stream.specs.declared.head.Tally.{Tally}
-use Rattle.http_stream.specs.Heads.{Named, Pair, body_length, coding_name, is_close, key_name, length_name, named_with, said_length, unnamed}
+use Rattle.http_stream.specs.Heads.{Named, Pair, body_length, coding_name, is_close, key_name, length_name, named_with, said_length, none_named}
 use Rattle.http_stream.specs.Stream.{Begins, IsHeadAt}
 
 abbrev pub named_of : List ℕ → Tally → Named
@@ -23,7 +23,7 @@ pub record FieldFacts : Type 0 where
   pub closes : Bool
 
 abbrev pub no_facts : FieldFacts
-no_facts = record { key = unnamed; length = unnamed; coding = unnamed; closes = false }
+no_facts = record { key = none_named; length = none_named; coding = none_named; closes = false }
 
 abbrev pub facts_with : FieldFacts → Pair → FieldFacts
 facts_with facts pair = record {

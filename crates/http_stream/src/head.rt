@@ -176,7 +176,8 @@ fn facts_of(text: &[u8], size: usize, fields: &[HeaderSpan]) -> Facts
     requires in_text { size ≤ length text.now }
     requires few { length fields.now ≤ 64 }
     requires within { All (IsHeaderWithin size) fields.now }
-    ensures value { facts_of text.now result ≡ fold facts_with no_facts (map (header_bytes text.now) fields.now) }
+    ensures value { facts_of text.now result
+        ≡ fold facts_with no_facts (map (header_bytes text.now) fields.now) }
     ensures within { AreFactsWithin size result }
 {
     let mut facts = NO_FACTS;
@@ -190,11 +191,13 @@ fn with_field(text: &[u8], size: usize, facts: Facts, field: HeaderSpan) -> Fact
     requires in_text { size ≤ length text.now }
     requires within { AreFactsWithin size facts }
     requires field_within { IsHeaderWithin size field }
-    requires few { (facts.key.count < 2 ^ 32) × (facts.length.count < 2 ^ 32) × (facts.coding.count < 2 ^ 32) }
+    requires few { (facts.key.count < 2 ^ 32) × (facts.length.count < 2 ^ 32)
+        × (facts.coding.count < 2 ^ 32) }
     ensures value { facts_of text.now result
         ≡ facts_with (facts_of text.now facts) (header_bytes text.now field) }
     ensures within { AreFactsWithin size result }
-    ensures few { (result.key.count ≤ facts.key.count + 1) × (result.length.count ≤ facts.length.count + 1)
+    ensures few { (result.key.count ≤ facts.key.count + 1)
+        × (result.length.count ≤ facts.length.count + 1)
         × (result.coding.count ≤ facts.coding.count + 1) }
 {
     let name = field.name.of(text);
@@ -212,7 +215,8 @@ fn with_field(text: &[u8], size: usize, facts: Facts, field: HeaderSpan) -> Fact
 
 fn with_value(tally: Tally, counts: bool, value: Span) -> Tally
     requires { tally.count < 2 ^ 32 }
-    ensures { result ≡ (if counts then record { count = tally.count + 1; value = value } else tally) }
+    ensures { result ≡ (if counts then record { count = tally.count + 1; value = value }
+        else tally) }
 {
     if counts {
         Tally {

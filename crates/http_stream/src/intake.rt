@@ -59,10 +59,12 @@ impl Model for Intake {
 
     ghost Value = { Stream };
 
-    ghost view = { λ i. record { rest = drop i.start i.bytes.items; given = i.given; closed = i.closed } };
+    ghost view = { λ i. record { rest = drop i.start i.bytes.items; given = i.given;
+        closed = i.closed } };
 
     ghost invariant = { λ i. (i.start ≤ vec_len i.bytes)
-        × IsKept (record { rest = drop i.start i.bytes.items; given = i.given; closed = i.closed }) i.scan i.waiting };
+        × IsKept (record { rest = drop i.start i.bytes.items; given = i.given; closed = i.closed })
+        i.scan i.waiting };
 }
 
 impl Intake {
@@ -232,7 +234,8 @@ fn window_of(rest: &[u8]) -> &[u8]
 }
 
 fn open_or_full(came: usize, scan: Scan) -> Seen
-    ensures { result ≡ (if nat_lt came head_limit then Seen.Open scan else Seen.Closing HttpFault.S431) }
+    ensures { result ≡ (if nat_lt came head_limit then Seen.Open scan
+        else Seen.Closing HttpFault.S431) }
 {
     if came < HEAD_LIMIT {
         Seen::Open(scan)

@@ -39,7 +39,8 @@ pub(crate) fn brackets_of(alloc: Global, text: &[u8]) -> Result<Option<FrontBrac
 }
 
 fn listed_brackets(alloc: Global, text: &[u8]) -> Result<Option<Brackets>, NoMemory>
-    ensures { IfOk result (λ brackets. brackets ≡ form.each form.bracket (form.list_items text.now)) }
+    ensures { IfOk result (λ brackets. brackets
+        ≡ form.each form.bracket (form.list_items text.now)) }
 {
     let items = list_items(alloc, text)?;
     let mut brackets = Brackets::new(alloc);

@@ -48,7 +48,8 @@ fn buy_body(place: u8, class: Identifier, text: &[u8]) -> Result<Body, FormFault
 }
 
 fn sell_body(place: u8, class: Identifier, text: &[u8]) -> Result<Body, FormFault>
-    ensures { Gives result (at place (option_map (Body.Sell class) (field_form.quantity text.now))) }
+    ensures { Gives result (at place (option_map (Body.Sell class)
+        (field_form.quantity text.now))) }
 {
     match quantity_of(text) {
         Some(mils) => Ok(Body::Sell { class, mils }),
@@ -57,7 +58,8 @@ fn sell_body(place: u8, class: Identifier, text: &[u8]) -> Result<Body, FormFaul
 }
 
 fn sell_cash_body(place: u8, class: Identifier, text: &[u8]) -> Result<Body, FormFault>
-    ensures { Gives result (at place (option_map (Body.SellCash class) (field_form.amount text.now))) }
+    ensures { Gives result (at place (option_map (Body.SellCash class)
+        (field_form.amount text.now))) }
 {
     match amount_of(text) {
         Some(amount) => Ok(Body::SellCash { class, amount }),
@@ -76,7 +78,8 @@ fn exchange_all_body(place: u8, class: Identifier, text: &[u8]) -> Result<Body, 
 }
 
 fn letter_body(place: u8, class: Identifier, text: &[u8]) -> Result<Body, FormFault>
-    ensures { Gives result (at place (option_map (Body.Letter class) (field_form.amount text.now))) }
+    ensures { Gives result (at place (option_map (Body.Letter class)
+        (field_form.amount text.now))) }
 {
     match amount_of(text) {
         Some(amount) => Ok(Body::Letter { class, amount }),
@@ -111,7 +114,8 @@ fn body_form(
     fields: &[&[u8]],
 ) -> Result<Body, FormFault>
     requires { before ≤ 4 }
-    ensures { Gives result (form.body_form verb.now before class (map (λ text. text.now) fields.now)) }
+    ensures { Gives result (form.body_form verb.now before class
+        (map (λ text. text.now) fields.now)) }
 {
     let place = before + 4;
     let text = field(fields, place);
@@ -171,7 +175,8 @@ pub(crate) fn order_or_unknown(verb: &[u8], fields: &[&[u8]]) -> Result<Request,
 // Whether a verb that carries an order has enough fields to reach it, and as many as the order needs where that is known.
 fn is_counted(lead: u8, fields: &[&[u8]]) -> bool
     requires { 1 ≤ lead }
-    ensures { (asks : List (List ℕ) → Asked) → form.with_order lead asks (map (λ text. text.now) fields.now)
+    ensures { (asks : List (List ℕ) → Asked)
+        → form.with_order lead asks (map (λ text. text.now) fields.now)
         ≡ (if result then asks (map (λ text. text.now) fields.now) else Err 0) }
 {
     if fields.len() < lead as usize {
@@ -240,7 +245,8 @@ fn replace_form(fields: &[&[u8]]) -> Result<Request, FormFault>
 
 /// What asks to enter an order with a past receipt.
 pub(crate) fn enter_asked(fields: &[&[u8]]) -> Result<Request, FormFault>
-    ensures { Gives result (form.with_order 4 form.enter_asked (map (λ text. text.now) fields.now)) }
+    ensures { Gives result (form.with_order 4 form.enter_asked
+        (map (λ text. text.now) fields.now)) }
 {
     if !is_counted(4, fields) {
         return Err(FormFault::Place(0));
@@ -250,7 +256,8 @@ pub(crate) fn enter_asked(fields: &[&[u8]]) -> Result<Request, FormFault>
 
 /// What asks to replace an order.
 pub(crate) fn replace_asked(fields: &[&[u8]]) -> Result<Request, FormFault>
-    ensures { Gives result (form.with_order 4 form.replace_asked (map (λ text. text.now) fields.now)) }
+    ensures { Gives result (form.with_order 4 form.replace_asked
+        (map (λ text. text.now) fields.now)) }
 {
     if !is_counted(4, fields) {
         return Err(FormFault::Place(0));

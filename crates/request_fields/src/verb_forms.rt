@@ -269,7 +269,8 @@ fn statement_form(fields: &[&[u8]]) -> Result<Request, FormFault>
 }
 
 fn calendar_asked(alloc: Global, fields: &[&[u8]]) -> Result<Request, FormFault>
-    ensures { Gives result (form.of_length 6 verb_form.calendar_asked (map (λ text. text.now) fields.now)) }
+    ensures { Gives result (form.of_length 6 verb_form.calendar_asked
+        (map (λ text. text.now) fields.now)) }
 {
     if fields.len() == 6 {
         calendar_form(alloc, fields)
@@ -279,7 +280,8 @@ fn calendar_asked(alloc: Global, fields: &[&[u8]]) -> Result<Request, FormFault>
 }
 
 fn close_asked(fields: &[&[u8]]) -> Result<Request, FormFault>
-    ensures { Gives result (form.of_length 2 verb_form.close_asked (map (λ text. text.now) fields.now)) }
+    ensures { Gives result (form.of_length 2 verb_form.close_asked
+        (map (λ text. text.now) fields.now)) }
 {
     if fields.len() == 2 {
         close_form(fields)
@@ -289,7 +291,8 @@ fn close_asked(fields: &[&[u8]]) -> Result<Request, FormFault>
 }
 
 fn dealer_asked(alloc: Global, fields: &[&[u8]]) -> Result<Request, FormFault>
-    ensures { Gives result (form.of_length 3 verb_form.dealer_asked (map (λ text. text.now) fields.now)) }
+    ensures { Gives result (form.of_length 3 verb_form.dealer_asked
+        (map (λ text. text.now) fields.now)) }
 {
     if fields.len() == 3 {
         dealer_form(alloc, fields)
@@ -310,7 +313,8 @@ fn household_asked(alloc: Global, fields: &[&[u8]]) -> Result<Request, FormFault
 }
 
 fn account_asked(alloc: Global, fields: &[&[u8]]) -> Result<Request, FormFault>
-    ensures { Gives result (form.of_length 4 verb_form.account_asked (map (λ text. text.now) fields.now)) }
+    ensures { Gives result (form.of_length 4 verb_form.account_asked
+        (map (λ text. text.now) fields.now)) }
 {
     if fields.len() == 4 {
         account_form(alloc, fields)
@@ -320,7 +324,8 @@ fn account_asked(alloc: Global, fields: &[&[u8]]) -> Result<Request, FormFault>
 }
 
 fn dividend_asked(fields: &[&[u8]]) -> Result<Request, FormFault>
-    ensures { Gives result (form.of_length 3 verb_form.dividend_asked (map (λ text. text.now) fields.now)) }
+    ensures { Gives result (form.of_length 3 verb_form.dividend_asked
+        (map (λ text. text.now) fields.now)) }
 {
     if fields.len() == 3 {
         dividend_form(fields)
@@ -330,7 +335,8 @@ fn dividend_asked(fields: &[&[u8]]) -> Result<Request, FormFault>
 }
 
 fn fixprice_asked(fields: &[&[u8]]) -> Result<Request, FormFault>
-    ensures { Gives result (form.of_length 5 verb_form.fixprice_asked (map (λ text. text.now) fields.now)) }
+    ensures { Gives result (form.of_length 5 verb_form.fixprice_asked
+        (map (λ text. text.now) fields.now)) }
 {
     if fields.len() == 5 {
         fixprice_form(fields)
@@ -340,7 +346,8 @@ fn fixprice_asked(fields: &[&[u8]]) -> Result<Request, FormFault>
 }
 
 fn fixrate_asked(fields: &[&[u8]]) -> Result<Request, FormFault>
-    ensures { Gives result (form.of_length 5 verb_form.fixrate_asked (map (λ text. text.now) fields.now)) }
+    ensures { Gives result (form.of_length 5 verb_form.fixrate_asked
+        (map (λ text. text.now) fields.now)) }
 {
     if fields.len() == 5 {
         fixrate_form(fields)
@@ -350,7 +357,8 @@ fn fixrate_asked(fields: &[&[u8]]) -> Result<Request, FormFault>
 }
 
 fn void_asked(fields: &[&[u8]]) -> Result<Request, FormFault>
-    ensures { Gives result (form.of_length 4 verb_form.void_asked (map (λ text. text.now) fields.now)) }
+    ensures { Gives result (form.of_length 4 verb_form.void_asked
+        (map (λ text. text.now) fields.now)) }
 {
     if fields.len() == 4 {
         void_form(fields)
@@ -360,7 +368,8 @@ fn void_asked(fields: &[&[u8]]) -> Result<Request, FormFault>
 }
 
 fn cancel_asked(fields: &[&[u8]]) -> Result<Request, FormFault>
-    ensures { Gives result (form.of_length 3 verb_form.cancel_asked (map (λ text. text.now) fields.now)) }
+    ensures { Gives result (form.of_length 3 verb_form.cancel_asked
+        (map (λ text. text.now) fields.now)) }
 {
     if fields.len() == 3 {
         cancel_form(fields)
@@ -370,7 +379,8 @@ fn cancel_asked(fields: &[&[u8]]) -> Result<Request, FormFault>
 }
 
 fn trace_asked(fields: &[&[u8]]) -> Result<Request, FormFault>
-    ensures { Gives result (form.of_length 2 verb_form.trace_asked (map (λ text. text.now) fields.now)) }
+    ensures { Gives result (form.of_length 2 verb_form.trace_asked
+        (map (λ text. text.now) fields.now)) }
 {
     if fields.len() == 2 {
         trace_form(fields)
@@ -391,7 +401,8 @@ fn statement_asked(fields: &[&[u8]]) -> Result<Request, FormFault>
 }
 
 fn class_asked(alloc: Global, fields: &[&[u8]]) -> Result<Request, FormFault>
-    ensures { Gives result (form.of_length 10 verb_form.class_asked (map (λ text. text.now) fields.now)) }
+    ensures { Gives result (form.of_length 10 verb_form.class_asked
+        (map (λ text. text.now) fields.now)) }
 {
     if fields.len() == 10 {
         class_request(alloc, fields)
@@ -401,7 +412,8 @@ fn class_asked(alloc: Global, fields: &[&[u8]]) -> Result<Request, FormFault>
 }
 
 fn sheet_asked(alloc: Global, fields: &[&[u8]]) -> Result<Request, FormFault>
-    ensures { Gives result (form.of_length 3 verb_form.sheet_asked (map (λ text. text.now) fields.now)) }
+    ensures { Gives result (form.of_length 3 verb_form.sheet_asked
+        (map (λ text. text.now) fields.now)) }
 {
     if fields.len() == 3 {
         sheet_request(alloc, fields)
@@ -411,7 +423,8 @@ fn sheet_asked(alloc: Global, fields: &[&[u8]]) -> Result<Request, FormFault>
 }
 
 fn show_asked(fields: &[&[u8]]) -> Result<Request, FormFault>
-    ensures { Gives result (form.of_length 1 verb_form.show_asked (map (λ text. text.now) fields.now)) }
+    ensures { Gives result (form.of_length 1 verb_form.show_asked
+        (map (λ text. text.now) fields.now)) }
 {
     if fields.len() == 1 {
         show_request(fields)
@@ -421,7 +434,8 @@ fn show_asked(fields: &[&[u8]]) -> Result<Request, FormFault>
 }
 
 fn books_asked(fields: &[&[u8]]) -> Result<Request, FormFault>
-    ensures { Gives result (form.of_length 0 verb_form.books_asked (map (λ text. text.now) fields.now)) }
+    ensures { Gives result (form.of_length 0 verb_form.books_asked
+        (map (λ text. text.now) fields.now)) }
 {
     if fields.len() == 0 {
         Ok(Request::Books)
