@@ -1,0 +1,20 @@
+//! What no clause says of a household over its sheets, of gains and cash, and of statements: that calls succeed with ample
+//! memory, and what the shares, the amounts and the lines are.
+#![tactic(auto)]
+
+#[cfg(test)]
+mod dividends;
+#[cfg(test)]
+mod exchanges;
+#[cfg(test)]
+mod fixtures;
+#[cfg(test)]
+mod letters;
+#[cfg(test)]
+mod purchases;
+#[cfg(test)]
+mod redemptions;
+#[cfg(test)]
+mod statements;
+#[cfg(test)]
+mod unfilled;
