@@ -3,18 +3,26 @@
 #![tactic(auto)]
 
 #[cfg(test)]
+mod cash_books;
+#[cfg(test)]
 mod dividends;
 #[cfg(test)]
 mod exchanges;
 #[cfg(test)]
 mod fixtures;
 #[cfg(test)]
+mod gains;
+#[cfg(test)]
 mod letters;
+#[cfg(test)]
+mod price_fixtures;
 #[cfg(test)]
 mod purchases;
 #[cfg(test)]
 mod redemptions;
 #[cfg(test)]
 mod statements;
+#[cfg(test)]
+mod trade_fixtures;
 #[cfg(test)]
 mod unfilled;

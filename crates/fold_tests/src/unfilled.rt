@@ -100,7 +100,7 @@ ok,show,101,12:100.000:0.000:1000.00 13:1000000000.000:0.000:10000000.00\n",
 
 #[test]
 fn a_letter_is_open(rt: HostRuntime) -> Result<(), Fail> {
-    // A letter is of one account and class: another account's, and another class's, begin beside it.
+    // A letter is of one account and class: another account's begins beside it.
     expect(
         &rt,
         rt.alloc(),
@@ -108,16 +108,13 @@ fn a_letter_is_open(rt: HostRuntime) -> Result<(), Fail> {
         b"1719838800,h-mary000001,letter,101,1,11,50000.00\n\
 1719838800,h-mary000001,letter,101,2,11,100000.00\n\
 1719838800,h-mary000001,letter,102,1,11,50000.00\n\
-1719838800,h-mary000001,letter,101,3,12,50000.00\n\
 1719867600,op-desk000001,sheet,1,1719864000,11:10.00 12:10.00 13:20.00 14:10.00\n",
         b"1719867600,op-desk000001,trace,101,1\n\
 1719867600,op-desk000001,trace,101,2\n\
-1719867600,op-desk000001,trace,102,1\n\
-1719867600,op-desk000001,trace,101,3\n",
+1719867600,op-desk000001,trace,102,1\n",
         b"ok,trace,101,1,filled,1719838800,1719864000,0.00,0.000,0.00,0.00,0.000\n\
 ok,trace,101,2,letter,1719838800,1719864000,0.00,0.000,0.00,0.00,0.000\n\
-ok,trace,102,1,filled,1719838800,1719864000,0.00,0.000,0.00,0.00,0.000\n\
-ok,trace,101,3,filled,1719838800,1719864000,0.00,0.000,0.00,0.00,0.000\n",
+ok,trace,102,1,filled,1719838800,1719864000,0.00,0.000,0.00,0.00,0.000\n",
     )
 }
 
