@@ -105,7 +105,7 @@ fn replies<K: Keeper, L: Ledger>(
     ensures attached { IsTrue (K.is_attached keeper.new) }
     ensures told { TellsRowsOf (K.tells keeper.new) desk.new.book.journal }
 {
-    let mut sink = MemorySink::new(alloc, 4096, 65536, &[])?;
+    let mut sink = MemorySink::new(alloc, 4096, 1_000_000, &[])?;
     answer_script(alloc, OPERATOR, desk, keeper, script, &mut sink, steps)?;
     Ok(Vec::from_slice(alloc, sink.contents())?)
 }
@@ -135,7 +135,7 @@ fn answered<L: Ledger>(
     blank: Blank,
     script: &[u8],
     looks: &[u8],
-) -> Result<Vec<u8>, Fail>
+) -> Result<(Vec<u8>, Vec<u8>), Fail>
     requires name { blank.name ≡ L.name }
     requires parts { blank.parts ≡ L.parts }
     requires some { 0 < blank.parts }
@@ -144,7 +144,22 @@ fn answered<L: Ledger>(
     let mut keeper = MemoryKeeper::new(alloc, &[])?;
     let mut desk = Desk::start(alloc, &mut keeper, &mut steps)?;
     enter(alloc, &mut desk, &mut keeper, script, &mut steps)?;
-    replies(alloc, &mut desk, &mut keeper, looks, &mut steps)
+    let once = replies(alloc, &mut desk, &mut keeper, looks, &mut steps)?;
+    let mut opened = Desk::start(alloc, &mut keeper, &mut steps)?;
+    let again = replies(alloc, &mut opened, &mut keeper, looks, &mut steps)?;
+    Ok((once, again))
+}
+
+/// The replies to looks behind a calendar, the classes and accounts, and items of which each brings its event; and once more
+/// from a desk that is opened over the same rows.
+pub fn looks_behind_twice(
+    alloc: Global,
+    calendar: &[u8],
+    items: &[u8],
+    looks: &[u8],
+) -> Result<(Vec<u8>, Vec<u8>), Fail> {
+    let script = together(alloc, &[calendar, FAMILY, items])?;
+    answered::<Brand>(alloc, Blank::new(1), &script, looks)
 }
 
 /// The replies to looks behind a calendar, the classes and accounts, and items of which each brings its event.
@@ -154,8 +169,8 @@ pub fn looks_behind(
     items: &[u8],
     looks: &[u8],
 ) -> Result<Vec<u8>, Fail> {
-    let script = together(alloc, &[calendar, FAMILY, items])?;
-    answered::<Brand>(alloc, Blank::new(1), &script, looks)
+    let (once, _) = looks_behind_twice(alloc, calendar, items, looks)?;
+    Ok(once)
 }
 
 /// The replies to looks behind items are these lines.

@@ -37,7 +37,11 @@ fn a_corrected_price_is_the_latest_one_too(rt: HostRuntime) -> Result<(), Fail> 
         let corrected = changes(rt.alloc(), &bought, &corrected)?;
         assert_eq!(rt; corrected.cash.len(), 0);
         let gains = gains_of(rt.alloc(), &corrected, &prices, Some(patch))?;
-        assert_eq!(rt; gains.as_slice(), [gain(14, wanted)?].as_slice(), "at {cents}");
+        assert_eq!(rt;
+            gains.as_slice(),
+            [gain(14, wanted)?].as_slice(),
+            "at {cents}"
+        );
     }
     Ok(())
 }
@@ -76,7 +80,10 @@ fn an_order_in_another_class_changes_both(rt: HostRuntime) -> Result<(), Fail> {
     let before = [purchase(12, 100_000, 100_000)?];
     let after = [purchase(14, 100_000, 100_000)?];
     let replaced = changes(rt.alloc(), &before, &after)?;
-    for (first, second, gained, lost) in [(900, 1_050, -10_000, -5_000), (1_100, 950, 10_000, 5_000)] {
+    for (first, second, gained, lost) in [
+        (900, 1_050, -10_000, -5_000),
+        (1_100, 950, 10_000, 5_000),
+    ] {
         let prices = two_sheets(rt.alloc(), first, second)?;
         let gains = gains_of(rt.alloc(), &replaced, &prices, None)?;
         let wanted = [gain(12, gained)?, gain(14, lost)?];
@@ -99,10 +106,22 @@ fn shares_alone(alloc: Global, mils: i128) -> Result<Changes, Fail> {
 fn a_gain_is_rounded_by_its_size_and_listed_at_nothing(rt: HostRuntime) -> Result<(), Fail> {
     // At 1.00 a mil is a tenth of a cent. Half a cent is a cent, up and down; less is nothing, and the class is listed.
     let prices = one_sheet(rt.alloc(), 100, 100)?;
-    for (mils, wanted) in [(4, 0), (5, -1), (14, -1), (15, -2), (-4, 0), (-5, 1), (-15, 2)] {
+    for (mils, wanted) in [
+        (4, 0),
+        (5, -1),
+        (14, -1),
+        (15, -2),
+        (-4, 0),
+        (-5, 1),
+        (-15, 2),
+    ] {
         let changed = shares_alone(rt.alloc(), mils)?;
         let gains = gains_of(rt.alloc(), &changed, &prices, None)?;
-        assert_eq!(rt; gains.as_slice(), [gain(14, wanted)?].as_slice(), "of {mils} mils");
+        assert_eq!(rt;
+            gains.as_slice(),
+            [gain(14, wanted)?].as_slice(),
+            "of {mils} mils"
+        );
     }
     // What is bought at the latest price changes cash and shares alike.
     let entered = changes(rt.alloc(), &[], &[purchase(14, 600_000, 60_000)?])?;

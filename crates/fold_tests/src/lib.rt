@@ -5,6 +5,8 @@
 #[cfg(test)]
 mod cash_books;
 #[cfg(test)]
+mod corrections;
+#[cfg(test)]
 mod dividends;
 #[cfg(test)]
 mod exchanges;
@@ -12,6 +14,8 @@ mod exchanges;
 mod fixtures;
 #[cfg(test)]
 mod gains;
+#[cfg(test)]
+mod ledgers;
 #[cfg(test)]
 mod letters;
 #[cfg(test)]
