@@ -146,7 +146,8 @@ fn whoever_bears_a_loss_pays_it_to_the_class(rt: HostRuntime) -> Result<(), Fail
 
 #[test]
 fn a_gain_is_paid_to_nobody(rt: HostRuntime) -> Result<(), Fail> {
-    // In the place of class 12, at 11.00, 1000.00 go to class 14, at 10.50: a gain of 100.00, and a loss of 50.00, which is paid.
+    // In the place of class 12, at 11.00, 1000.00 go to class 14, at 10.50: a gain of 100.00, and a loss of 50.00, which
+    // is paid.
     let prices = two_sheets(rt.alloc(), 1_100, 1_050)?;
     let before = [purchase(12, 100_000, 100_000)?];
     let after = [purchase(14, 100_000, 100_000)?];
@@ -185,8 +186,8 @@ fn no_changes(alloc: Global) -> Changes {
 
 #[test]
 fn each_correction_keeps_its_own_gains(rt: HostRuntime) -> Result<(), Fail> {
-    // The price of 1000.00 is corrected to 12.50, which leaves 20.000 shares less, and then to 8.00, which brings 45.000 more: at the latest
-    // 10.00 a gain of 200.00, and a loss of 450.00. A repeat asks for the gains of its own place.
+    // The price of 1000.00 is corrected to 12.50, which leaves 20.000 shares less, and then to 8.00, which brings 45.000
+    // more: at the latest 10.00 a gain of 200.00, and a loss of 450.00. A repeat asks for the gains of its own place.
     let prices = two_sheets(rt.alloc(), 1_000, 1_000)?;
     let first = [purchase(14, 100_000, 100_000)?];
     let second = [purchase(14, 80_000, 100_000)?];

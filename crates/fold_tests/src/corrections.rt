@@ -4,8 +4,8 @@ use std::test::Fail;
 
 #[test]
 fn an_order_entered_late(rt: HostRuntime) -> Result<(), Fail> {
-    // 10000.00 at the first sheet's 10.00 are 1000.000 shares, which are worth 10500.00 by now. The dealer pays the difference. Sent
-    // again, the correction is answered as before, and nothing is paid twice.
+    // 10000.00 at the first sheet's 10.00 are 1000.000 shares, which are worth 10500.00 by now. The dealer pays the
+    // difference. Sent again, the correction is answered as before, and nothing is paid twice.
     expect(
         &rt,
         rt.alloc(),
@@ -31,9 +31,10 @@ ok,books,11:0.000:0.00 12:0.000:0.00 13:0.000:0.00 14:0.000:500.00,0.00,0.00,5:-
 
 #[test]
 fn a_price_corrected_and_corrected_again(rt: HostRuntime) -> Result<(), Fail> {
-    // At 10.50 in the place of 10.00 1000.00 are 95.238 shares, 4.762 less, which are 50.00 (50.001) at that price: a gain without
-    // cash, though the agent would bear a loss. At 9.50 they are 105.263, 10.025 more, and 95.24 (95.2375): a loss that the
-    // fund bears without cash. At 8.00 they are 125.000, 19.737 more, and 157.90 (157.896), which the agent pays.
+    // At 10.50 in the place of 10.00 1000.00 are 95.238 shares, 4.762 less, which are 50.00 (50.001) at that price: a
+    // gain without cash, though the agent would bear a loss. At 9.50 they are 105.263, 10.025 more, and 95.24 (95.2375):
+    // a loss that the fund bears without cash. At 8.00 they are 125.000, 19.737 more, and 157.90 (157.896), which the
+    // agent pays.
     expect(
         &rt,
         rt.alloc(),
@@ -62,9 +63,10 @@ ok,fix,2,14:-95.24\n",
 
 #[test]
 fn a_gain_of_nothing_and_losses_of_two_classes(rt: HostRuntime) -> Result<(), Fail> {
-    // 600.00 at 10.00 bring 60.000 shares that are worth as much: the class is told. In the place of class 14, at 10.50 by then, they
-    // buy 60.000 shares of class 12, at 11.00. Class 14 gains 30.00; class 12 loses 60.00. Moved back where class 12 stands at 9.00
-    // and class 14 at 10.50: class 12 gives 600.00 for shares worth 540.00, and class 14 has 600.00 for shares worth 630.00.
+    // 600.00 at 10.00 bring 60.000 shares that are worth as much: the class is told. In the place of class 14, at 10.50
+    // by then, they buy 60.000 shares of class 12, at 11.00. Class 14 gains 30.00; class 12 loses 60.00. Moved back where
+    // class 12 stands at 9.00 and class 14 at 10.50: class 12 gives 600.00 for shares worth 540.00, and class 14 has
+    // 600.00 for shares worth 630.00.
     expect(
         &rt,
         rt.alloc(),
@@ -110,7 +112,8 @@ ok,books,11:0.000:0.00 12:0.000:0.00 13:0.000:0.00 14:0.000:0.00,0.00,0.00,5:0.0
 
 #[test]
 fn a_corrected_rate_changes_its_sheet(rt: HostRuntime) -> Result<(), Fail> {
-    // 0.10 on 100.000 shares are 10.00, and 1.000 share at 10.00; 0.25 are 25.00, and 2.500; none are none. The class gives no cash away.
+    // 0.10 on 100.000 shares are 10.00, and 1.000 share at 10.00; 0.25 are 25.00, and 2.500; none are none. The class
+    // gives no cash away.
     expect(
         &rt,
         rt.alloc(),

@@ -4,7 +4,8 @@ use std::test::Fail;
 
 #[test]
 fn a_dividend_is_reinvested_at_its_sheet(rt: HostRuntime) -> Result<(), Fail> {
-    // 0.12 on 942.507 shares are 113.10 (113.10084), and 11.424 shares (11.4242) at 9.90.
+    // Dividends are reinvested unless something else is elected. 0.12 on 942.507 shares are 113.10 (113.10084), and
+    // 11.424 shares (11.4242) at 9.90.
     expect(
         &rt,
         rt.alloc(),
@@ -28,8 +29,9 @@ ok,books,11:953.931:9425.07 12:0.000:0.00 13:0.000:0.00 14:0.000:0.00,574.93,0.0
 
 #[test]
 fn a_dividend_is_paid_in_cash_where_that_is_elected(rt: HostRuntime) -> Result<(), Fail> {
-    // 0.12 on 100.000 shares are 12.00. The election is the account's own in that class: the other account's dividend is
-    // reinvested. Elected anew for shares, behind the sheet's dividend, the next one is reinvested: 24.00 at 10.00.
+    // Elected in cash, a dividend of 0.12 on 100.000 shares is 12.00 for the holder. The election is the account's own in
+    // that class: the other account's dividend is reinvested. Elected anew for shares, behind the sheet's dividend, the
+    // next one is reinvested: 24.00 at 10.00.
     expect(
         &rt,
         rt.alloc(),
@@ -58,7 +60,8 @@ ok,show,101,12:102.400:0.000:1024.00\n",
 
 #[test]
 fn a_dividend_that_brings_no_share_is_paid(rt: HostRuntime) -> Result<(), Fail> {
-    // On 1.000 share 0.01 is a cent, and no share at 100000.00; 0.004 is no cent, and no trade.
+    // Where no mil results, a dividend is paid in cash. On 1.000 share 0.01 is a cent, and no share at 100000.00; 0.004
+    // is no cent, and no trade.
     expect(
         &rt,
         rt.alloc(),
@@ -81,8 +84,9 @@ ok,books,11:0.000:0.00 12:0.000:0.00 13:0.000:0.00 14:1.000:99999.99,0.00,0.00,5
 
 #[test]
 fn a_dividend_past_the_ceiling_is_paid(rt: HostRuntime) -> Result<(), Fail> {
-    // 1,000,000,000.000 shares at 0.01 are as many as a position may have. A millionth of a dollar on each is 1000.00, paid in cash;
-    // on half as many 500.00, and 50,000.000 shares.
+    // A dividend that would bring a position past its ceiling is paid in cash. 1,000,000,000.000 shares at 0.01 are as
+    // many as a position may have. A millionth of a dollar on each is 1000.00, paid in cash; on half as many 500.00, and
+    // 50,000.000 shares.
     expect(
         &rt,
         rt.alloc(),
@@ -104,7 +108,8 @@ ok,books,11:0.000:0.00 12:0.000:0.00 13:0.000:0.00 14:1500050000.000:14999000.00
 
 #[test]
 fn dividends_come_before_the_orders_of_their_sheet(rt: HostRuntime) -> Result<(), Fail> {
-    // 0.50 on 100.000 shares are 5.000 more, and all 105.000 are sold on the same sheet. What is bought on it has no dividend.
+    // Dividends come before all orders of a sheet. 0.50 on 100.000 shares are 5.000 more, and all 105.000 are sold on the
+    // same sheet. What is bought on it has no dividend.
     expect(
         &rt,
         rt.alloc(),
@@ -127,7 +132,8 @@ ok,show,102,14:40.000:0.000:400.00\n",
 
 #[test]
 fn escrow_has_its_dividend(rt: HostRuntime) -> Result<(), Fail> {
-    // 955.110 shares, of which 238.778 are held: 0.12 on all of them are 114.61 (114.6132), and 11.461 loose shares at 10.00.
+    // A dividend pays on loose and held shares. Of 955.110 shares 238.778 are held: 0.12 on all of them are 114.61
+    // (114.6132), and 11.461 loose shares at 10.00.
     expect(
         &rt,
         rt.alloc(),

@@ -4,8 +4,9 @@ use std::test::Fail;
 
 #[test]
 fn shares_that_were_exchanged_keep_their_date(rt: HostRuntime) -> Result<(), Fail> {
-    // 100.000 shares of 2024-07-01 are 1000.00 at 10.00, and 50.000 shares at 20.00 on 2025-06-30. Sold a day later, they have had their
-    // anniversary: 4 % of 1000.00, where 5 % would be due from the exchange on.
+    // A piece keeps its date. 100.000 shares of 2024-07-01 are 1000.00 at 10.00, and 50.000 shares at 20.00 on
+    // 2025-06-30. Sold a day later, they have had their anniversary: 4 % of 1000.00, where 5 % would be due from the
+    // exchange on.
     expect(
         &rt,
         rt.alloc(),
@@ -28,8 +29,9 @@ ok,books,11:0.000:0.00 12:0.000:0.00 13:0.000:0.00 14:0.000:0.00,40.00,0.00,5:0.
 
 #[test]
 fn free_shares_stay_free(rt: HostRuntime) -> Result<(), Fail> {
-    // 5.000 free shares by a dividend of 0.50 go over first, and 45.000 others: 500.00 at 10.00, which are 2.500 and 22.500 shares
-    // at 20.00, with costs of 50.00 and 450.00. Of 10.000 that are sold 7.500 are charged, which cost 150.00: 5 % are 7.50.
+    // A piece of the free lot joins the target's free lot. 5.000 free shares by a dividend of 0.50 go over first, and
+    // 45.000 others: 500.00 at 10.00, which are 2.500 and 22.500 shares at 20.00, with costs of 50.00 and 450.00. Of
+    // 10.000 that are sold 7.500 are charged, which cost 150.00: 5 % are 7.50.
     expect(
         &rt,
         rt.alloc(),
@@ -54,8 +56,9 @@ ok,show,101,12:55.000:0.000:550.00 13:15.000:0.000:300.00\n",
 
 #[test]
 fn a_piece_without_new_shares_makes_no_lot(rt: HostRuntime) -> Result<(), Fail> {
-    // 0.001 shares for 0.01 and 100.000 for 1000.00 are two lots. At 30.00 the first piece's 0.01 are no share (0.0003), and both
-    // together, 1000.01, are 33.334 (33.3337): all of them have the second lot's cost.
+    // New shares are by the sums of values up to each piece. 0.001 shares for 0.01 and 100.000 for 1000.00 are two lots.
+    // At 30.00 the first piece's 0.01 are no share (0.0003), and both together, 1000.01, are 33.334 (33.3337): all of
+    // them have the second lot's cost.
     expect(
         &rt,
         rt.alloc(),

@@ -23,8 +23,8 @@ fn an_order_entered_late_loses_what_its_shares_have_risen(rt: HostRuntime) -> Re
 
 #[test]
 fn a_corrected_price_is_the_latest_one_too(rt: HostRuntime) -> Result<(), Fail> {
-    // 1000.00 brought 100.000 shares at 10.00 and bring others by the corrected price, at which the difference is valued where no later
-    // sheet is: 4.762 shares less at 10.50 are 50.00 (50.001), 5.263 more at 9.50 too (49.9985).
+    // 1000.00 brought 100.000 shares at 10.00 and bring others by the corrected price, at which the difference is valued
+    // where no later sheet is: 4.762 shares less at 10.50 are 50.00 (50.001), 5.263 more at 9.50 too (49.9985).
     let prices = one_sheet(rt.alloc(), 1_000, 1_000)?;
     for (cents, mils, wanted) in [(1_050, 95_238, 5_000), (950, 105_263, -5_000)] {
         let patch = Patch {
@@ -48,8 +48,8 @@ fn a_corrected_price_is_the_latest_one_too(rt: HostRuntime) -> Result<(), Fail> 
 
 #[test]
 fn a_later_price_values_what_an_earlier_one_changes(rt: HostRuntime) -> Result<(), Fail> {
-    // At 12.50 in the place of the first sheet's 10.00, 1000.00 have brought 80.000 shares, 20.000 less, which are 200.00 at the second
-    // sheet's 10.00; corrected once more to 8.00, 125.000, which are 45.000 more, and 450.00.
+    // At 12.50 in the place of the first sheet's 10.00, 1000.00 have brought 80.000 shares, 20.000 less, which are 200.00
+    // at the second sheet's 10.00; corrected once more to 8.00, 125.000, which are 45.000 more, and 450.00.
     let prices = two_sheets(rt.alloc(), 1_000, 1_000)?;
     let first = [purchase(14, 100_000, 100_000)?];
     let second = [purchase(14, 80_000, 100_000)?];
@@ -75,8 +75,8 @@ fn a_later_price_values_what_an_earlier_one_changes(rt: HostRuntime) -> Result<(
 
 #[test]
 fn an_order_in_another_class_changes_both(rt: HostRuntime) -> Result<(), Fail> {
-    // 1000.00 were 100.000 shares of class 12 and are 100.000 of class 14. At 9.00 class 12 gives back 1000.00 for shares worth 900.00;
-    // at 10.50 class 14 has 1000.00 for shares worth 1050.00. At 11.00 and 9.50 it is the other way round.
+    // 1000.00 were 100.000 shares of class 12 and are 100.000 of class 14. At 9.00 class 12 gives back 1000.00 for shares
+    // worth 900.00; at 10.50 class 14 has 1000.00 for shares worth 1050.00. At 11.00 and 9.50 it is the other way round.
     let before = [purchase(12, 100_000, 100_000)?];
     let after = [purchase(14, 100_000, 100_000)?];
     let replaced = changes(rt.alloc(), &before, &after)?;

@@ -4,9 +4,10 @@ use std::test::Fail;
 
 #[test]
 fn free_shares_go_first_and_without_a_charge(rt: HostRuntime) -> Result<(), Fail> {
-    // A dividend of 0.50 on 100.000 shares is 50.00, and 5.000 free ones at 10.00. Of 50.000 that are sold 45.000 are charged, which
-    // cost 450.00: 5 % are 22.50 at 12.00, and at 8.00, where they are worth 360.00, 18.00. Without the dividend all 50.000
-    // are charged: their cost of 500.00 is less than 600.00, so the charge is 25.00.
+    // Free shares go first and have no charge; others have it on the smaller of cost and value. A dividend of 0.50 on
+    // 100.000 shares is 50.00, and 5.000 free ones at 10.00. Of 50.000 that are sold 45.000 are charged, which cost
+    // 450.00: 5 % are 22.50 at 12.00, and at 8.00, where they are worth 360.00, 18.00. Of class 13,
+    // without free shares, all 50.000 are charged: they cost 1000.00, less than 1200.00, so the charge is 50.00.
     expect(
         &rt,
         rt.alloc(),
@@ -39,7 +40,8 @@ HOLDINGS\nclass 12 GROWTH-B shares 55.000 escrow 0.000 cost 550.00 nav 8.00 valu
 
 #[test]
 fn an_amount_is_paid_as_the_value_of_its_shares(rt: HostRuntime) -> Result<(), Fail> {
-    // At 30.00 an amount of 1.00 asks for 0.033 shares (0.0333), which are worth 0.99, and one of 0.02 for 0.001 (0.0007), worth 0.03.
+    // An amount asks for shares, and their value is paid. At 30.00 an amount of 1.00 asks for 0.033 shares (0.0333),
+    // which are worth 0.99, and one of 0.02 for 0.001 (0.0007), worth 0.03.
     expect(
         &rt,
         rt.alloc(),
@@ -61,8 +63,9 @@ ok,show,101,14:29.966:0.000:898.98\n",
 
 #[test]
 fn earlier_lots_go_first(rt: HostRuntime) -> Result<(), Fail> {
-    // 100.000 shares of 10.00 and 50.000 of 20.00. All of the first lot and 20.000 of the second are sold at 15.00: the bases are
-    // 1000.00 (less than 1500.00) and 300.00 (less than 400.00), and 5 % of each 50.00 and 15.00. The rest cost 600.00.
+    // Of two lots the earlier one goes first. There are 100.000 shares of 10.00 and 50.000 of 20.00. All of the first lot
+    // and 20.000 of the second are sold at 15.00: the bases are 1000.00 (less than 1500.00) and 300.00 (less than
+    // 400.00), and 5 % of each 50.00 and 15.00. The rest cost 600.00.
     expect(
         &rt,
         rt.alloc(),
@@ -82,7 +85,8 @@ ok,show,101,12:30.000:0.000:600.00\n",
 
 #[test]
 fn the_charge_falls_with_each_anniversary(rt: HostRuntime) -> Result<(), Fail> {
-    // Shares of 2024-07-01 are sold a day before their anniversary, at 5 %, and on it, at 4 %; shares of 2024-07-02 at 5 % still.
+    // The rate is by the anniversaries of the purchase. Shares of 2024-07-01 are sold a day before their anniversary, at
+    // 5 %, and on it, at 4 %; shares of 2024-07-02 at 5 % still.
     expect(
         &rt,
         rt.alloc(),
@@ -107,8 +111,9 @@ ok,trace,103,2,filled,1751317300,1751400000,10.00,10.000,100.00,5.00,0.000\n",
 
 #[test]
 fn all_loose_shares_leave_the_escrow(rt: HostRuntime) -> Result<(), Fail> {
-    // Under a letter of 50000.00 a purchase of 10000.00 brings 955.110 shares and holds 238.778 of them. The others, 716.332, are worth
-    // 7163.32 at 10.00 and cost 10000.00 * 716.332 / 955.110 = 7499.99 (7499.994).
+    // A redemption of all takes what is loose. Under a letter of 50000.00 a purchase of 10000.00 brings 955.110 shares
+    // and holds 238.778 of them. The others, 716.332, are worth 7163.32 at 10.00 and cost 10000.00 * 716.332 / 955.110 =
+    // 7499.99 (7499.994).
     expect(
         &rt,
         rt.alloc(),

@@ -4,6 +4,7 @@ use std::test::Fail;
 
 #[test]
 fn a_purchase_is_stated(rt: HostRuntime) -> Result<(), Fail> {
+    // A line tells the gross and the offering price; what is held is told at the net asset value.
     expect(
         &rt,
         rt.alloc(),
@@ -19,15 +20,16 @@ class 11 GROWTH-A shares 942.507 escrow 0.000 cost 10000.00 nav 10.00 value 9425
 }
 
 // All kinds of trades of one account.
-// 2024-07-01: a letter of 25000.00 that its purchase reaches: at 500 the price is 10.53, 25000.00 / 10.53 are 2374.169 shares, worth
-// 23741.69. 1000.00 of class 12, whose dividends are elected in cash.
-// 2024-07-02: 0.50 on 100.000 shares in cash; a letter of 100000.00, whose load is 350, with a credit of 26000.00 at its begin; under it
-// 10000.00 at 10.36 (10.3627) are 965.251 shares, worth 9652.51, of which 482.626 (5000.00 / 10.36, 482.625) are held; dividends in shares
-// again; and 10.000 shares sold, 5 % of 100.00 being 5.00.
-// 2025-06-30: 0.50 on 90.000 shares are 45.00, and 4.500 shares; 10.000 are exchanged, 4.500 free ones first: 100.00 are 5.000 shares at
-// 20.00.
+// 2024-07-01: a letter of 25000.00 that its purchase reaches: at 500 the price is 10.53, 25000.00 / 10.53 are 2374.169
+// shares, worth 23741.69. 1000.00 of class 12, whose dividends are elected in cash.
+// 2024-07-02: 0.50 on 100.000 shares in cash; a letter of 100000.00, whose load is 350, with a credit of 26000.00 at its
+// begin; under it 10000.00 at 10.36 (10.3627) are 965.251 shares, worth 9652.51, of which 482.626 (5000.00 / 10.36,
+// 482.625) are held; dividends in shares again; and 10.000 shares sold, 5 % of 100.00 being 5.00.
+// 2025-06-30: 0.50 on 90.000 shares are 45.00, and 4.500 shares; 10.000 are exchanged, 4.500 free ones first: 100.00 are
+// 5.000 shares at 20.00.
 // 2025-07-01: a sale of nothing.
-// 2025-08-04: the letter ends. 36000.00 have a load of 500, so 150 basis points of 10000.00 are due: 150.00, and 15.000 shares at 10.00.
+// 2025-08-04: the letter ends. 36000.00 have a load of 500, so 150 basis points of 10000.00 are due: 150.00, and 15.000
+// shares at 10.00.
 const ALL_KINDS: &[u8] = b"1719838800,h-mary000001,letter,101,1,11,25000.00\n\
 1719838800,h-mary000001,buy,101,2,11,25000.00\n\
 1719838800,h-mary000001,buy,101,3,12,1000.00\n\
@@ -49,8 +51,9 @@ const ALL_KINDS: &[u8] = b"1719838800,h-mary000001,letter,101,1,11,25000.00\n\
 
 #[test]
 fn each_kind_of_trade_has_its_line(rt: HostRuntime) -> Result<(), Fail> {
-    // The 15.000 shares paid cost 155.40 (10000.00 * 15.000 / 965.251), those sold 100.00, the free ones exchanged 45.00, and the
-    // others 55.00.
+    // The ten kinds of trades in the order of their execution, and an order that was left unfilled. The 15.000 shares
+    // paid cost 155.40 (10000.00 * 15.000 / 965.251), those sold 100.00, the free ones exchanged 45.00, and the others
+    // 55.00.
     expect(
         &rt,
         rt.alloc(),
@@ -81,8 +84,9 @@ class 13 INCOME-B shares 5.000 escrow 0.000 cost 100.00 nav 20.00 value 100.00\n
 
 #[test]
 fn a_period_has_its_first_and_its_last_day(rt: HostRuntime) -> Result<(), Fail> {
-    // From a day of trades to another, and from the day behind the first to the day before the last. A period without trades, and one
-    // that ends before it begins, have none. The holdings are those behind the last sheet whichever the period is.
+    // From a day of trades to another, and from the day behind the first to the day before the last. A period without
+    // trades, and one that ends before it begins, have none. The holdings are those behind the last sheet whichever the
+    // period is.
     expect(
         &rt,
         rt.alloc(),
@@ -121,8 +125,8 @@ class 13 INCOME-B shares 5.000 escrow 0.000 cost 100.00 nav 20.00 value 100.00\n
 
 #[test]
 fn holdings_are_of_the_account_s_classes_with_lots(rt: HostRuntime) -> Result<(), Fail> {
-    // Two classes are held, one with escrow, a third was sold out, and the other account of the household has trades of its own. Each
-    // class has its last price: 955.110 shares at 10.50 are 10028.66 (10028.655).
+    // Two classes are held, one with escrow, a third was sold out, and the other account of the household has trades of
+    // its own. Each class has its last price: 955.110 shares at 10.50 are 10028.66 (10028.655).
     expect(
         &rt,
         rt.alloc(),
@@ -153,8 +157,8 @@ ok,statement,103,\"STATEMENT 103 OMAR ROE\nPERIOD 2024-07-01 2024-07-02\nHOLDING
 
 #[test]
 fn a_corrected_price_is_stated_as_corrected(rt: HostRuntime) -> Result<(), Fail> {
-    // At 10.50 in the place of 10.00 a purchase of 1000.00 has 95.238 shares. Corrected on the last sheet, the price of the holdings
-    // changes: 95.238 shares at 12.00 are 1142.86 (1142.856).
+    // At 10.50 in the place of 10.00 a purchase of 1000.00 has 95.238 shares. Corrected on the last sheet, the price of
+    // the holdings changes: 95.238 shares at 12.00 are 1142.86 (1142.856).
     expect(
         &rt,
         rt.alloc(),

@@ -4,8 +4,8 @@ use std::test::Fail;
 
 #[test]
 fn no_share_would_result(rt: HostRuntime) -> Result<(), Fail> {
-    // At 100000.00 a cent is no share (0.0000001). At 30.00 it asks for none (0.0003), also where nothing is held. And an exchange of
-    // 0.001 shares, a cent at 10.00, brings none at 100000.00.
+    // Small: no share results. At 100000.00 a cent is no share (0.0000001). At 30.00 it asks for none (0.0003), also
+    // where nothing is held. And an exchange of 0.001 shares, a cent at 10.00, brings none at 100000.00.
     expect(
         &rt,
         rt.alloc(),
@@ -33,8 +33,9 @@ ok,show,101,12:100.000:0.000:1000.00\n",
 
 #[test]
 fn too_few_shares_are_loose(rt: HostRuntime) -> Result<(), Fail> {
-    // Of 955.110 shares 238.778 are held, so 716.332 are loose, and 716.333 are too many: to sell, to sell for 7163.33 at 10.00, and to
-    // exchange where the family allows it. All of nothing is too much too.
+    // Short: more is asked than what is loose, or all of nothing. Of 955.110 shares 238.778 are held, so 716.332 are
+    // loose, and 716.333 are too many: to sell, to sell for 7163.33 at 10.00, and to exchange where the family allows it.
+    // All of nothing is too much too.
     expect(
         &rt,
         rt.alloc(),
@@ -69,8 +70,9 @@ ok,show,102,12:100.000:0.000:1000.00\n",
 
 #[test]
 fn the_position_would_pass_its_ceiling(rt: HostRuntime) -> Result<(), Fail> {
-    // 10000000.00 at 0.01 are 1,000,000,000.000 shares, as many as a position may have. A cent more is 1.000 share. An exchange into it
-    // fails too, and nothing is taken for it; too few loose shares come first.
+    // Ceiling: the position would have too many shares. 10000000.00 at 0.01 are 1,000,000,000.000 shares, as many as a
+    // position may have. A cent more is 1.000 share. An exchange into it fails too, and nothing is taken for it; too few
+    // loose shares come first.
     expect(
         &rt,
         rt.alloc(),
@@ -100,7 +102,7 @@ ok,show,101,12:100.000:0.000:1000.00 13:1000000000.000:0.000:10000000.00\n",
 
 #[test]
 fn a_letter_is_open(rt: HostRuntime) -> Result<(), Fail> {
-    // A letter is of one account and class: another account's begins beside it.
+    // Letter: one of that account and class is open. Another account's begins beside it.
     expect(
         &rt,
         rt.alloc(),
@@ -120,8 +122,8 @@ ok,trace,102,1,filled,1719838800,1719864000,0.00,0.000,0.00,0.00,0.000\n",
 
 #[test]
 fn orders_of_one_sheet_go_by_receipt_and_then_by_place(rt: HostRuntime) -> Result<(), Fail> {
-    // The dealer's line came last and was received first: it buys what the sale of an hour later sells. Of two sales received
-    // at once the first in the journal is filled.
+    // Orders go by receipt, and at equal receipts by place. The dealer's line came last and was received first: it buys
+    // what the sale of an hour later sells. Of two sales received at once the first in the journal is filled.
     expect(
         &rt,
         rt.alloc(),
