@@ -1,0 +1,23 @@
+-- A journal that the machine made with its prices, and the events that can be noted in it without a ledger.
+use Rattle.std.specs.Prelude.{Bool, List, is_none, length, true, ◌==◌, ◌||◌, ◌≡◌}
+use Rattle.agent_events.specs.Events.{Event}
+use Rattle.agent_events.specs.declared.event.EventKind.{EventKind}
+use Rattle.forward_price.specs.PriceTables.{Table}
+use Rattle.forward_price.specs.declared.price_sheet.Sheet.{Sheet}
+use Rattle.register_laws.specs.OneEventMore.{corrected_table}
+use Rattle.register_machine.specs.corrections.Payments.{bearer_in}
+use Rattle.register_machine.specs.journal.Journals.{Journal, with_event}
+use Rattle.register_machine.specs.journal.Lawful.{IsLawful}
+
+pub record IsRegister (journal : Journal) (table : Table) : Type 0 where
+  pub lawful : IsLawful journal
+  pub prices : table ≡ corrected_table journal
+
+-- The last rule is on what a correction breaks. So it says nothing of an event that is no correction, and of none before there
+-- is a sheet.
+abbrev pub needs_no_ledger : List Sheet → EventKind → Bool
+needs_no_ledger sheets kind = length sheets == 0 || is_none (bearer_in kind)
+
+abbrev pub FollowsUnlessJudged : Journal → List Sheet → Event → Type 0
+FollowsUnlessJudged journal sheets event =
+    needs_no_ledger sheets event.kind ≡ true → IsLawful (with_event journal event)
