@@ -9,13 +9,13 @@ mod dealer_windows;
 #[cfg(test)]
 mod limits;
 #[cfg(test)]
+mod lines;
+#[cfg(test)]
 mod minimums;
 #[cfg(test)]
 mod offers;
 #[cfg(test)]
 mod refusals;
-#[cfg(test)]
-mod register;
 #[cfg(test)]
 mod repeats;
 #[cfg(test)]

@@ -1,6 +1,7 @@
 //! How many orders and cancels an account may have, and how many calendars, classes, dealers and accounts there may be.
-use crate::register::Register;
+use crate::lines::said;
 use crate::tables::{NOW, PREAMBLE, behind, first_other, first_other_of_each};
+use intake_register::Register;
 use std::alloc::Global;
 use std::test::Fail;
 
@@ -9,7 +10,7 @@ fn place_orders(alloc: Global, register: &mut Register, end: u64) -> Result<(), 
     for number in 1..end {
         let line = format!(in alloc; "1719838800,h-mary000001,elect,101,{number},12,cash")?;
         let wanted = format!(in alloc; "ok,order,101,{number},1719838800,1719864000")?;
-        if register.said(alloc, line.as_str())?.as_slice() != wanted.as_bytes() {
+        if said(alloc, register, line.as_str())?.as_slice() != wanted.as_bytes() {
             return Err("an order that is placed".into());
         }
     }
@@ -68,7 +69,7 @@ fn add(
     fields: &str,
 ) -> Result<Vec<u8>, Fail> {
     let line = format!(in alloc; "1719838800,op-desk000001,{kind},{number},{fields}")?;
-    register.said(alloc, line.as_str())
+    said(alloc, register, line.as_str())
 }
 
 // Adds one of each number from the first to below the end.
@@ -120,7 +121,7 @@ const BEHIND_LIMITS: [(&str, &str); 6] = [
 fn add_dealer(alloc: Global, register: &mut Register, number: u64) -> Result<Vec<u8>, Fail> {
     let line =
         format!(in alloc; "1719838800,op-desk000001,dealer,{number},d-dealer00{number},0")?;
-    register.said(alloc, line.as_str())
+    said(alloc, register, line.as_str())
 }
 
 #[test]

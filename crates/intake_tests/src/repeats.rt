@@ -1,4 +1,5 @@
 //! What is said again: with the same content the place of its first event, and with another content a refusal.
+use crate::lines::said;
 use crate::tables::{BROKER, CALENDAR, GROWTH_A, GROWTH_B, INCOME_B, MARY, PREAMBLE, behind, first_other};
 use std::test::Fail;
 
@@ -7,7 +8,7 @@ fn each_line_of_the_preamble_is_a_repeat(rt: HostRuntime) -> Result<(), Fail> {
     let mut register = behind(rt.alloc(), &PREAMBLE)?;
     for (place, line) in PREAMBLE.into_iter().enumerate() {
         let wanted = format!(in rt.alloc(); "again {place}")?;
-        assert_eq!(rt; register.said(rt.alloc(), line)?.as_slice(), wanted.as_bytes());
+        assert_eq!(rt; said(rt.alloc(), &mut register, line)?.as_slice(), wanted.as_bytes());
     }
     Ok(())
 }

@@ -1,5 +1,6 @@
 //! The tables that the tests share: a preamble, rows of lines with what is said to them, and rows that each caller asks.
-use crate::register::Register;
+use crate::lines::said;
+use intake_register::Register;
 use std::alloc::Global;
 use std::test::Fail;
 
@@ -66,7 +67,7 @@ const CALLERS: [&str; 5] = [
 pub fn behind(alloc: Global, lines: &[&str]) -> Result<Register, Fail> {
     let mut register = Register::new(alloc)?;
     for line in lines {
-        if register.said(alloc, line)?.as_slice() != b"fresh".as_slice() {
+        if said(alloc, &mut register, line)?.as_slice() != b"fresh".as_slice() {
             return Err("a line that isn't new".into());
         }
     }
@@ -88,7 +89,7 @@ pub fn first_other(
     rows: &[(&str, &str)],
 ) -> Result<String, Fail> {
     for (line, said) in rows {
-        let found = register.said(alloc, line)?;
+        let found = said(alloc, register, line)?;
         if found.as_slice() != said.as_bytes() {
             return told(alloc, line, found.as_slice());
         }
@@ -106,7 +107,7 @@ fn said_to_each(
     let mut all = Vec::new(alloc);
     for key in CALLERS {
         let line = format!(in alloc; "{moment},{key},{request}")?;
-        let said = register.said(alloc, line.as_str())?;
+        let said = said(alloc, register, line.as_str())?;
         all.extend_from_slice(said.as_slice())?;
         all.push(b'|')?;
     }

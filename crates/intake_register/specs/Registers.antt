@@ -1,7 +1,8 @@
--- A journal that the machine made with its prices, and the events that can be noted in it without a ledger.
-use Rattle.std.specs.Prelude.{Bool, List, is_none, length, true, ◌==◌, ◌||◌, ◌≡◌}
+-- A journal that the machine made with its prices, and the events that are noted in it without a ledger.
+use Rattle.std.specs.Prelude.{Bool, List, false, is_some, length, not, true, ◌==◌, ◌||◌, ◌×◌, ◌≡◌}
 use Rattle.agent_events.specs.Events.{Event}
 use Rattle.agent_events.specs.declared.event.EventKind.{EventKind}
+use Rattle.agent_events.specs.declared.verdict.Verdict.{Verdict}
 use Rattle.forward_price.specs.PriceTables.{Table}
 use Rattle.forward_price.specs.declared.price_sheet.Sheet.{Sheet}
 use Rattle.register_laws.specs.OneEventMore.{corrected_table}
@@ -16,8 +17,18 @@ pub record IsRegister (journal : Journal) (table : Table) : Type 0 where
 -- The last rule is on what a correction breaks. So it says nothing of an event that is no correction, and of none before there
 -- is a sheet.
 abbrev pub needs_no_ledger : List Sheet → EventKind → Bool
-needs_no_ledger sheets kind = length sheets == 0 || is_none (bearer_in kind)
+needs_no_ledger sheets kind = length sheets == 0 || not (is_some (bearer_in kind))
 
 abbrev pub FollowsUnlessJudged : Journal → List Sheet → Event → Type 0
 FollowsUnlessJudged journal sheets event =
     needs_no_ledger sheets event.kind ≡ true → IsLawful (with_event journal event)
+
+-- the journal behind an event that was noted or wasn't
+abbrev pub journal_behind : Journal → Event → Bool → Journal
+journal_behind journal event true = with_event journal event
+journal_behind journal event false = journal
+
+-- what was noted is what the verdict brought
+abbrev pub IsBehind : Journal → Verdict → Bool → Journal → Type 0
+IsBehind before said true after = (event : Event) × (said ≡ Verdict.Fresh event) × (after ≡ with_event before event)
+IsBehind before said false after = after ≡ before

@@ -1,5 +1,5 @@
 -- A new event follows the journal where no ledger is needed to judge it.
-use Rattle.std.proofs.Common.{List, None, Option, Some, [], ap, false, find, is_none, length, map, option_map, refl, subst, true, ℕ, ◌++◌, ◌==◌, ◌||◌, ◌∙◌, ◌∷◌, ◌≡◌, ◌≤◌}
+use Rattle.std.proofs.Common.{List, None, Option, Some, [], ap, false, is_some, length, map, not, refl, subst, sym, true, ℕ, ◌++◌, ◌==◌, ◌||◌, ◌∙◌, ◌∷◌, ◌≡◌, ◌≤◌}
 use Rattle.std.proofs.lemmas.Bool.{true≢false}
 use Rattle.agent_events.specs.Events.{Event}
 use Rattle.agent_events.specs.declared.order.Bearer.{Bearer}
@@ -9,7 +9,7 @@ use Rattle.agent_events.specs.declared.trade.Trade.{Trade}
 use Rattle.agent_events.specs.declared.verdict.Caller.{Caller}
 use Rattle.agent_events.specs.declared.verdict.Verdict.{Verdict}
 use Rattle.forward_price.specs.declared.price_sheet.Sheet.{Sheet}
-use Rattle.intake_tests.specs.Registers.{FollowsUnlessJudged, needs_no_ledger}
+use Rattle.intake_register.specs.Registers.{FollowsUnlessJudged, needs_no_ledger}
 use Rattle.register_laws.proofs.RunsAreLawful.{answer_is_lawful, keyed-among}
 use Rattle.register_laws.specs.Lawful.{own_at}
 use Rattle.register_laws.specs.OneEventMore.{corrected_table}
@@ -38,7 +38,7 @@ no-trades book e = ap (λ (sheets : List Sheet). (replay_over book sheets).trade
 says-nothing : (journal : Journal) (now : ℕ) (caller : Caller) (event : Event) → needs_no_ledger (corrected_table journal).sheets event.kind ≡ true → breaks (own_at journal now caller) event ≡ None
 says-nothing journal now caller event free = by_bearer (bearer_in event.kind) free
   where
-    by_bearer : (bearer : Option Bearer) → (length (corrected_table journal).sheets == 0 || is_none bearer) ≡ true → breaks_by bearer (own_at journal now caller) event ≡ None
+    by_bearer : (bearer : Option Bearer) → (length (corrected_table journal).sheets == 0 || not (is_some bearer)) ≡ true → breaks_by bearer (own_at journal now caller) event ≡ None
     by_bearer None e = refl
     by_bearer (Some bearer) e =
         let behind = book_of (corrected_table journal) (with_event journal event) in

@@ -1,0 +1,91 @@
+//! The verdict on a request, and the noting of a new event in the book and the prices of a journal.
+ghost use Rattle.std.specs.Prelude.{◌≡◌, IfOk, OnOk, is_some};
+ghost use Rattle.intake_register.specs.Registers.{FollowsUnlessJudged, IsRegister, journal_behind, needs_no_ledger};
+ghost use Rattle.register_laws.specs.Lawful.{own_at};
+ghost use Rattle.register_machine.specs.corrections.Payments.{bearer_in};
+ghost use Rattle.register_machine.specs.journal.Journals.{with_event};
+ghost use Rattle.register_machine.specs.journal.Lawful.{IsLawful};
+ghost use Rattle.register_machine.specs.run.Verdicts.{verdict};
+
+use agent_events::{Caller, Event, EventKind, Request, Verdict};
+use forward_price::PriceBook;
+use money_units::{Moment, NoMemory};
+use order_intake::{Book, admit};
+use std::alloc::Global;
+
+/// The verdict on a request behind the journal.
+pub(crate) fn verdict_on(
+    alloc: Global,
+    book: &Book,
+    prices: &PriceBook,
+    caller: Caller,
+    moment: Moment,
+    request: &Request,
+) -> Result<Verdict, NoMemory>
+    requires register { IsRegister book.now.journal prices.now.table }
+    ensures { IfOk result (λ said. said
+        ≡ verdict (own_at book.now.journal moment caller) request.now) }
+{
+    admit(book.orders(), alloc, prices, caller, request, moment)
+}
+
+/// Notes an event, unless a ledger is needed to judge it.
+pub(crate) fn note_unjudged(
+    alloc: Global,
+    book: &mut Book,
+    prices: &mut PriceBook,
+    event: Event,
+) -> Result<bool, NoMemory>
+    requires register { IsRegister book.old.journal prices.old.table }
+    requires follows { FollowsUnlessJudged book.old.journal prices.old.table.sheets event }
+    ensures register { IsRegister book.new.journal prices.new.table }
+    ensures noted { IfOk result (λ noted. book.new.journal
+        ≡ journal_behind book.old.journal event noted) }
+{
+    if needs_no_ledger(prices, event.kind()) {
+        note(alloc, book, prices, event)?;
+        Ok(true)
+    } else {
+        Ok(false)
+    }
+}
+
+/// Notes an event that follows the journal, and changes the prices by it.
+fn note(
+    alloc: Global,
+    book: &mut Book,
+    prices: &mut PriceBook,
+    event: Event,
+) -> Result<(), NoMemory>
+    requires register { IsRegister book.old.journal prices.old.table }
+    requires follows { IsLawful (with_event book.old.journal event) }
+    ensures register { IsRegister book.new.journal prices.new.table }
+    ensures noted { OnOk result (book.new.journal ≡ with_event book.old.journal event) }
+{
+    let change = price_changes::prepare(alloc, prices, event.kind())?;
+    book.reserve(1)?;
+    let place = book.len();
+    price_changes::apply(prices, event.moment(), event.kind(), change);
+    book.note(place, event);
+    Ok(())
+}
+
+/// Whether no ledger is needed to judge an event of this kind.
+fn needs_no_ledger(prices: &PriceBook, kind: &EventKind) -> bool
+    ensures { result ≡ needs_no_ledger prices.now.table.sheets kind.now }
+{
+    prices.sheets().is_empty() || !is_correction(kind)
+}
+
+fn is_correction(kind: &EventKind) -> bool
+    ensures { result ≡ is_some (bearer_in kind.now) }
+{
+    match kind {
+        EventKind::FixPrice(_) => true,
+        EventKind::FixRate(_) => true,
+        EventKind::Enter(_) => true,
+        EventKind::Replace(_) => true,
+        EventKind::Void(_) => true,
+        _ => false,
+    }
+}
