@@ -1,10 +1,11 @@
 //! The verdict on a request, and the noting of a new event in the book and the prices of a journal.
-ghost use Rattle.std.specs.Prelude.{◌≡◌, IfOk, OnOk, is_some};
-ghost use Rattle.intake_register.specs.Registers.{FollowsUnlessJudged, IsRegister, journal_behind, needs_no_ledger};
+ghost use Rattle.std.specs.Prelude.{◌≡◌, ◌==◌, IfOk, OnOk, is_some, length, not};
+ghost use Rattle.intake_register.specs.Registers.{FollowsUnlessJudged, IsRegister, finds_no_trade, journal_behind, needs_no_ledger};
 ghost use Rattle.register_laws.specs.Lawful.{own_at};
 ghost use Rattle.register_machine.specs.corrections.Payments.{bearer_in};
 ghost use Rattle.register_machine.specs.journal.Journals.{with_event};
 ghost use Rattle.register_machine.specs.journal.Lawful.{IsLawful};
+ghost use Rattle.register_machine.specs.rules.Breaks.{order_corrected};
 ghost use Rattle.register_machine.specs.run.Verdicts.{verdict};
 
 use agent_events::{Caller, Event, EventKind, Request, Verdict};
@@ -42,7 +43,7 @@ pub(crate) fn note_unjudged(
     ensures noted { IfOk result (λ noted. book.new.journal
         ≡ journal_behind book.old.journal event noted) }
 {
-    if needs_no_ledger(prices, event.kind()) {
+    if needs_no_ledger(book, prices, event.kind()) {
         note(alloc, book, prices, event)?;
         Ok(true)
     } else {
@@ -71,21 +72,43 @@ fn note(
 }
 
 /// Whether no ledger is needed to judge an event of this kind.
-fn needs_no_ledger(prices: &PriceBook, kind: &EventKind) -> bool
-    ensures { result ≡ needs_no_ledger prices.now.table.sheets kind.now }
+fn needs_no_ledger(book: &Book, prices: &PriceBook, kind: &EventKind) -> bool
+    ensures { result ≡ needs_no_ledger book.now.journal prices.now.table.sheets kind.now }
 {
-    prices.sheets().is_empty() || !is_correction(kind)
+    has_no_sheet(prices) || is_no_correction(kind) || finds_no_trade(book, kind)
 }
 
-fn is_correction(kind: &EventKind) -> bool
-    ensures { result ≡ is_some (bearer_in kind.now) }
+fn has_no_sheet(prices: &PriceBook) -> bool
+    ensures { result ≡ (length prices.now.table.sheets == 0) }
+{
+    prices.sheets().len() == 0
+}
+
+fn is_no_correction(kind: &EventKind) -> bool
+    ensures { result ≡ not (is_some (bearer_in kind.now)) }
 {
     match kind {
-        EventKind::FixPrice(_) => true,
-        EventKind::FixRate(_) => true,
-        EventKind::Enter(_) => true,
-        EventKind::Replace(_) => true,
-        EventKind::Void(_) => true,
-        _ => false,
+        EventKind::FixPrice(_) => false,
+        EventKind::FixRate(_) => false,
+        EventKind::Enter(_) => false,
+        EventKind::Replace(_) => false,
+        EventKind::Void(_) => false,
+        _ => true,
     }
+}
+
+fn sends_no_order(kind: &EventKind) -> bool
+    ensures { result ≡ not (is_some (order_corrected kind.now)) }
+{
+    match kind {
+        EventKind::Enter(_) => false,
+        EventKind::Replace(_) => false,
+        _ => true,
+    }
+}
+
+fn finds_no_trade(book: &Book, kind: &EventKind) -> bool
+    ensures { result ≡ finds_no_trade book.now.journal kind.now }
+{
+    book.orders().orders().len() == 0 && sends_no_order(kind)
 }

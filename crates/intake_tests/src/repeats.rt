@@ -156,3 +156,31 @@ fn corrections_are_said_once_and_change_no_content(rt: HostRuntime) -> Result<()
     assert_eq!(rt; other.as_str(), "");
     Ok(())
 }
+
+// Where no order was ever placed a corrected price or rate breaks none.
+const FIXES: [(&str, &str); 13] = [
+    (
+        "1719864000,op-desk000001,sheet,1,1719864000,11:10.00 12:10.00 13:20.00 14:10.00",
+        "fresh",
+    ),
+    ("1719867600,op-desk000001,fixprice,1,fund,14,1719864000,10.50", "fresh"),
+    ("1719867600,op-desk000001,fixprice,1,fund,14,1719864000,10.50", "again 12"),
+    ("1719867600,op-desk000001,fixprice,1,agent,14,1719864000,10.50", "no,4"),
+    ("1719867600,op-desk000001,fixprice,1,fund,13,1719864000,10.50", "no,4"),
+    ("1719867600,op-desk000001,fixprice,1,fund,14,1719864000,10.51", "no,4"),
+    ("1719867600,op-desk000001,fixrate,2,dealer:5,14,1719864000,0.100000", "fresh"),
+    ("1719867600,op-desk000001,fixrate,2,dealer:5,14,1719864000,0.100000", "again 13"),
+    ("1719867600,op-desk000001,fixrate,2,dealer:5,14,1719864000,0.000000", "no,4"),
+    ("1719867600,op-desk000001,fixrate,1,fund,14,1719864000,0.100000", "no,4"),
+    ("1719867600,op-desk000001,fixprice,2,fund,14,1719864000,10.50", "no,4"),
+    ("1719867600,op-desk000001,fixprice,3,fund,14,1719864000,10.50", "fresh"),
+    ("1719867600,op-desk000001,fixprice,1,fund,14,1719864000,10.50", "again 12"),
+];
+
+#[test]
+fn corrected_prices_and_rates_are_said_once(rt: HostRuntime) -> Result<(), Fail> {
+    let mut register = behind(rt.alloc(), &PREAMBLE)?;
+    let other = first_other(rt.alloc(), &mut register, &FIXES)?;
+    assert_eq!(rt; other.as_str(), "");
+    Ok(())
+}
