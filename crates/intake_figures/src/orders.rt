@@ -34,7 +34,12 @@ fn now() -> Moment {
     }
 }
 
-fn place(alloc: Global, register: &mut Register, account: u64, ref_no: u64) -> Result<bool, NoMemory> {
+fn place(
+    alloc: Global,
+    register: &mut Register,
+    account: u64,
+    ref_no: u64,
+) -> Result<bool, NoMemory> {
     match purchase(account, ref_no) {
         Some(request) => register.note_fresh(alloc, OPERATOR, OPERATOR, now(), &request),
         None => Ok(false),

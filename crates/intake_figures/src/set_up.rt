@@ -14,19 +14,22 @@ const CLASS: &str = "1719835200,op-desk000001,class,14,1,3,INDEX-N,0,0,250.00,50
 // Asks a line of a script.
 fn ask(alloc: Global, register: &mut Register, line: &str) -> Result<bool, NoMemory> {
     match ScriptItems::new(alloc, line.as_bytes()).next(alloc)? {
-        Some(ScriptItem::Good {
-            moment,
-            key,
-            asked: Ok(request),
-        }) => register.note_fresh(alloc, OPERATOR, key.as_slice(), moment, &request),
+        Some(
+            ScriptItem::Good {
+                moment,
+                key,
+                asked: Ok(request),
+            },
+        ) => register.note_fresh(alloc, OPERATOR, key.as_slice(), moment, &request),
         _ => Ok(false),
     }
 }
 
 // The line of a household, and that of its account.
 fn lines_of(alloc: Global, number: u64) -> Result<(String, String), NoMemory> {
-    let household =
-        format!(in alloc; "1719835200,op-desk000001,household,{number},h-number00{number}");
+    let household = format!(in alloc;
+        "1719835200,op-desk000001,household,{number},h-number00{number}"
+    );
     let account = format!(in alloc; "1719835200,op-desk000001,account,{number},{number},0,HOLDER");
     match (household, account) {
         (Ok(household), Ok(account)) => Ok((household, account)),

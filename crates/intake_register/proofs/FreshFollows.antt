@@ -42,7 +42,7 @@ none-found test never (x ∷ xs) =
 
 -- a trade breaks nothing where there was none before, unless it is that of the order which is sent
 never-broken : (trade : Trade) → is_broken None [] trade ≡ false
-never-broken trade = elim (is_filled trade.outcome) as (λ filled. (not filled && (false || false)) ≡ false) [ | true ↦ refl | false ↦ refl ]
+never-broken trade = elim (is_filled trade.outcome) as (λ filled. (not filled && (false || false)) ≡ false) [ true ↦ refl | false ↦ refl ]
 
 nothing-broken : (sent : Option Order) → not (is_some sent) ≡ true → (after : List Trade) → breaks_between sent [] after ≡ None
 nothing-broken None e after =

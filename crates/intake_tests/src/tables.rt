@@ -74,24 +74,29 @@ pub fn behind(alloc: Global, lines: &[&str]) -> Result<Register, Fail> {
     Ok(register)
 }
 
+// What a row asks, and what stands behind its arrow.
+fn parts(row: &str) -> Result<(&str, &str), Fail> {
+    match row.split_once(" => ") {
+        Some(parts) => Ok(parts),
+        None => Err("a row with an arrow".into()),
+    }
+}
+
 // A row with what was said to it, as a text.
 fn told(alloc: Global, row: &str, said: &[u8]) -> Result<String, Fail> {
     match str::from_utf8(said) {
-        Ok(said) => Ok(format!(in alloc; "{row}: {said}")?),
+        Ok(said) => Ok(format!(in alloc; "{row}, not {said}")?),
         Err(_) => Err("a text".into()),
     }
 }
 
 /// The first line to which something else is said than stands in its row, with what is said; empty without one.
-pub fn first_other(
-    alloc: Global,
-    register: &mut Register,
-    rows: &[(&str, &str)],
-) -> Result<String, Fail> {
-    for (line, said) in rows {
+pub fn first_other(alloc: Global, register: &mut Register, rows: &[&str]) -> Result<String, Fail> {
+    for row in rows {
+        let (line, wanted) = parts(row)?;
         let found = said(alloc, register, line)?;
-        if found.as_slice() != said.as_bytes() {
-            return told(alloc, line, found.as_slice());
+        if found.as_slice() != wanted.as_bytes() {
+            return told(alloc, row, found.as_slice());
         }
     }
     Ok(String::new(alloc))
@@ -107,8 +112,8 @@ fn said_to_each(
     let mut all = Vec::new(alloc);
     for key in CALLERS {
         let line = format!(in alloc; "{moment},{key},{request}")?;
-        let said = said(alloc, register, line.as_str())?;
-        all.extend_from_slice(said.as_slice())?;
+        let found = said(alloc, register, line.as_str())?;
+        all.extend_from_slice(found.as_slice())?;
         all.push(b'|')?;
     }
     Ok(all)
@@ -120,12 +125,13 @@ pub fn first_other_of_each(
     alloc: Global,
     register: &mut Register,
     moment: u64,
-    rows: &[(&str, &str)],
+    rows: &[&str],
 ) -> Result<String, Fail> {
-    for (request, said) in rows {
+    for row in rows {
+        let (request, wanted) = parts(row)?;
         let found = said_to_each(alloc, register, moment, request)?;
-        if found.as_slice() != said.as_bytes() {
-            return told(alloc, request, found.as_slice());
+        if found.as_slice() != wanted.as_bytes() {
+            return told(alloc, row, found.as_slice());
         }
     }
     Ok(String::new(alloc))
