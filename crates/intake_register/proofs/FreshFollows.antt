@@ -11,7 +11,7 @@ use Rattle.agent_events.specs.declared.verdict.Caller.{Caller}
 use Rattle.agent_events.specs.declared.verdict.Verdict.{Verdict}
 use Rattle.forward_price.specs.declared.price_sheet.Sheet.{Sheet}
 use Rattle.intake_register.proofs.NoTrades.{without_orders, without_sheets}
-use Rattle.intake_register.specs.Registers.{FollowsUnlessJudged, finds_no_trade, needs_no_ledger}
+use Rattle.intake_register.specs.Registers.{FollowsUnlessJudged, IsBehind, finds_no_trade, journal_behind, needs_no_ledger}
 use Rattle.register_laws.proofs.RunsAreLawful.{answer_is_lawful, keyed-among}
 use Rattle.register_laws.specs.Lawful.{own_at}
 use Rattle.register_laws.specs.OneEventMore.{corrected_table}
@@ -94,3 +94,8 @@ fresh_follows journal now operator key request event lawful late fresh free =
     (ap (λ (said : Verdict). answer_by situation request said) fresh
     ∙ ap (λ (broken : Option Refusal). fresh_answer situation event broken) (says-nothing journal now caller event free))
     (answer_is_lawful journal now caller request (keyed-among journal operator key) late lawful)
+
+-- and the journal behind it is that of the verdict
+pub is_behind : (before after : Journal) (event : Event) (said : Verdict) → said ≡ Verdict.Fresh event → (noted : Bool) → after ≡ journal_behind before event noted → IsBehind before said noted after
+is_behind before after event said fresh true e = (event, fresh, e)
+is_behind before after event said fresh false e = e

@@ -1,11 +1,12 @@
 //! The verdict on a request, and the noting of a new event in the book and the prices of a journal.
-ghost use Rattle.std.specs.Prelude.{◌≡◌, ◌==◌, IfOk, OnOk, is_some, length, not};
-ghost use Rattle.intake_register.specs.Registers.{FollowsUnlessJudged, IsRegister, finds_no_trade, journal_behind, needs_no_ledger};
+ghost use Rattle.std.specs.Prelude.{◌≡◌, ◌≤◌, ◌==◌, IfOk, OnOk, is_some, length, nat_lt, not};
+ghost use Rattle.intake_register.specs.Registers.{FollowsUnlessJudged, IsBehind, IsRegister, finds_no_trade, journal_behind, needs_no_ledger};
 ghost use Rattle.register_laws.specs.Lawful.{own_at};
 ghost use Rattle.register_machine.specs.corrections.Payments.{bearer_in};
-ghost use Rattle.register_machine.specs.journal.Journals.{with_event};
+ghost use Rattle.register_machine.specs.journal.Journals.{last_moment, with_event};
 ghost use Rattle.register_machine.specs.journal.Lawful.{IsLawful};
 ghost use Rattle.register_machine.specs.rules.Breaks.{order_corrected};
+ghost use Rattle.register_machine.specs.rules.Callers.{caller_of};
 ghost use Rattle.register_machine.specs.run.Verdicts.{verdict};
 
 use agent_events::{Caller, Event, EventKind, Request, Verdict};
@@ -30,8 +31,40 @@ pub(crate) fn verdict_on(
     admit(book.orders(), alloc, prices, caller, request, moment)
 }
 
+/// Whether a moment is before the last one of the book.
+pub(crate) fn is_before(book: &Book, moment: Moment) -> bool
+    ensures { result ≡ nat_lt moment (last_moment book.now.journal) }
+{
+    moment.number() < book.last_moment().number()
+}
+
+/// Admits a request of whoever has this key, and notes what it brings. Answers whether it was noted.
+pub(crate) fn note_fresh(
+    alloc: Global,
+    book: &mut Book,
+    prices: &mut PriceBook,
+    operator: &[u8],
+    key: &[u8],
+    moment: Moment,
+    request: &Request,
+) -> Result<bool, NoMemory>
+    requires register { IsRegister book.old.journal prices.old.table }
+    requires moment { last_moment book.old.journal ≤ moment }
+    ensures register { IsRegister book.new.journal prices.new.table }
+    ensures noted { IfOk result (λ noted. IsBehind book.old.journal
+        (verdict (own_at book.old.journal moment
+        (caller_of book.old.journal operator.now key.now)) request.now)
+        noted book.new.journal) }
+{
+    let caller = book.caller_of(key, operator);
+    match verdict_on(alloc, book, prices, caller, moment, request)? {
+        Verdict::Fresh(event) => note_unjudged(alloc, book, prices, event),
+        _ => Ok(false),
+    }
+}
+
 /// Notes an event, unless a ledger is needed to judge it.
-pub(crate) fn note_unjudged(
+fn note_unjudged(
     alloc: Global,
     book: &mut Book,
     prices: &mut PriceBook,

@@ -5,7 +5,7 @@ ghost use Rattle.register_laws.specs.Lawful.{own_at};
 ghost use Rattle.register_machine.specs.rules.Callers.{caller_of};
 ghost use Rattle.register_machine.specs.run.Verdicts.{verdict};
 
-use crate::noting::{note_unjudged, verdict_on};
+use crate::noting::{is_before, note_fresh, verdict_on};
 use agent_events::{Request, Verdict};
 use forward_price::PriceBook;
 use money_units::{Moment, NoMemory};
@@ -74,15 +74,17 @@ impl Register {
             (verdict (own_at self.old moment (caller_of self.old operator.now key.now)) request.now)
             noted self.new) }
     {
-        if moment.number() < self.book.last_moment().number() {
+        if is_before(&self.book, moment) {
             return Ok(false);
         }
-        let caller = self.book.caller_of(key, operator);
-        match verdict_on(alloc, &self.book, &self.prices, caller, moment, request)? {
-            Verdict::Fresh(event) => {
-                note_unjudged(alloc, &mut self.book, &mut self.prices, event)
-            }
-            _ => Ok(false),
-        }
+        note_fresh(
+            alloc,
+            &mut self.book,
+            &mut self.prices,
+            operator,
+            key,
+            moment,
+            request,
+        )
     }
 }
