@@ -1,0 +1,7 @@
+//! Order intake by itself: the book of orders and the prices of one journal, without a ledger. Tests and figures ask it.
+#![tactic(auto)]
+
+mod noting;
+mod register;
+
+pub use crate::register::Register;
