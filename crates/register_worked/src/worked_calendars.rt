@@ -120,8 +120,8 @@ pub fn family_with_one_schedule()
 {}
 
 /// At one moment the sheet of one calendar says nothing of another: a line in a class of the other one still comes in
-/// time, a dividend there may still be declared, and no price and no rate of its classes may be corrected yet. A dividend
-/// keeps open the day of its own calendar alone.
+/// time, a dividend there may still be declared, no price and no rate of its classes may be corrected yet, and its day
+/// may be closed. A dividend keeps open the day of its own calendar alone, and needs one that is open there.
 pub fn rules_of_one_calendar()
     ensures { AnswersAlone (
         calendar_over (codes "2") (codes "2024-07-01,2024-07-05,2024-07-04")
@@ -144,6 +144,11 @@ pub fn rules_of_one_calendar()
         ∷ codes "1719864420,op-desk000001,close,2,2024-07-02"
         ∷ codes "1719864420,op-desk000001,close,1,2024-07-02"
         ∷ codes "1719864480,h-mary000001,show,101"
+        ∷ codes "1719864540,op-desk000001,dividend,12,1719950400,0.100000"
+        ∷ codes "1719950400,op-desk000001,sheet,2,1719950400,21:25.00"
+        ∷ codes "1720036800,op-desk000001,sheet,1,1720036800,12:10.00"
+        ∷ codes "1720036860,op-desk000001,close,2,2024-07-03"
+        ∷ codes "1720036920,h-mary000001,show,101"
         ∷ []
         ) (
         codes "ok,calendar,2"
@@ -166,6 +171,11 @@ pub fn rules_of_one_calendar()
         ∷ codes "no,14,2"
         ∷ codes "ok,close,1,2024-07-02"
         ∷ codes "ok,show,101,21:4.000:0.000:100.00"
+        ∷ codes "no,3,2"
+        ∷ codes "ok,sheet,3"
+        ∷ codes "ok,sheet,4"
+        ∷ codes "ok,close,2,2024-07-03"
+        ∷ codes "ok,show,101,21:4.016:0.000:100.40"
         ∷ []
         ) }
 {}
