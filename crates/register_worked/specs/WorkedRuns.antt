@@ -2,7 +2,7 @@
 -- preamble: a calendar of New York, four classes, a dealer, two households and their accounts. Some have a calendar with
 -- few pricing days in it, and some have lines of their own in its place.
 use Rattle.std.specs.List.{join_with_byte, list_any}
-use Rattle.std.specs.Prelude.{Bool, List, [], ℕ, ◌&&◌, ◌++◌, ◌+◌, ◌==◌, ◌∷◌, ◌≡◌, codes, filter, flat_map, map, not, replicate, suc, true, zero}
+use Rattle.std.specs.Prelude.{Bool, List, [], ℕ, ◌&&◌, ◌++◌, ◌+◌, ◌==◌, ◌∷◌, ◌≡◌, codes, false, filter, flat_map, if◌then◌else◌, length, map, not, replicate, suc, true, zero}
 use Rattle.agent_events.specs.AnswerTexts.{day_text, list_text}
 use Rattle.agent_events.specs.Events.{Event, placed_now}
 use Rattle.agent_events.specs.declared.event.EventKind.{EventKind}
@@ -14,9 +14,12 @@ use Rattle.agent_events.specs.declared.request.HouseholdForm.{HouseholdForm}
 use Rattle.agent_events.specs.declared.request.Request.{Request}
 use Rattle.fund_calendar.specs.PricingDays.{days_from, is_priced}
 use Rattle.money_units.specs.Texts.{number_text}
+use Rattle.register_machine.specs.journal.Journals.{Journal}
+use Rattle.register_machine.specs.journal.Views.{view}
 use Rattle.register_machine.specs.pricing.PublishedTable.{empty_table}
 use Rattle.agent_events.specs.declared.verdict.Caller.{Caller}
 use Rattle.register_machine.specs.rules.Situations.{Situation, situation_at}
+use Rattle.share_lots.specs.Lots.{Holding}
 use Rattle.register_machine.specs.run.Scripts.{Run, batch_text, empty_run, run_from, script_items, script_text}
 
 abbrev pub operator_key : List ℕ
@@ -211,3 +214,66 @@ abbrev pub AnswersWithOrders : ℕ → List (List ℕ) → List (List ℕ) → T
 AnswersWithOrders count items lines =
     (run_from operator_key (with_orders count (run_over [])) (script_items (text_of items))).lines
     ≡ text_of lines
+
+-- what the operator alone may ask, with the content that it has behind a sheet of 2024-07-01
+abbrev pub operator_requests : List (List ℕ)
+operator_requests =
+    codes "calendar,2,EST5,16:00,2024-07-01,2024-07-12," ∷ codes "close,1,2024-07-05"
+    ∷ codes "class,15,1,3,INDEX-I,0,0,0.01,0.01,0.00:0," ∷ codes "dealer,6,d-second00006,0"
+    ∷ codes "household,3,h-third00003" ∷ codes "account,104,1,0,MARY DOE 2"
+    ∷ codes "sheet,1,1719950400,11:20.00 12:10.00 13:15.00 14:50.00" ∷ codes "dividend,12,1720036800,0.100000"
+    ∷ codes "fixprice,1,fund,12,1719864000,8.00" ∷ codes "fixrate,2,fund,12,1719864000,0.100000"
+    ∷ codes "enter,3,fund,1719842460,buy,101,2,12,50.00" ∷ codes "replace,4,fund,1719842400,buy,101,1,12,2000.00"
+    ∷ codes "void,5,fund,101,1" ∷ codes "books" ∷ []
+
+-- requests as items behind a moment and a key, and so many refusals for want of a right
+abbrev pub requests_at : List ℕ → List (List ℕ) → List (List ℕ)
+requests_at front requests = map (λ request. front ++ request) requests
+
+abbrev pub no_rights : List (List ℕ) → List (List ℕ)
+no_rights requests = map (λ request. codes "no,1") requests
+
+-- bytes behind a byte-order mark, and lines that get these answers behind one
+abbrev pub with_mark : List ℕ → List ℕ
+with_mark bytes = 239 ∷ 187 ∷ 191 ∷ bytes
+
+abbrev pub AnswersBehindMark : List (List ℕ) → List (List ℕ) → Type 0
+AnswersBehindMark items lines = script_text operator_key (with_mark (text_of items)) ≡ text_of lines
+
+-- so many records of one field
+abbrev pub short_records : ℕ → List ℕ
+short_records count = text_of (replicate count (codes "1"))
+
+-- a position's lots: one of so many loose mils, which cost so many cents
+abbrev pub holding_of : ℕ → ℕ → Holding
+holding_of mils cents = record {
+  lots = record { number = 1; day = 19905; loose = mils; held = 0; cost = cents; free = false } ∷ [];
+  next_lot = 2;
+}
+
+-- an item whose event a household sees, and one whose event it doesn't see
+abbrev pub seen : List ℕ → Bool × List ℕ
+seen item = (true, item)
+
+abbrev pub hidden : List ℕ → Bool × List ℕ
+hidden item = (false, item)
+
+-- the sheet of 2024-07-01 where there is one class
+abbrev pub first_price : List ℕ
+first_price = codes "1719867600,op-desk000001,sheet,1,1719864000,12:10.00"
+
+-- the journal of these items
+abbrev pub journal_of : List (Bool × List ℕ) → Journal
+journal_of items = (run_from operator_key empty_run (script_items (text_of (map (λ item. item.1) items)))).journal
+
+-- of the events of these items, one each, those whose items are seen
+abbrev pub events_seen : List (Bool × List ℕ) → Journal → Journal
+events_seen [] journal = []
+events_seen (item ∷ items) [] = []
+events_seen (item ∷ items) (event ∷ events) =
+    if item.0 then event ∷ events_seen items events else events_seen items events
+
+-- each of these items brings an event, and of these the household sees those whose items are seen
+pub record SeesOfARun (household : ℕ) (items : List (Bool × List ℕ)) : Type 0 where
+  pub each : length (journal_of items) ≡ length items
+  pub shown : view household (journal_of items) ≡ events_seen items (journal_of items)

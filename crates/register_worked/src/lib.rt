@@ -24,3 +24,4 @@ pub mod worked_repeats;
 pub mod worked_sheets;
 pub mod worked_statements;
 pub mod worked_turns;
+pub mod worked_views;

@@ -3,7 +3,7 @@ ghost use Rattle.std.specs.Prelude.{◌≡◌, [], ◌∷◌, ◌++◌, codes, S
 ghost use Rattle.agent_events.specs.declared.reply.Refusal.{Refusal};
 ghost use Rattle.agent_events.specs.declared.reply.Refusal.TheVariants as Refusal;
 ghost use Rattle.register_machine.specs.rules.Limits.{orders_full};
-ghost use Rattle.register_worked.specs.WorkedRuns.{AnswersWithOrders, BatchAnswers, first_sheet, quoted_record, record_line, with_cancels, order_of};
+ghost use Rattle.register_worked.specs.WorkedRuns.{AnswersWithOrders, BatchAnswers, first_sheet, quoted_record, record_line, short_records, with_cancels, order_of};
 
 /// A dealer's batch of five lines, the first of them in quotes: each is answered in turn.
 pub fn batch_of_a_dealer()
@@ -84,5 +84,18 @@ pub fn order_past_the_limit()
         ∷ codes "ok,order,101,1,1719838800,1719864000"
         ∷ codes "ok,order,102,1,1719838900,1719864000"
         ∷ []
+        ) }
+{}
+
+/// A batch has 4,096 lines at most. One more and it is no batch, which is told before any right is looked at.
+pub fn batch_that_is_too_long()
+    ensures dealer { BatchAnswers [] 1719838800 (codes "d-broker00005") (short_records 4097) (
+        codes "no,2,0" ∷ []
+        ) }
+    ensures stranger { BatchAnswers [] 1719838800 (codes "d-nobody00000") (short_records 4097) (
+        codes "no,2,0" ∷ []
+        ) }
+    ensures longest { BatchAnswers [] 1719838800 (codes "d-nobody00000") (short_records 4096) (
+        codes "no,1" ∷ []
         ) }
 {}

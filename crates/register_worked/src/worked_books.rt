@@ -1,6 +1,6 @@
 //! Worked scripts of the books.
 ghost use Rattle.std.specs.Prelude.{[], ◌∷◌, ◌++◌, codes};
-ghost use Rattle.register_worked.specs.WorkedRuns.{AnswersInJuly};
+ghost use Rattle.register_worked.specs.WorkedRuns.{AnswersAlone, AnswersInJuly, calendar_over, statement_of};
 
 /// A load and a deferred charge go to the underwriter, an exchange moves cash from class to class, a dividend leaves the
 /// class only where it is paid in cash, and a letter that begins moves nothing.
@@ -164,6 +164,66 @@ pub fn books_after_each_correction()
         ∷ codes "ok,fix,5,12:-50.00"
         ∷ (codes "ok,books,11:0.000:0.00 12:100.000:1100.00 13:0.000:0.00 "
         ++ codes "14:136.500:1365.00,0.00,-55.00,5:-110.00,-2300.00")
+        ∷ []
+        ) }
+{}
+
+/// Classes and dealers stand in the books by number, and classes in the gains of a correction, whichever was opened
+/// first. The price of a class is that on its own latest sheet, though another calendar published a later one.
+pub fn books_by_number()
+    ensures { AnswersAlone (
+        calendar_over (codes "1") (codes "2024-07-01,2024-07-05,2024-07-04")
+        ∷ calendar_over (codes "2") (codes "2024-07-01,2024-07-05,2024-07-04")
+        ∷ codes "1719835200,op-desk000001,class,13,1,1,GROWTH-B,7,1,0.01,0.01,0.00:0,"
+        ∷ codes "1719835200,op-desk000001,class,21,2,2,INDEX-N,0,1,0.01,0.01,0.00:0,"
+        ∷ codes "1719835200,op-desk000001,class,12,1,3,INCOME-B,7,1,0.01,0.01,0.00:0,"
+        ∷ codes "1719835200,op-desk000001,dealer,7,d-second00007,21600"
+        ∷ codes "1719835200,op-desk000001,dealer,5,d-broker00005,21600"
+        ∷ codes "1719835200,op-desk000001,household,1,h-mary000001"
+        ∷ codes "1719835200,op-desk000001,account,101,1,7,MARY DOE"
+        ∷ codes "1719842400,h-mary000001,buy,101,1,12,1000.00"
+        ∷ codes "1719842460,h-mary000001,buy,101,2,13,300.00"
+        ∷ codes "1719842520,h-mary000001,buy,101,3,21,500.00"
+        ∷ codes "1719865800,op-desk000001,sheet,1,1719864000,12:10.00 13:15.00"
+        ∷ codes "1719865800,op-desk000001,sheet,2,1719864000,21:50.00"
+        ∷ codes "1719867600,op-desk000001,books"
+        ∷ codes "1719867660,op-desk000001,fixprice,1,dealer:5,12,1719864000,8.00"
+        ∷ codes "1719867720,op-desk000001,replace,2,dealer:7,1719842460,buy,101,2,12,300.00"
+        ∷ codes "1719867780,op-desk000001,books"
+        ∷ codes "1719867840,h-mary000001,statement,101,2024-07-01,2024-07-31"
+        ∷ []
+        ) (
+        codes "ok,calendar,1"
+        ∷ codes "ok,calendar,2"
+        ∷ codes "ok,class,13"
+        ∷ codes "ok,class,21"
+        ∷ codes "ok,class,12"
+        ∷ codes "ok,dealer,7"
+        ∷ codes "ok,dealer,5"
+        ∷ codes "ok,household,1"
+        ∷ codes "ok,account,101"
+        ∷ codes "ok,order,101,1,1719842400,1719864000"
+        ∷ codes "ok,order,101,2,1719842460,1719864000"
+        ∷ codes "ok,order,101,3,1719842520,1719864000"
+        ∷ codes "ok,sheet,1"
+        ∷ codes "ok,sheet,2"
+        ∷ (codes "ok,books,12:100.000:1000.00 13:20.000:300.00 21:10.000:500.00,0.00,0.00,"
+        ++ codes "5:0.00 7:0.00,-1800.00")
+        ∷ codes "ok,fix,1,12:-200.00"
+        ∷ codes "ok,fix,2,12:0.00 13:0.00"
+        ∷ (codes "ok,books,12:162.500:1500.00 13:0.000:0.00 21:10.000:500.00,0.00,0.00,"
+        ++ codes "5:-200.00 7:0.00,-1800.00")
+        ∷ statement_of (codes "101") (
+        codes "STATEMENT 101 MARY DOE"
+        ∷ codes "PERIOD 2024-07-01 2024-07-31"
+        ∷ codes "2024-07-01 buy ref 1 class 12 gross 1000.00 price 8.00 shares 125.000 charge 0.00"
+        ∷ codes "2024-07-01 buy ref 2 class 12 gross 300.00 price 8.00 shares 37.500 charge 0.00"
+        ∷ codes "2024-07-01 buy ref 3 class 21 gross 500.00 price 50.00 shares 10.000 charge 0.00"
+        ∷ codes "HOLDINGS"
+        ∷ codes "class 12 INCOME-B shares 162.500 escrow 0.000 cost 1300.00 nav 8.00 value 1300.00"
+        ∷ codes "class 21 INDEX-N shares 10.000 escrow 0.000 cost 500.00 nav 50.00 value 500.00"
+        ∷ codes "END"
+        ∷ [])
         ∷ []
         ) }
 {}

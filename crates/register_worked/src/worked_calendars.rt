@@ -118,3 +118,94 @@ pub fn family_with_one_schedule()
         ∷ []
         ) }
 {}
+
+/// At one moment the sheet of one calendar says nothing of another: a line in a class of the other one still comes in
+/// time, a dividend there may still be declared, no price and no rate of its classes may be corrected yet, and its day
+/// may be closed. A dividend keeps open the day of its own calendar alone, and needs one that is open there.
+pub fn rules_of_one_calendar()
+    ensures { AnswersAlone (
+        calendar_over (codes "2") (codes "2024-07-01,2024-07-05,2024-07-04")
+        ∷ calendar_over (codes "1") (codes "2024-07-01,2024-07-05,2024-07-04")
+        ∷ codes "1719835200,op-desk000001,class,21,2,1,GROWTH-A,0,1,0.01,0.01,0.00:0,"
+        ∷ codes "1719835200,op-desk000001,class,12,1,2,INCOME-A,0,1,0.01,0.01,0.00:0,"
+        ∷ codes "1719835200,op-desk000001,dealer,7,d-second00007,21600"
+        ∷ codes "1719835200,op-desk000001,household,1,h-mary000001"
+        ∷ codes "1719835200,op-desk000001,account,101,1,7,MARY DOE"
+        ∷ codes "1719864000,op-desk000001,sheet,1,1719864000,12:10.00"
+        ∷ codes "1719864060,d-second00007,line,1719860000,buy,101,1,12,100.00"
+        ∷ codes "1719864060,d-second00007,line,1719860000,buy,101,1,21,100.00"
+        ∷ codes "1719864120,op-desk000001,dividend,12,1719864000,0.100000"
+        ∷ codes "1719864120,op-desk000001,dividend,21,1719864000,0.100000"
+        ∷ codes "1719864180,op-desk000001,fixprice,1,fund,21,1719864000,9.00"
+        ∷ codes "1719864180,op-desk000001,fixrate,1,fund,21,1719864000,0.200000"
+        ∷ codes "1719864240,op-desk000001,sheet,2,1719864000,21:20.00"
+        ∷ codes "1719864300,op-desk000001,fixprice,1,fund,21,1719864000,25.00"
+        ∷ codes "1719864360,op-desk000001,dividend,21,1719950400,0.100000"
+        ∷ codes "1719864420,op-desk000001,close,2,2024-07-02"
+        ∷ codes "1719864420,op-desk000001,close,1,2024-07-02"
+        ∷ codes "1719864480,h-mary000001,show,101"
+        ∷ codes "1719864540,op-desk000001,dividend,12,1719950400,0.100000"
+        ∷ codes "1719950400,op-desk000001,sheet,2,1719950400,21:25.00"
+        ∷ codes "1720036800,op-desk000001,sheet,1,1720036800,12:10.00"
+        ∷ codes "1720036860,op-desk000001,close,2,2024-07-03"
+        ∷ codes "1720036920,h-mary000001,show,101"
+        ∷ []
+        ) (
+        codes "ok,calendar,2"
+        ∷ codes "ok,calendar,1"
+        ∷ codes "ok,class,21"
+        ∷ codes "ok,class,12"
+        ∷ codes "ok,dealer,7"
+        ∷ codes "ok,household,1"
+        ∷ codes "ok,account,101"
+        ∷ codes "ok,sheet,1"
+        ∷ codes "no,8,1719864000"
+        ∷ codes "ok,order,101,1,1719860000,1719864000"
+        ∷ codes "no,14,12"
+        ∷ codes "ok,dividend,21,1719864000"
+        ∷ codes "no,3,4"
+        ∷ codes "no,3,4"
+        ∷ codes "ok,sheet,2"
+        ∷ codes "ok,fix,1,21:25.00"
+        ∷ codes "ok,dividend,21,1719950400"
+        ∷ codes "no,14,2"
+        ∷ codes "ok,close,1,2024-07-02"
+        ∷ codes "ok,show,101,21:4.000:0.000:100.00"
+        ∷ codes "no,3,2"
+        ∷ codes "ok,sheet,3"
+        ∷ codes "ok,sheet,4"
+        ∷ codes "ok,close,2,2024-07-03"
+        ∷ codes "ok,show,101,21:4.016:0.000:100.40"
+        ∷ []
+        ) }
+{}
+
+/// An exchange into a class that was opened after its receipt waits for the first sheet that lists both classes: one
+/// that is entered behind a sheet without the target is pending.
+pub fn exchange_into_a_class_opened_later()
+    ensures { AnswersInJuly (
+        codes "1719842400,h-mary000001,buy,101,1,12,1000.00"
+        ∷ codes "1719865800,op-desk000001,sheet,1,1719864000,11:20.00 12:10.00 13:15.00 14:50.00"
+        ∷ (codes "1719950400,op-desk000001,class,15,1,2,INCOME-C,7,1,0.01,0.01,0.00:0,500 400 "
+        ++ codes "300 200 100")
+        ∷ codes "1719952200,op-desk000001,sheet,1,1719950400,11:20.00 12:10.00 13:15.00 14:50.00"
+        ∷ codes "1719954000,op-desk000001,enter,1,fund,1719928800,exchange,101,2,12,15,50.000"
+        ∷ codes "1719954000,h-mary000001,trace,101,2"
+        ∷ (codes "1720038600,op-desk000001,sheet,1,1720036800,11:20.00 12:10.00 13:15.00 "
+        ++ codes "14:50.00 15:20.00")
+        ∷ codes "1720040400,h-mary000001,trace,101,2"
+        ∷ codes "1720040400,h-mary000001,show,101"
+        ∷ []
+        ) (
+        codes "ok,order,101,1,1719842400,1719864000"
+        ∷ codes "ok,sheet,1"
+        ∷ codes "ok,class,15"
+        ∷ codes "ok,sheet,2"
+        ∷ codes "ok,fix,1,"
+        ∷ codes "ok,trace,101,2,pending,1719928800,1720036800,0.00,0.000,0.00,0.00,0.000"
+        ∷ codes "ok,sheet,3"
+        ∷ codes "ok,trace,101,2,filled,1719928800,1720036800,10.00,50.000,500.00,0.00,0.000"
+        ∷ codes "ok,show,101,12:50.000:0.000:500.00 15:25.000:0.000:500.00"
+        ∷ []
+        ) }
+{}

@@ -1,6 +1,7 @@
 //! Worked scripts of the ceiling of a position.
-ghost use Rattle.std.specs.Prelude.{[], ◌∷◌, ◌++◌, codes};
-ghost use Rattle.register_worked.specs.WorkedRuns.{AnswersAlone, AnswersInJuly, calendar_over, days_of_july, statement_of};
+ghost use Rattle.std.specs.Prelude.{◌≡◌, [], ◌∷◌, ◌++◌, codes, false, true};
+ghost use Rattle.register_machine.specs.replay.Positions.{has_room};
+ghost use Rattle.register_worked.specs.WorkedRuns.{AnswersAlone, AnswersInJuly, calendar_over, days_of_july, holding_of, statement_of};
 
 /// A purchase fills up to the last share of the ceiling and is unfilled one share past it. What was sold makes room, and
 /// an account without room doesn't hinder another.
@@ -174,6 +175,44 @@ pub fn dividend_at_the_ceiling()
         ∷ codes "ok,show,102,14:999999990.000:0.000:9999999.90"
         ∷ (codes "ok,books,11:0.000:0.00 12:0.000:0.00 13:0.000:0.00 "
         ++ codes "14:1999999990.000:19998000.00,0.00,0.00,5:0.00,-19998000.00")
+        ∷ []
+        ) }
+{}
+
+/// A position has room up to its ceilings, 10^12 mils and 10^15 cents of cost, and for no mil and no cent more.
+pub fn room_to_the_ceilings()
+    ensures mils { has_room (holding_of 999999999000 1) 1000 1 ≡ true }
+    ensures mil_more { has_room (holding_of 999999999000 1) 1001 1 ≡ false }
+    ensures cost { has_room (holding_of 1 999999999990000) 1 10000 ≡ true }
+    ensures cent_more { has_room (holding_of 1 999999999990000) 1 10001 ≡ false }
+{}
+
+/// An exchange looks for room in its target: into a position at its ceiling it is unfilled, however little is left in
+/// the class that it leaves.
+pub fn exchange_into_a_full_position()
+    ensures { AnswersInJuly (
+        codes "1719842400,h-mary000001,buy,101,1,13,10000000.00"
+        ∷ codes "1719842460,h-mary000001,buy,101,2,12,100.00"
+        ∷ codes "1719865800,op-desk000001,sheet,1,1719864000,11:20.00 12:10.00 13:0.01 14:50.00"
+        ∷ codes "1719928800,h-mary000001,exchange,101,3,12,13,1.000"
+        ∷ codes "1719928860,h-mary000001,exchange,101,4,13,12,1000.000"
+        ∷ codes "1719928920,h-mary000001,exchange,101,5,12,13,1.000"
+        ∷ codes "1719952200,op-desk000001,sheet,1,1719950400,11:20.00 12:10.00 13:0.01 14:50.00"
+        ∷ codes "1719954000,h-mary000001,trace,101,3"
+        ∷ codes "1719954000,h-mary000001,trace,101,4"
+        ∷ codes "1719954000,h-mary000001,trace,101,5"
+        ∷ []
+        ) (
+        codes "ok,order,101,1,1719842400,1719864000"
+        ∷ codes "ok,order,101,2,1719842460,1719864000"
+        ∷ codes "ok,sheet,1"
+        ∷ codes "ok,order,101,3,1719928800,1719950400"
+        ∷ codes "ok,order,101,4,1719928860,1719950400"
+        ∷ codes "ok,order,101,5,1719928920,1719950400"
+        ∷ codes "ok,sheet,2"
+        ∷ codes "ok,trace,101,3,ceiling,1719928800,1719950400,0.00,0.000,0.00,0.00,0.000"
+        ∷ codes "ok,trace,101,4,filled,1719928860,1719950400,0.01,1000.000,10.00,0.00,0.000"
+        ∷ codes "ok,trace,101,5,filled,1719928920,1719950400,10.00,1.000,10.00,0.00,0.000"
         ∷ []
         ) }
 {}

@@ -325,3 +325,45 @@ pub fn unfilled_replacement()
         ∷ []
         ) }
 {}
+
+/// The number of a correction is used once, whichever kind it has: with other content it is refused, and with the same
+/// content it is a repeat.
+pub fn numbers_of_corrections()
+    ensures { AnswersInJuly (
+        codes "1719842400,h-mary000001,buy,101,1,12,1000.00"
+        ∷ codes "1719842460,h-mary000001,buy,101,2,12,500.00"
+        ∷ codes "1719865800,op-desk000001,sheet,1,1719864000,11:20.00 12:10.00 13:15.00 14:50.00"
+        ∷ codes "1719867600,op-desk000001,fixprice,1,fund,12,1719864000,8.00"
+        ∷ codes "1719867600,op-desk000001,fixrate,1,fund,12,1719864000,0.100000"
+        ∷ codes "1719867600,op-desk000001,fixrate,2,fund,12,1719864000,0.100000"
+        ∷ codes "1719867600,op-desk000001,enter,2,fund,1719842520,buy,101,3,12,50.00"
+        ∷ codes "1719867600,op-desk000001,enter,3,fund,1719842520,buy,101,3,12,50.00"
+        ∷ codes "1719867600,op-desk000001,replace,3,fund,1719842400,buy,101,1,12,2000.00"
+        ∷ codes "1719867600,op-desk000001,replace,4,fund,1719842400,buy,101,1,12,2000.00"
+        ∷ codes "1719867600,op-desk000001,void,4,fund,101,2"
+        ∷ codes "1719867600,op-desk000001,void,5,fund,101,2"
+        ∷ codes "1719867600,op-desk000001,void,5,fund,101,3"
+        ∷ codes "1719867600,op-desk000001,fixprice,5,fund,12,1719864000,9.00"
+        ∷ codes "1719867660,op-desk000001,void,5,fund,101,2"
+        ∷ codes "1719867660,op-desk000001,fixrate,2,fund,12,1719864000,0.100000"
+        ∷ []
+        ) (
+        codes "ok,order,101,1,1719842400,1719864000"
+        ∷ codes "ok,order,101,2,1719842460,1719864000"
+        ∷ codes "ok,sheet,1"
+        ∷ codes "ok,fix,1,12:-300.00"
+        ∷ codes "no,4"
+        ∷ codes "ok,fix,2,"
+        ∷ codes "no,4"
+        ∷ codes "ok,fix,3,12:0.00"
+        ∷ codes "no,4"
+        ∷ codes "ok,fix,4,12:0.00"
+        ∷ codes "no,4"
+        ∷ codes "ok,fix,5,12:0.00"
+        ∷ codes "no,4"
+        ∷ codes "no,4"
+        ∷ codes "ok,fix,5,12:0.00"
+        ∷ codes "ok,fix,2,"
+        ∷ []
+        ) }
+{}

@@ -1,6 +1,6 @@
 //! Worked scripts of texts that aren't in their form.
 ghost use Rattle.std.specs.Prelude.{[], ◌∷◌, ◌++◌, codes};
-ghost use Rattle.register_worked.specs.WorkedRuns.{AnswersInJuly, calendar_over};
+ghost use Rattle.register_worked.specs.WorkedRuns.{AnswersAlone, AnswersBehindMark, AnswersInJuly, BatchAnswers, calendar_over, record_line, with_mark};
 
 /// Each field has its form and its range, and the first one that isn't in it is told by its place; a wrong number of
 /// fields has place 0. Loads past 850 basis points and a calendar that ends before it begins have their places too.
@@ -73,4 +73,32 @@ pub fn places_of_bad_fields()
         ∷ codes "no,2,10"
         ∷ []
         ) }
+{}
+
+/// The pricing moments of a calendar lie between the first second of 1970 and the last one of 2199, in UTC: a time of day
+/// that brings one a minute beyond is told by its place.
+pub fn moments_of_a_calendar()
+    ensures { AnswersAlone (
+        codes "1719835200,op-desk000001,calendar,1,EST5,19:00,2199-12-30,2199-12-31,"
+        ∷ codes "1719835200,op-desk000001,calendar,1,EST5,18:59,2199-12-30,2199-12-31,"
+        ∷ codes "1719835200,op-desk000001,calendar,2,JST-9,08:59,1970-01-01,1970-01-02,"
+        ∷ codes "1719835200,op-desk000001,calendar,2,JST-9,09:00,1970-01-01,1970-01-02,"
+        ∷ []
+        ) (
+        codes "no,2,3"
+        ∷ codes "ok,calendar,1"
+        ∷ codes "no,2,3"
+        ∷ codes "ok,calendar,2"
+        ∷ []
+        ) }
+{}
+
+/// A byte-order mark at the start of a script or a batch is passed over.
+pub fn byte_order_mark()
+    ensures script { AnswersBehindMark
+        (codes "1719835200,op-desk000001,household,1,h-mary000001" ∷ [])
+        (codes "ok,household,1" ∷ []) }
+    ensures batch { BatchAnswers [] 1719838800 (codes "d-broker00005")
+        (with_mark (record_line (codes "1719838000,buy,103,1,14,1000.00")))
+        (codes "ok,order,103,1,1719838000,1719864000" ∷ []) }
 {}

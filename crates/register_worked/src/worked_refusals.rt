@@ -1,6 +1,6 @@
 //! Worked scripts of refusals where two rules are broken: the first one is told.
 ghost use Rattle.std.specs.Prelude.{[], ◌∷◌, ◌++◌, codes};
-ghost use Rattle.register_worked.specs.WorkedRuns.{AnswersInJuly, AnswersOver, calendar_over};
+ghost use Rattle.register_worked.specs.WorkedRuns.{AnswersInJuly, AnswersOver, AnswersWithOrders, calendar_over};
 
 /// Where the calendar has ended that is told first, then the minimum, then that the exchange or the letter isn't offered.
 /// An exchange between two calendars has no calendar that could have ended.
@@ -104,6 +104,50 @@ pub fn refusals_in_their_order()
         ∷ codes "no,9,1719867600"
         ∷ codes "no,11"
         ∷ codes "no,11"
+        ∷ []
+        ) }
+{}
+
+/// What is absent is told before what stands already: a number that is taken says nothing while the calendar, the
+/// household or the dealer beside it is missing.
+pub fn absent_before_what_stands()
+    ensures { AnswersInJuly (
+        codes "1719835200,op-desk000001,class,14,9,3,INDEX-O,0,0,0.01,0.01,0.00:0,"
+        ∷ codes "1719835200,op-desk000001,class,14,1,3,INDEX-O,0,0,0.01,0.01,0.00:0,"
+        ∷ codes "1719835200,op-desk000001,account,103,9,0,OMAR ROE"
+        ∷ codes "1719835200,op-desk000001,account,103,2,9,OMAR ROE"
+        ∷ codes "1719835200,op-desk000001,account,103,2,0,OMAR ROE"
+        ∷ []
+        ) (
+        codes "no,3,2"
+        ∷ codes "no,14,14"
+        ∷ codes "no,3,2"
+        ∷ codes "no,3,3"
+        ∷ codes "no,14,103"
+        ∷ []
+        ) }
+{}
+
+/// In an account that is full a request is refused first for what it names, for a reference that is used, for its
+/// minimum, for what isn't offered and for its receipt, and only then because the account is full.
+pub fn told_before_a_full_account()
+    ensures { AnswersWithOrders 4096 (
+        codes "1719838900,op-desk000001,sellall,101,4097,99"
+        ∷ codes "1719838900,op-desk000001,sellall,101,1,11"
+        ∷ codes "1719838900,op-desk000001,cancel,101,2,1"
+        ∷ codes "1719838900,op-desk000001,buy,101,4097,11,249.99"
+        ∷ codes "1719838900,op-desk000001,exchange,101,4097,12,14,1.000"
+        ∷ codes "1719838900,op-desk000001,enter,1,fund,1719838901,sellall,101,4097,14"
+        ∷ codes "1719838900,op-desk000001,sellall,101,4097,14"
+        ∷ []
+        ) (
+        codes "no,3,3"
+        ∷ codes "no,4"
+        ∷ codes "no,4"
+        ∷ codes "no,6,250.00"
+        ∷ codes "no,7"
+        ∷ codes "no,9,1719838900"
+        ∷ codes "no,16,4096"
         ∷ []
         ) }
 {}

@@ -1,0 +1,7 @@
+use Rattle.std.proofs.Common.{refl}
+use Rattle.register_machine.proofs.OnLiterals.{machine_on_literals}
+use Rattle.register_worked.proofs.worked_callers.verbs_of_a_household_and_a_dealer.Goals as goal
+
+pub returns : goal.returns
+unfolding machine_on_literals
+returns c = refl
