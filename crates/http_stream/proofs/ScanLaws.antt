@@ -13,9 +13,9 @@ use Rattle.http_stream.specs.Scanning.{EndsAs, IsOneLine}
 
 two-fill : (line : Line) (a b : ℕ) → line_with (line_with line a) b ≡ Line.Filled
 two-fill Line.Nothing a b = elim (eqb a 13) as (λ v. line_with (cond v Line.Return Line.Filled) b ≡ Line.Filled) [
-    | true ↦ refl
-    | false ↦ refl
-  ]
+  | true ↦ refl
+  | false ↦ refl
+]
 two-fill Line.Return a b = refl
 two-fill Line.Filled a b = refl
 

@@ -59,8 +59,11 @@ impl Model for Intake {
 
     ghost Value = { Stream };
 
-    ghost view = { λ i. record { rest = drop i.start i.bytes.items; given = i.given;
-        closed = i.closed } };
+    ghost view = { λ i. record {
+      rest = drop i.start i.bytes.items;
+      given = i.given;
+      closed = i.closed;
+    } };
 
     ghost invariant = { λ i. (i.start ≤ vec_len i.bytes)
         × IsKept (record { rest = drop i.start i.bytes.items; given = i.given; closed = i.closed })

@@ -86,12 +86,7 @@ const VERBS: [(&[u8], &[u8], &[u8], &[u8]); 23] = [
         b"1|EST5EDT,M3.2.0,M11.1.0|16:00|2024-01-01|2026-12-31|2024-07-04 2024-11-28 2024-12-25",
         b"0|E T|24:00|2024-02-30|2200-01-01|2024-07-04  2024-11-28",
     ),
-    (
-        b"close",
-        b"calendar|date",
-        b"1|2024-07-05",
-        b"x|2024-7-05",
-    ),
+    (b"close", b"calendar|date", b"1|2024-07-05", b"x|2024-7-05"),
     (
         b"class",
         b"class|calendar|fund|name|family|counts|first_min|later_min|front|deferred",
@@ -194,12 +189,7 @@ const VERBS: [(&[u8], &[u8], &[u8], &[u8]); 23] = [
         b"101|8|11|cash",
         b"0|0|0|Cash",
     ),
-    (
-        b"cancel",
-        b"account|ref|target",
-        b"101|9|1",
-        b"0|0|0",
-    ),
+    (b"cancel", b"account|ref|target", b"101|9|1", b"0|0|0"),
     (
         b"enter",
         b"fix|bearer|receipt|verb|account|ref|class|gross",
@@ -236,9 +226,15 @@ fn each_verb_is_read_and_each_field_has_its_place(rt: HostRuntime) -> Result<(),
             let place = i + 1;
             let wanted = refused_at(alloc, place)?;
             let changed = object(alloc, &names, &texts, place, Some(other))?;
-            assert_eq!(rt; told_of(alloc, verb, &changed)?.as_slice(), wanted.as_slice());
+            assert_eq!(rt;
+                told_of(alloc, verb, &changed)?.as_slice(),
+                wanted.as_slice()
+            );
             let without = object(alloc, &names, &texts, place, None)?;
-            assert_eq!(rt; told_of(alloc, verb, &without)?.as_slice(), wanted.as_slice());
+            assert_eq!(rt;
+                told_of(alloc, verb, &without)?.as_slice(),
+                wanted.as_slice()
+            );
         }
     }
     Ok(())
@@ -453,6 +449,9 @@ fn a_batch_has_at_most_4096_lines(rt: HostRuntime) -> Result<(), Fail> {
     let told = told_of(rt.alloc(), b"batch", &most)?;
     assert_eq!(rt; told.len(), 2 + 2 * 4096);
     let more = batch_of(rt.alloc(), 4097)?;
-    assert_eq!(rt; told_of(rt.alloc(), b"batch", &more)?.as_slice(), b":0 ".as_slice());
+    assert_eq!(rt;
+        told_of(rt.alloc(), b"batch", &more)?.as_slice(),
+        b":0 ".as_slice()
+    );
     Ok(())
 }

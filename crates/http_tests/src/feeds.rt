@@ -183,10 +183,7 @@ const CLOSED: [(&[u8], &[u8]); 52] = [
     // Nothing is decided yet.
     (b"\r\n\r\n\n\r\n", b""),
     (b"GET /v1/books HTTP/1.1\r\nX: y", b""),
-    (
-        b"POST /v2/buy HTTP/1.1\r\nContent-Length: 2\r\n\r\n{",
-        b"",
-    ),
+    (b"POST /v2/buy HTTP/1.1\r\nContent-Length: 2\r\n\r\n{", b""),
 ];
 
 // Streams behind whose items the connection stays.
@@ -233,10 +230,7 @@ const STAYING: [(&[u8], &[u8]); 50] = [
     (b"GET v1/books HTTP/1.1\r\n\r\n", b"404 "),
     (b"GET /V1/books HTTP/1.1\r\n\r\n", b"404 "),
     (b"GET /v1/nothing HTTP/1.1\r\n\r\n", b"404 "),
-    (
-        b"GET http://127.0.0.1/v1/books HTTP/1.1\r\n\r\n",
-        b"404 ",
-    ),
+    (b"GET http://127.0.0.1/v1/books HTTP/1.1\r\n\r\n", b"404 "),
     // A route that isn't there has no body without a length, and with one it is passed over.
     (b"POST /v1/line HTTP/1.1\r\n\r\n", b"404 "),
     (
@@ -339,7 +333,12 @@ fn each_stream_is_told_its_items(rt: HostRuntime) -> Result<(), Fail> {
 }
 
 // A look whose head has so many fields of these bytes.
-fn with_fields(alloc: Global, first: &[u8], field: &[u8], count: usize) -> Result<Vec<u8>, NoMemory> {
+fn with_fields(
+    alloc: Global,
+    first: &[u8],
+    field: &[u8],
+    count: usize,
+) -> Result<Vec<u8>, NoMemory> {
     let mut stream = first.to_vec(alloc)?;
     for _ in 0..count {
         stream.extend_from_slice(field)?;
@@ -373,7 +372,10 @@ fn a_head_has_at_most_64_fields(rt: HostRuntime) -> Result<(), Fail> {
         b"Transfer-Encoding: x\r\n",
         65,
     )?;
-    assert_eq!(rt; told(rt.alloc(), &coded, 7)?.as_slice(), b"431! ".as_slice());
+    assert_eq!(rt;
+        told(rt.alloc(), &coded, 7)?.as_slice(),
+        b"431! ".as_slice()
+    );
     Ok(())
 }
 
@@ -399,10 +401,16 @@ fn a_head_has_at_most_16_384_bytes(rt: HostRuntime) -> Result<(), Fail> {
     // No head's text ends in the first 16,384 bytes: one byte less leaves it open.
     let blank = with_fields(rt.alloc(), b"", b"\n", 16382)?;
     assert_eq!(rt; blank.len(), 16384);
-    assert_eq!(rt; told(rt.alloc(), &blank, 4096)?.as_slice(), b"431! ".as_slice());
+    assert_eq!(rt;
+        told(rt.alloc(), &blank, 4096)?.as_slice(),
+        b"431! ".as_slice()
+    );
     assert_eq!(rt; told(rt.alloc(), &blank[..16383], 4096)?.len(), 0);
     let open = long_head(rt.alloc(), 20_000)?;
-    assert_eq!(rt; told(rt.alloc(), &open[..16384], 100)?.as_slice(), b"431! ".as_slice());
+    assert_eq!(rt;
+        told(rt.alloc(), &open[..16384], 100)?.as_slice(),
+        b"431! ".as_slice()
+    );
     assert_eq!(rt; told(rt.alloc(), &open[..16383], 100)?.len(), 0);
     Ok(())
 }
@@ -421,11 +429,17 @@ fn long_body(alloc: Global, size: usize) -> Result<Vec<u8>, NoMemory> {
 #[test]
 fn a_body_has_at_most_1_048_576_bytes(rt: HostRuntime) -> Result<(), Fail> {
     let most = long_body(rt.alloc(), 1_048_576)?;
-    assert_eq!(rt; told(rt.alloc(), &most, 4096)?.as_slice(), b":1 ".as_slice());
+    assert_eq!(rt;
+        told(rt.alloc(), &most, 4096)?.as_slice(),
+        b":1 ".as_slice()
+    );
     let some = long_body(rt.alloc(), 20_000)?;
     assert_eq!(rt; told(rt.alloc(), &some, 1)?.as_slice(), b":1 ".as_slice());
     let more = long_body(rt.alloc(), 1_048_577)?;
-    assert_eq!(rt; told(rt.alloc(), &more, 4096)?.as_slice(), b"413! ".as_slice());
+    assert_eq!(rt;
+        told(rt.alloc(), &more, 4096)?.as_slice(),
+        b"413! ".as_slice()
+    );
     Ok(())
 }
 

@@ -76,7 +76,8 @@ fn the_worked_reply_has_its_bytes(rt: HostRuntime) -> Result<(), Fail> {
         receipt: moment(1719838800)?,
         due: moment(1719864000)?,
     };
-    let wanted = b"HTTP/1.1 200 OK\r\nContent-Type: application/json\r\nContent-Length: 85\r\n\r\n{\"account\":\"101\",\"due\":\"1719864000\",\"receipt\":\"1719838800\",\"ref\":\"1\",\"reply\":\"order\"}".as_slice();
+    let wanted =
+        b"HTTP/1.1 200 OK\r\nContent-Type: application/json\r\nContent-Length: 85\r\n\r\n{\"account\":\"101\",\"due\":\"1719864000\",\"receipt\":\"1719838800\",\"ref\":\"1\",\"reply\":\"order\"}".as_slice();
     let bytes = reply_bytes(rt.alloc(), &Reply::Order(order), false)?;
     assert_eq!(rt; bytes.as_slice(), wanted);
     Ok(())
@@ -176,7 +177,10 @@ fn gains_are_printed_with_their_signs(rt: HostRuntime) -> Result<(), Fail> {
         fix: reference(1)?,
         gains,
     };
-    assert_eq!(rt; line(rt.alloc(), &fix)?.as_slice(), b"ok,fix,1,13:0.00 14:-500.00\n".as_slice());
+    assert_eq!(rt;
+        line(rt.alloc(), &fix)?.as_slice(),
+        b"ok,fix,1,13:0.00 14:-500.00\n".as_slice()
+    );
     let body = b"{\"fix\":\"1\",\"gains\":\"13:0.00 14:-500.00\",\"reply\":\"fix\"}";
     assert!(rt; has_bytes(rt.alloc(), &fix, b"200 OK", b"application/json", body)?);
     Ok(())
@@ -204,7 +208,8 @@ fn a_traced_order_is_printed_with_its_numbers(rt: HostRuntime) -> Result<(), Fai
         line(rt.alloc(), &filled)?.as_slice(),
         b"ok,trace,101,1,filled,1719838800,1719864000,10.61,942.507,10000.00,574.93,0.000\n".as_slice()
     );
-    let body = b"{\"account\":\"101\",\"cash\":\"10000.00\",\"charge\":\"574.93\",\"due\":\"1719864000\",\"loose\":\"0.000\",\"price\":\"10.61\",\"receipt\":\"1719838800\",\"ref\":\"1\",\"reply\":\"trace\",\"shares\":\"942.507\",\"state\":\"filled\"}";
+    let body =
+        b"{\"account\":\"101\",\"cash\":\"10000.00\",\"charge\":\"574.93\",\"due\":\"1719864000\",\"loose\":\"0.000\",\"price\":\"10.61\",\"receipt\":\"1719838800\",\"ref\":\"1\",\"reply\":\"trace\",\"shares\":\"942.507\",\"state\":\"filled\"}";
     assert!(rt; has_bytes(rt.alloc(), &filled, b"200 OK", b"application/json", body)?);
     for (state, word) in [
         (OrderState::Pending, b",pending,".as_slice()),
@@ -244,7 +249,8 @@ fn books_are_printed_by_class_and_dealer(rt: HostRuntime) -> Result<(), Fail> {
         line(rt.alloc(), &books)?.as_slice(),
         b"ok,books,14:1000.000:10500.00,0.00,0.00,5:-500.00,-10000.00\n".as_slice()
     );
-    let body = b"{\"agent\":\"0.00\",\"classes\":\"14:1000.000:10500.00\",\"dealers\":\"5:-500.00\",\"holders\":\"-10000.00\",\"reply\":\"books\",\"underwriter\":\"0.00\"}";
+    let body =
+        b"{\"agent\":\"0.00\",\"classes\":\"14:1000.000:10500.00\",\"dealers\":\"5:-500.00\",\"holders\":\"-10000.00\",\"reply\":\"books\",\"underwriter\":\"0.00\"}";
     assert!(rt; has_bytes(rt.alloc(), &books, b"200 OK", b"application/json", body)?);
     Ok(())
 }
@@ -295,11 +301,15 @@ fn positions_are_printed_with_spaces_between(rt: HostRuntime) -> Result<(), Fail
         line(rt.alloc(), &shown)?.as_slice(),
         b"ok,show,101,14:1000.000:0.000:10000.00 15:0.001:2.500:0.05\n".as_slice()
     );
-    let body = b"{\"account\":\"101\",\"positions\":\"14:1000.000:0.000:10000.00 15:0.001:2.500:0.05\",\"reply\":\"show\"}";
+    let body =
+        b"{\"account\":\"101\",\"positions\":\"14:1000.000:0.000:10000.00 15:0.001:2.500:0.05\",\"reply\":\"show\"}";
     assert!(rt; has_bytes(rt.alloc(), &shown, b"200 OK", b"application/json", body)?);
     let positions = Positions::new(rt.alloc());
     let none = Reply::Show { account, positions };
-    assert_eq!(rt; line(rt.alloc(), &none)?.as_slice(), b"ok,show,101,\n".as_slice());
+    assert_eq!(rt;
+        line(rt.alloc(), &none)?.as_slice(),
+        b"ok,show,101,\n".as_slice()
+    );
     let body = b"{\"account\":\"101\",\"positions\":\"\",\"reply\":\"show\"}";
     assert!(rt; has_bytes(rt.alloc(), &none, b"200 OK", b"application/json", body)?);
     Ok(())
@@ -440,7 +450,10 @@ fn refusals_have_their_lines_and_bytes(rt: HostRuntime) -> Result<(), Fail> {
     }
     // A stamp that goes back comes in scripts alone.
     let back = Reply::Refused(Refusal::StampBack(moment(1719867700)?));
-    assert_eq!(rt; line(rt.alloc(), &back)?.as_slice(), b"no,20,1719867700\n".as_slice());
+    assert_eq!(rt;
+        line(rt.alloc(), &back)?.as_slice(),
+        b"no,20,1719867700\n".as_slice()
+    );
     Ok(())
 }
 

@@ -1,7 +1,6 @@
 //! What the feed tells of a stream, as one text: a word for each item, and `!` behind one that closes the connection.
 use agent_events::{
-    AccountForm, Asked, Bearer, Body, CalendarForm, ClassForm, EntryForm, Order, Request,
-    SheetForm,
+    AccountForm, Asked, Bearer, Body, CalendarForm, ClassForm, EntryForm, Order, Request, SheetForm,
 };
 use fund_calendar::Day;
 use http_calls::{Call, CallAsk, Feed, Step};

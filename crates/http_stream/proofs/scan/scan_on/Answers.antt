@@ -12,8 +12,8 @@ lines-preserved c =
     let rest = take_rest c.lines.rest.now (c.in-Some.at + 1) in
     record {
       folded = ap (fold with_byte line.result) rest
-        ∙ line_more c.lines.so_far line.result c.lines.rest.now c.in-Some.at found.1 found.2 line.ensures.value ∙ c.lines.invariant.folded;
+          ∙ line_more c.lines.so_far line.result c.lines.rest.now c.in-Some.at found.1 found.2 line.ensures.value ∙ c.lines.invariant.folded;
       size = ap (λ l. line.result.size + length l) rest
-        ∙ line_moves c.lines.so_far.size line.result.size _ c.lines.rest.now c.in-Some.at found.1 line.ensures.size c.lines.invariant.size;
+          ∙ line_moves c.lines.so_far.size line.result.size _ c.lines.rest.now c.in-Some.at found.1 line.ensures.size c.lines.invariant.size;
       lines = line.ensures.lines;
     }
