@@ -34,7 +34,8 @@ pub(crate) fn answered(
     size: Option<usize>,
     body: &[u8],
 ) -> Result<Result<CallAsk, HttpFault>, NoMemory>
-    ensures { IfOk result (λ answer. answer ≡ spec.target_answer target.now method.now size body.now) }
+    ensures { IfOk result (λ answer. answer
+        ≡ spec.target_answer target.now method.now size body.now) }
 {
     let parts = parts_of(alloc, target)?;
     answered_by(alloc, &parts, method, size, body)
