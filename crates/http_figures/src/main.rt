@@ -1,4 +1,5 @@
-//! Reads a buffer of 1,000 requests 1,000 times, in the way that the word behind the name says; by itself it does each once.
+//! Reads a buffer of 1,000 requests 1,000 times, in the way that the word behind the name says; by itself it reads it once in each
+//! way. By the word `pieces` it reads one request of 1 MiB that comes byte by byte.
 #![tactic(auto)]
 
 use http_calls::{Feed, Step};
@@ -85,6 +86,28 @@ fn read_calls(alloc: Global, buffer: &[u8]) -> Result<u64, NoMemory> {
     Ok(count)
 }
 
+// An order whose body has 1 MiB, all of it white space.
+fn long_order(alloc: Global) -> Result<Vec<u8>, NoMemory> {
+    let mut order = b"POST /v1/buy HTTP/1.1\r\nContent-Length: 1048576\r\n\r\n".to_vec(alloc)?;
+    for _ in 0..1_048_576 {
+        order.push(b' ')?;
+    }
+    Ok(order)
+}
+
+// Reads a stream that comes byte by byte, and counts the calls.
+fn read_pieces(alloc: Global, stream: &[u8]) -> Result<u64, NoMemory> {
+    let mut feed = Feed::new(alloc);
+    let mut count: u64 = 0;
+    for piece in stream.chunks(1) {
+        feed.push(piece)?;
+        if is_call(&feed.next(alloc)?) {
+            count = count.saturating_add(1);
+        }
+    }
+    Ok(count)
+}
+
 // Reads a buffer of looks or of orders once.
 fn read(alloc: Global, word: &str, looks: &[u8], orders: &[u8]) -> Result<u64, NoMemory> {
     if word == "heads" {
@@ -109,11 +132,20 @@ fn read_often(alloc: Global, word: &str, times: u64) -> Result<u64, NoMemory> {
     Ok(count)
 }
 
+// Reads what a word says.
+fn read_by(alloc: Global, word: &str) -> Result<u64, NoMemory> {
+    if word == "pieces" {
+        read_pieces(alloc, &long_order(alloc)?)
+    } else {
+        read_often(alloc, word, 1000)
+    }
+}
+
 fn figures(rt: &HostRuntime) -> Result<u64, NoMemory> {
     let alloc = rt.alloc();
     if let Ok(words) = env::args(rt) {
         for word in words.skip(1) {
-            return read_often(alloc, word.as_str(), 1000);
+            return read_by(alloc, word.as_str());
         }
     }
     let mut count: u64 = 0;
