@@ -9,7 +9,7 @@ use money_units::{NoMemory, print_cents, print_mils, print_number};
 use std::alloc::Global;
 
 /// What is told of a stream that comes in pieces of so many bytes.
-pub(crate) fn told(alloc: Global, stream: &[u8], size: usize) -> Result<Vec<u8>, NoMemory> {
+pub fn told(alloc: Global, stream: &[u8], size: usize) -> Result<Vec<u8>, NoMemory> {
     let mut feed = Feed::new(alloc);
     let mut out = Vec::new(alloc);
     for piece in stream.chunks(size.max(1)) {
@@ -20,7 +20,7 @@ pub(crate) fn told(alloc: Global, stream: &[u8], size: usize) -> Result<Vec<u8>,
 }
 
 /// What is told of a stream that comes in two pieces, the first of so many bytes.
-pub(crate) fn told_in_two(alloc: Global, stream: &[u8], first: usize) -> Result<Vec<u8>, NoMemory> {
+pub fn told_in_two(alloc: Global, stream: &[u8], first: usize) -> Result<Vec<u8>, NoMemory> {
     let mut feed = Feed::new(alloc);
     let mut out = Vec::new(alloc);
     let cut = first.min(stream.len());
