@@ -13,14 +13,14 @@ const CLASS: &str = "1719835200,op-desk000001,class,14,1,3,INDEX-N,0,0,250.00,50
 
 // Asks a line of a script.
 fn ask(alloc: Global, register: &mut Register, line: &str) -> Result<bool, NoMemory> {
-    match ScriptItems::new(alloc, line.as_bytes()).next(alloc)? {
+    match &ScriptItems::new(alloc, line.as_bytes()).next(alloc)? {
         Some(
             ScriptItem::Good {
                 moment,
                 key,
                 asked: Ok(request),
             },
-        ) => register.note_fresh(alloc, OPERATOR, key.as_slice(), moment, &request),
+        ) => { register.note_fresh(alloc, OPERATOR, key.as_slice(), *moment, request) }
         _ => Ok(false),
     }
 }

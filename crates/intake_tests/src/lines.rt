@@ -1,5 +1,5 @@
 //! What is said to a line of a script.
-use agent_events::{EventKind, KeyText, OrderReply, Placed, Reply, Request, Verdict};
+use agent_events::{EventKind, OrderReply, Placed, Reply, Request, Verdict};
 use agent_http::{ScriptItem, ScriptItems, reply_line};
 use intake_register::Register;
 use money_units::{Moment, NoMemory};
@@ -9,51 +9,45 @@ use std::test::Fail;
 /// The operator's key.
 pub const OPERATOR: &[u8] = b"op-desk000001";
 
-// A line of a script that is in its form.
-struct Line {
-    moment: Moment,
-    key: KeyText,
-    request: Request,
-}
-
-fn read(alloc: Global, line: &str) -> Result<Line, Fail> {
-    match ScriptItems::new(alloc, line.as_bytes()).next(alloc)? {
+/// Admits what a line of a script asks, and notes it where it is new; answers whether it was.
+pub fn is_noted(alloc: Global, register: &mut Register, line: &str) -> Result<bool, Fail> {
+    match &ScriptItems::new(alloc, line.as_bytes()).next(alloc)? {
         Some(
             ScriptItem::Good {
                 moment,
                 key,
                 asked: Ok(request),
             },
-        ) => Ok(Line {
-            moment,
-            key,
-            request,
-        }),
+        ) => { Ok(register.note_fresh(alloc, OPERATOR, key.as_slice(), *moment, request)?) }
         _ => Err("a line in its form".into()),
     }
-}
-
-/// Admits what a line of a script asks, and notes it where it is new; answers whether it was.
-pub fn is_noted(alloc: Global, register: &mut Register, line: &str) -> Result<bool, Fail> {
-    let Line {
-        moment,
-        key,
-        request,
-    } = read(alloc, line)?;
-    Ok(register.note_fresh(alloc, OPERATOR, key.as_slice(), moment, &request)?)
 }
 
 /// What is said to a line of a script: the reply to an order, a cancel or a refusal, `again` with the place of the event that it
 /// repeats, `look`, or `fresh` for what else is new. What is new is noted, but for a correction that a ledger would have to judge.
 pub fn said(alloc: Global, register: &mut Register, line: &str) -> Result<Vec<u8>, Fail> {
-    let Line {
-        moment,
-        key,
-        request,
-    } = read(alloc, line)?;
-    let verdict = register.verdict(alloc, OPERATOR, key.as_slice(), moment, &request)?;
+    match &ScriptItems::new(alloc, line.as_bytes()).next(alloc)? {
+        Some(
+            ScriptItem::Good {
+                moment,
+                key,
+                asked: Ok(request),
+            },
+        ) => { said_to(alloc, register, *moment, key.as_slice(), request) }
+        _ => Err("a line in its form".into()),
+    }
+}
+
+fn said_to(
+    alloc: Global,
+    register: &mut Register,
+    moment: Moment,
+    key: &[u8],
+    request: &Request,
+) -> Result<Vec<u8>, Fail> {
+    let verdict = register.verdict(alloc, OPERATOR, key, moment, request)?;
     let text = text_of(alloc, &verdict)?;
-    let _noted = register.note_fresh(alloc, OPERATOR, key.as_slice(), moment, &request)?;
+    let _noted = register.note_fresh(alloc, OPERATOR, key, moment, request)?;
     Ok(text)
 }
 
