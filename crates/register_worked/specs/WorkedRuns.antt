@@ -2,7 +2,7 @@
 -- preamble: a calendar of New York, four classes, a dealer, two households and their accounts. Some have a calendar with
 -- few pricing days in it, and some have lines of their own in its place.
 use Rattle.std.specs.List.{join_with_byte, list_any}
-use Rattle.std.specs.Prelude.{Bool, List, [], ℕ, ◌&&◌, ◌++◌, ◌+◌, ◌==◌, ◌∷◌, ◌≡◌, codes, false, filter, flat_map, if◌then◌else◌, length, map, not, replicate, suc, true, zero}
+use Rattle.std.specs.Prelude.{Bool, List, None, [], ℕ, ◌&&◌, ◌++◌, ◌+◌, ◌==◌, ◌∷◌, ◌≡◌, codes, false, filter, flat_map, if◌then◌else◌, length, map, not, replicate, suc, true, zero}
 use Rattle.agent_events.specs.AnswerTexts.{day_text, list_text}
 use Rattle.agent_events.specs.Events.{Event, placed_now}
 use Rattle.agent_events.specs.declared.event.EventKind.{EventKind}
@@ -18,6 +18,7 @@ use Rattle.register_machine.specs.journal.Journals.{Journal}
 use Rattle.register_machine.specs.journal.Views.{view}
 use Rattle.register_machine.specs.pricing.PublishedTable.{empty_table}
 use Rattle.agent_events.specs.declared.verdict.Caller.{Caller}
+use Rattle.register_machine.specs.replay.Positions.{Position}
 use Rattle.register_machine.specs.rules.Situations.{Situation, situation_at}
 use Rattle.share_lots.specs.Lots.{Holding}
 use Rattle.register_machine.specs.run.Scripts.{Run, batch_text, empty_run, run_from, script_items, script_text}
@@ -250,6 +251,11 @@ holding_of mils cents = record {
   lots = record { number = 1; day = 19905; loose = mils; held = 0; cost = cents; free = false } ∷ [];
   next_lot = 2;
 }
+
+-- and a position with these lots, whose dividends are reinvested
+abbrev pub position_with : Holding → Position
+position_with holding =
+    record { account = 101; class = 14; holding = holding; in_cash = false; letter = None }
 
 -- an item whose event a household sees, and one whose event it doesn't see
 abbrev pub seen : List ℕ → Bool × List ℕ

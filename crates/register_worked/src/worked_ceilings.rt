@@ -1,7 +1,9 @@
 //! Worked scripts of the ceiling of a position.
 ghost use Rattle.std.specs.Prelude.{◌≡◌, [], ◌∷◌, ◌++◌, codes, false, true};
+ghost use Rattle.dividend_reinvest.specs.declared.payment.Payment.TheVariants as pays;
+ghost use Rattle.register_machine.specs.replay.Dividend.{payment_on};
 ghost use Rattle.register_machine.specs.replay.Positions.{has_room};
-ghost use Rattle.register_worked.specs.WorkedRuns.{AnswersAlone, AnswersInJuly, calendar_over, days_of_july, holding_of, statement_of};
+ghost use Rattle.register_worked.specs.WorkedRuns.{AnswersAlone, AnswersInJuly, calendar_over, days_of_july, holding_of, position_with, statement_of};
 
 /// A purchase fills up to the last share of the ceiling and is unfilled one share past it. What was sold makes room, and
 /// an account without room doesn't hinder another.
@@ -215,4 +217,16 @@ pub fn exchange_into_a_full_position()
         ∷ codes "ok,trace,101,5,filled,1719928920,1719950400,10.00,1.000,10.00,0.00,0.000"
         ∷ []
         ) }
+{}
+
+/// A dividend is reinvested up to the ceilings, to the last mil and the last cent, and paid in cash beyond them.
+pub fn dividends_to_the_ceilings()
+    ensures cost { payment_on 100000 1000 (position_with (holding_of 1000000 999999999990000))
+        ≡ pays.Shares 10000 10000 }
+    ensures cent_more { payment_on 100000 1000
+        (position_with (holding_of 1000000 999999999990001)) ≡ pays.Cash 10000 }
+    ensures mils { payment_on 1 10000000 (position_with (holding_of 999999999990 1))
+        ≡ pays.Shares 100000 10 }
+    ensures mil_more { payment_on 1 10000000 (position_with (holding_of 999999999991 1))
+        ≡ pays.Cash 100000 }
 {}

@@ -27,8 +27,8 @@ pub fn accounts_of_a_household()
         ) }
 {}
 
-/// In a household that is full an account with a number that is taken is refused by that number, and one that stands is a
-/// repeat.
+/// In a household that is full an account with a number that is taken is refused by that number, one that stands is a
+/// repeat, and one whose dealer is absent is refused for that.
 pub fn account_taken_in_a_full_household()
     ensures { AnswersAlone (
         codes "1719835200,op-desk000001,household,1,h-mary000001"
@@ -36,6 +36,7 @@ pub fn account_taken_in_a_full_household()
         ++ codes "1719835200,op-desk000001,account,164,1,0,MARY DOE"
         ∷ codes "1719835200,op-desk000001,account,164,1,0,MARY DOE 64"
         ∷ codes "1719835200,op-desk000001,account,165,1,0,MARY DOE"
+        ∷ codes "1719835200,op-desk000001,account,165,1,9,MARY DOE"
         ∷ []
         ) (
         codes "ok,household,1"
@@ -43,6 +44,7 @@ pub fn account_taken_in_a_full_household()
         ++ codes "no,14,164"
         ∷ codes "ok,account,164"
         ∷ codes "no,17,64"
+        ∷ codes "no,3,3"
         ∷ []
         ) }
 {}

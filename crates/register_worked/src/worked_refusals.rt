@@ -129,7 +129,7 @@ pub fn absent_before_what_stands()
 {}
 
 /// In an account that is full a request is refused first for what it names, for a reference that is used, for its
-/// minimum, for what isn't offered and for its receipt, and only then because the account is full.
+/// minimum, for what isn't offered, for its receipt and for a cancel that comes late, and only then because it is full.
 pub fn told_before_a_full_account()
     ensures { AnswersWithOrders 4096 (
         codes "1719838900,op-desk000001,sellall,101,4097,99"
@@ -139,6 +139,7 @@ pub fn told_before_a_full_account()
         ∷ codes "1719838900,op-desk000001,exchange,101,4097,12,14,1.000"
         ∷ codes "1719838900,op-desk000001,enter,1,fund,1719838901,sellall,101,4097,14"
         ∷ codes "1719838900,op-desk000001,sellall,101,4097,14"
+        ∷ codes "1719864000,op-desk000001,cancel,101,4097,1"
         ∷ []
         ) (
         codes "no,3,3"
@@ -148,6 +149,7 @@ pub fn told_before_a_full_account()
         ∷ codes "no,7"
         ∷ codes "no,9,1719838900"
         ∷ codes "no,16,4096"
+        ∷ codes "no,10,1719864000"
         ∷ []
         ) }
 {}
