@@ -2,12 +2,6 @@
 #![tactic(auto)]
 
 #[cfg(test)]
-mod bodies;
-#[cfg(test)]
 mod feeds;
 #[cfg(test)]
 mod lines;
-#[cfg(test)]
-mod replies;
-#[cfg(test)]
-mod telling;
