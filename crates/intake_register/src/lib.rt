@@ -1,4 +1,4 @@
-//! Order intake by itself: the book of orders and the prices of one journal, without a ledger. Tests and figures ask it.
+//! Order intake by itself: the book of orders and the prices of one journal, without a ledger. It is there for figures.
 #![tactic(auto)]
 
 mod noting;
