@@ -99,25 +99,25 @@ abbrev pub order_texts : OrderReply → List (List ℕ)
 order_texts order =
     number_text order.account ∷ number_text order.ref_no ∷ number_text order.receipt ∷ number_text order.due ∷ []
 
-abbrev pub said : List ℕ → List (List ℕ) → List (List ℕ)
-said name texts = codes "ok" ∷ name ∷ texts
+abbrev pub ok_answer : List ℕ → List (List ℕ) → List (List ℕ)
+ok_answer name texts = codes "ok" ∷ name ∷ texts
 
 abbrev pub answer_texts : Reply → List (List ℕ)
-answer_texts (Reply.Order order) = said (codes "order") (order_texts order)
+answer_texts (Reply.Order order) = ok_answer (codes "order") (order_texts order)
 answer_texts (Reply.Cancel form) =
-    said (codes "cancel") (number_text form.account ∷ number_text form.ref_no ∷ number_text form.target ∷ [])
-answer_texts (Reply.Calendar number) = said (codes "calendar") (number_text number ∷ [])
-answer_texts (Reply.Class number) = said (codes "class") (number_text number ∷ [])
-answer_texts (Reply.Dealer number) = said (codes "dealer") (number_text number ∷ [])
-answer_texts (Reply.Household number) = said (codes "household") (number_text number ∷ [])
-answer_texts (Reply.Account number) = said (codes "account") (number_text number ∷ [])
-answer_texts (Reply.Close form) = said (codes "close") (number_text form.calendar ∷ day_text form.day ∷ [])
-answer_texts (Reply.Dividend class moment) = said (codes "dividend") (number_text class ∷ number_text moment ∷ [])
-answer_texts (Reply.Sheet number) = said (codes "sheet") (number_text number ∷ [])
-answer_texts (Reply.Fix fix gains) = said (codes "fix") (number_text fix ∷ list_text (map gain_text gains) ∷ [])
+    ok_answer (codes "cancel") (number_text form.account ∷ number_text form.ref_no ∷ number_text form.target ∷ [])
+answer_texts (Reply.Calendar number) = ok_answer (codes "calendar") (number_text number ∷ [])
+answer_texts (Reply.Class number) = ok_answer (codes "class") (number_text number ∷ [])
+answer_texts (Reply.Dealer number) = ok_answer (codes "dealer") (number_text number ∷ [])
+answer_texts (Reply.Household number) = ok_answer (codes "household") (number_text number ∷ [])
+answer_texts (Reply.Account number) = ok_answer (codes "account") (number_text number ∷ [])
+answer_texts (Reply.Close form) = ok_answer (codes "close") (number_text form.calendar ∷ day_text form.day ∷ [])
+answer_texts (Reply.Dividend class moment) = ok_answer (codes "dividend") (number_text class ∷ number_text moment ∷ [])
+answer_texts (Reply.Sheet number) = ok_answer (codes "sheet") (number_text number ∷ [])
+answer_texts (Reply.Fix fix gains) = ok_answer (codes "fix") (number_text fix ∷ list_text (map gain_text gains) ∷ [])
 answer_texts (Reply.Show account positions) =
-    said (codes "show") (number_text account ∷ list_text (map position_text positions) ∷ [])
-answer_texts (Reply.Trace traced) = said (codes "trace") (trace_texts traced)
-answer_texts (Reply.Statement account text) = said (codes "statement") (number_text account ∷ text ∷ [])
-answer_texts (Reply.Books books) = said (codes "books") (books_texts books)
+    ok_answer (codes "show") (number_text account ∷ list_text (map position_text positions) ∷ [])
+answer_texts (Reply.Trace traced) = ok_answer (codes "trace") (trace_texts traced)
+answer_texts (Reply.Statement account text) = ok_answer (codes "statement") (number_text account ∷ text ∷ [])
+answer_texts (Reply.Books books) = ok_answer (codes "books") (books_texts books)
 answer_texts (Reply.Refused refusal) = codes "no" ∷ refusal_values refusal

@@ -43,8 +43,8 @@ abbrev pub now_kept : MemoryKeeper → Content
 now_kept keeper = if keeper.is_kept then after_last keeper else before_last keeper
 
 -- the calls that are to fail, by their numbers
-abbrev pub listed : MemoryKeeper → List ℕ
-listed keeper = keeper.fails.items
+abbrev pub calls_that_fail : MemoryKeeper → List ℕ
+calls_that_fail keeper = keeper.fails.items
 
 -- how many calls were made; the last number of a `u64` stays
 abbrev pub calls_made : MemoryKeeper → ℕ
@@ -60,7 +60,7 @@ next_call keeper = min (calls_made keeper + 1) (2 ^ 64 - 1)
 
 -- the next call is listed, so it fails
 abbrev pub fails_next : MemoryKeeper → Bool
-fails_next keeper = list_any (λ call. call == next_call keeper) (listed keeper)
+fails_next keeper = list_any (λ call. call == next_call keeper) (calls_that_fail keeper)
 
 -- one more call is counted, which failed exactly where it is listed
 pub record CountsCall {T : Type 0} (old new : MemoryKeeper)
@@ -70,7 +70,7 @@ pub record CountsCall {T : Type 0} (old new : MemoryKeeper)
   pub faults : faults_made new ≡ (if fails_next old then min (faults_made old + 1) (2 ^ 64 - 1)
       else faults_made old)
   pub counted : Counts (faults_made old) (faults_made new) result
-  pub list : listed new ≡ listed old
+  pub list : calls_that_fail new ≡ calls_that_fail old
 
 -- what is kept is as before, and what a stop in the last commit leaves too
 pub record KeepsAll (old new : MemoryKeeper) : Type 0 where

@@ -5,7 +5,7 @@ ghost use Rattle.std.specs.Bool.{OnFalse};
 ghost use Rattle.std.specs.List.{list_any};
 ghost use Rattle.std.proofs.Common.{sym, ◌∙◌, inl};
 ghost use Rattle.agent_keeper.specs.Content.{after_puts, is_removed, after, empty};
-ghost use Rattle.agent_keeper.specs.Memory.{content, before_last, after_last, now_kept, listed, calls_made, faults_made, next_call, fails_next, CountsCall, KeepsAll};
+ghost use Rattle.agent_keeper.specs.Memory.{content, before_last, after_last, now_kept, calls_that_fail, calls_made, faults_made, next_call, fails_next, CountsCall, KeepsAll};
 
 use crate::batch::{Batch, CheckName, CheckPut};
 use crate::copies::copy_batch;
@@ -37,7 +37,7 @@ impl MemoryKeeper {
         ensures kept { IfOk result (λ keeper. now_kept keeper ≡ empty) }
         ensures before { IfOk result (λ keeper. before_last keeper ≡ empty) }
         ensures after { IfOk result (λ keeper. after_last keeper ≡ empty) }
-        ensures fails { IfOk result (λ keeper. listed keeper ≡ fails.now) }
+        ensures fails { IfOk result (λ keeper. calls_that_fail keeper ≡ fails.now) }
         ensures calls { IfOk result (λ keeper. calls_made keeper ≡ 0) }
         ensures faults { IfOk result (λ keeper. faults_made keeper ≡ 0) }
     {
@@ -52,7 +52,7 @@ impl MemoryKeeper {
             now_kept copy ≡ (if with_last then after_last self.now else before_last self.now)) }
         ensures before { IfOk result (λ copy. before_last copy ≡ now_kept copy) }
         ensures after { IfOk result (λ copy. after_last copy ≡ now_kept copy) }
-        ensures fails { IfOk result (λ copy. listed copy ≡ []) }
+        ensures fails { IfOk result (λ copy. calls_that_fail copy ≡ []) }
         ensures calls { IfOk result (λ copy. calls_made copy ≡ 0) }
         ensures faults { IfOk result (λ copy. faults_made copy ≡ 0) }
     {
@@ -65,7 +65,7 @@ impl MemoryKeeper {
         ensures kept { now_kept result ≡ content settled }
         ensures before { before_last result ≡ content settled }
         ensures after { after_last result ≡ content settled }
-        ensures fails { listed result ≡ fails.items }
+        ensures fails { calls_that_fail result ≡ fails.items }
         ensures calls { calls_made result ≡ 0 }
         ensures faults { faults_made result ≡ 0 }
     {

@@ -12,7 +12,7 @@ use Rattle.checkpoint_replay.specs.declared.part.HouseholdPart.{HouseholdPart}
 use Rattle.gain_loss_book.proofs.FlowFacts.{flow-same}
 use Rattle.gain_loss_book.proofs.PostedFacts.{flow-in, flow-out}
 use Rattle.gain_loss_book.specs.ClassGains.{mils_change}
-use Rattle.gain_loss_book.specs.Flows.{net, no_flow, turned, with_flow}
+use Rattle.gain_loss_book.specs.Flows.{net, no_flow, reverse_flow, with_flow}
 use Rattle.gain_loss_book.specs.Movements.{mils_brought, mils_taken, trades_mils}
 use Rattle.gain_loss_book.specs.Posted.{cash_change}
 use Rattle.gain_loss_book.specs.declared.flows.Flow.{Flow}
@@ -115,7 +115,7 @@ moved-sum flow additive p q moved others total after step is households distinct
 -- what a move brings, and what it takes back
 abbrev pub with_move : (List Trade → Flow) → List (ℕ × HouseholdPart) → Flow → HouseholdMove → Flow
 with_move flow parts before change =
-    with_flow (with_flow before (flow change.trades)) (turned (flow (dropped_trades parts change)))
+    with_flow (with_flow before (flow change.trades)) (reverse_flow (flow (dropped_trades parts change)))
 
 -- moves behind what was before
 moves-net : (flow : List Trade → Flow) (parts : List (ℕ × HouseholdPart)) (moves : List HouseholdMove) (before : Flow) → net (fold (with_move flow parts) before moves) ≡ net before +ℤ net (fold (with_move flow parts) no_flow moves)

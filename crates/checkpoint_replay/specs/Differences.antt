@@ -6,7 +6,7 @@ use Rattle.checkpoint_replay.specs.Parts.{part_in}
 use Rattle.checkpoint_replay.specs.declared.change.HouseholdMove.{HouseholdMove}
 use Rattle.checkpoint_replay.specs.declared.part.HouseholdPart.{HouseholdPart}
 use Rattle.gain_loss_book.specs.ClassGains.{mils_change}
-use Rattle.gain_loss_book.specs.Flows.{net, no_flow, turned, with_flow}
+use Rattle.gain_loss_book.specs.Flows.{net, no_flow, reverse_flow, with_flow}
 use Rattle.gain_loss_book.specs.Movements.{trades_mils}
 use Rattle.gain_loss_book.specs.Posted.{cash_change, movements_flow}
 use Rattle.gain_loss_book.specs.declared.flows.Flow.{Flow}
@@ -25,12 +25,12 @@ dropped_trades parts change = drop change.kept (part_in parts change.household).
 abbrev pub with_cash_of : List (ℕ × HouseholdPart) → Party → Flow → HouseholdMove → Flow
 with_cash_of parts party flow change =
     with_flow (with_flow flow (trades_cash change.trades party))
-    (turned (trades_cash (dropped_trades parts change) party))
+    (reverse_flow (trades_cash (dropped_trades parts change) party))
 
 abbrev pub with_mils_of : List (ℕ × HouseholdPart) → ℕ → Flow → HouseholdMove → Flow
 with_mils_of parts class flow change =
     with_flow (with_flow flow (trades_mils change.trades class))
-    (turned (trades_mils (dropped_trades parts change) class))
+    (reverse_flow (trades_mils (dropped_trades parts change) class))
 
 -- all moves together
 abbrev pub cash_by_moves : List (ℕ × HouseholdPart) → List HouseholdMove → Party → Flow

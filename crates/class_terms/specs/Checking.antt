@@ -37,5 +37,5 @@ abbrev pub unless : Option TermFault → TermsForm → Result TermsForm TermFaul
 unless None form = Ok form
 unless (Some fault) form = Err fault
 
-abbrev pub checked : TermsForm → List TermsForm → Result TermsForm TermFault
-checked form others = unless (term_fault form others) form
+abbrev pub form_or_fault : TermsForm → List TermsForm → Result TermsForm TermFault
+form_or_fault form others = unless (term_fault form others) form

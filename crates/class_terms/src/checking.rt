@@ -1,7 +1,7 @@
 //! What terms are taken, and why others are refused.
 ghost use Rattle.std.specs.Prelude.{◌≡◌, None, Some};
 ghost use Rattle.class_terms.specs.Tables.{first_broken, breaks_table, front_fault, breaks_schedule, deferred_fault};
-ghost use Rattle.class_terms.specs.Checking.{differs_in_family, lesser, family_fault, checked};
+ghost use Rattle.class_terms.specs.Checking.{differs_in_family, lesser, family_fault, form_or_fault};
 
 use crate::faults::TermFault;
 use crate::form::TermsForm;
@@ -21,7 +21,7 @@ pub const MAX_SCHEDULE_ROWS: usize = 10;
 /// Takes the terms of a class, where `others` are the terms of the classes that are known, or says the first fault in the
 /// order front-end loads, deferred loads, family.
 pub fn check(form: TermsForm, others: &[Terms]) -> Result<Terms, TermFault>
-    ensures { result ≡ checked form others.now }
+    ensures { result ≡ form_or_fault form others.now }
 {
     if let Some(position) = front_fault(form.front.as_slice()) {
         return Err(TermFault::BadFront(position));

@@ -11,7 +11,7 @@ use Rattle.share_lots.specs.declared.lot.Piece.{Piece}
 use Rattle.share_lots.specs.Values.{value_at}
 use Rattle.share_lots.proofs.ValueLemmas.{value_at-rises}
 use Rattle.contingent_charge.specs.declared.charging.Charged.{Charged}
-use Rattle.contingent_charge.specs.DeferredCharge.{rate_on, value_between, Valued, valued, base_of, charge_of, cost_charge, charged, most_charged}
+use Rattle.contingent_charge.specs.DeferredCharge.{rate_on, value_between, Valued, with_values, base_of, charge_of, cost_charge, charge_of_pieces, most_charged}
 
 abbrev pub mils_of : Piece → ℕ
 mils_of piece = piece.mils
@@ -33,22 +33,22 @@ value-step nav before mils =
     up-to (value_at nav before) (value_at nav (before + mils)) (value_at-rises nav before (before + mils) (omega arith))
 
 -- the values of pieces sum to the value of all their mils
-values-from : (nav before : ℕ) (pieces : List Piece) → value_at nav before + sum_by value_of (valued nav before pieces) ≡ value_at nav (before + sum_by mils_of pieces)
-unfolding valued
+values-from : (nav before : ℕ) (pieces : List Piece) → value_at nav before + sum_by value_of (with_values nav before pieces) ≡ value_at nav (before + sum_by mils_of pieces)
+unfolding with_values
 values-from nav before [] = add-zero (value_at nav before) ∙ ap (value_at nav) (sym (add-zero before))
 values-from nav before (p ∷ ps) =
-    rw (sum_by-cons mils_of p ps, sum_by-cons value_of (record { piece = p; value = value_between nav before p.mils }) (valued nav (before + p.mils) ps))
-    (sym (add_assoc (value_at nav before) (value_between nav before p.mils) (sum_by value_of (valued nav (before + p.mils) ps)))
-    ∙ ap (λ n. n + sum_by value_of (valued nav (before + p.mils) ps)) (value-step nav before p.mils)
+    rw (sum_by-cons mils_of p ps, sum_by-cons value_of (record { piece = p; value = value_between nav before p.mils }) (with_values nav (before + p.mils) ps))
+    (sym (add_assoc (value_at nav before) (value_between nav before p.mils) (sum_by value_of (with_values nav (before + p.mils) ps)))
+    ∙ ap (λ n. n + sum_by value_of (with_values nav (before + p.mils) ps)) (value-step nav before p.mils)
     ∙ values-from nav (before + p.mils) ps
     ∙ ap (value_at nav) (add_assoc before p.mils (sum_by mils_of ps)))
 
 from-zero : (a b c d : ℕ) → a ≡ 0 → c ≡ d → a + b ≡ c → b ≡ d
 from-zero a b c d z e h = omega arith
 
-pub values-whole : (nav : ℕ) (pieces : List Piece) → sum_by value_of (valued nav 0 pieces) ≡ value_at nav (sum_by mils_of pieces)
+pub values-whole : (nav : ℕ) (pieces : List Piece) → sum_by value_of (with_values nav 0 pieces) ≡ value_at nav (sum_by mils_of pieces)
 values-whole nav pieces =
-    from-zero (value_at nav 0) (sum_by value_of (valued nav 0 pieces)) (value_at nav (0 + sum_by mils_of pieces)) (value_at nav (sum_by mils_of pieces)) (value-zero nav) (ap (value_at nav) (zero-add (sum_by mils_of pieces))) (values-from nav 0 pieces)
+    from-zero (value_at nav 0) (sum_by value_of (with_values nav 0 pieces)) (value_at nav (0 + sum_by mils_of pieces)) (value_at nav (sum_by mils_of pieces)) (value-zero nav) (ap (value_at nav) (zero-add (sum_by mils_of pieces))) (values-from nav 0 pieces)
 
 -- no rate passes the greatest of the schedule
 pub rate-ceiling : (i top : ℕ) (schedule : List ℕ) → All (λ rate. rate ≤ top) schedule → get_or schedule i 0 ≤ top
@@ -92,26 +92,26 @@ charge-cost day schedule item =
 abbrev pub item_at : ℕ → ℕ → Piece → Valued
 item_at nav before piece = record { piece = piece; value = value_between nav before piece.mils }
 
-valued-more : (pieces : List Piece) (nav before i : ℕ) (d : Piece) → i < length pieces → valued nav before (drop i pieces) ≡ item_at nav before (get_or pieces i d) ∷ valued nav (before + (get_or pieces i d).mils) (drop (i + 1) pieces)
-unfolding valued
-valued-more pieces nav before i d h = at_drop_more (valued nav before) pieces i d h
+valued-more : (pieces : List Piece) (nav before i : ℕ) (d : Piece) → i < length pieces → with_values nav before (drop i pieces) ≡ item_at nav before (get_or pieces i d) ∷ with_values nav (before + (get_or pieces i d).mils) (drop (i + 1) pieces)
+unfolding with_values
+valued-more pieces nav before i d h = at_drop_more (with_values nav before) pieces i d h
 
-valued-end : (pieces : List Piece) (nav before i : ℕ) → length pieces ≤ i → valued nav before (drop i pieces) ≡ []
-unfolding valued
-valued-end pieces nav before i h = at_drop_all (valued nav before) pieces i h
+valued-end : (pieces : List Piece) (nav before i : ℕ) → length pieces ≤ i → with_values nav before (drop i pieces) ≡ []
+unfolding with_values
+valued-end pieces nav before i h = at_drop_all (with_values nav before) pieces i h
 
 -- what is summed so far and what is left make the whole, one piece on
 sum-more : (f : Valued → ℕ) (pieces : List Piece) (nav before i : ℕ) (d : Piece) (sum next whole : ℕ) → i < length pieces
-    → sum + sum_by f (valued nav before (drop i pieces)) ≡ whole → next ≡ sum + f (item_at nav before (get_or pieces i d))
-    → next + sum_by f (valued nav (before + (get_or pieces i d).mils) (drop (i + 1) pieces)) ≡ whole
+    → sum + sum_by f (with_values nav before (drop i pieces)) ≡ whole → next ≡ sum + f (item_at nav before (get_or pieces i d))
+    → next + sum_by f (with_values nav (before + (get_or pieces i d).mils) (drop (i + 1) pieces)) ≡ whole
 sum-more f pieces nav before i d sum next whole h so_far e =
     let item = item_at nav before (get_or pieces i d) in
-    let rest = valued nav (before + (get_or pieces i d).mils) (drop (i + 1) pieces) in
-    let left : sum_by f (valued nav before (drop i pieces)) ≡ f item + sum_by f rest = ap (sum_by f) (valued-more pieces nav before i d h) ∙ sum_by-cons f item rest in
+    let rest = with_values nav (before + (get_or pieces i d).mils) (drop (i + 1) pieces) in
+    let left : sum_by f (with_values nav before (drop i pieces)) ≡ f item + sum_by f rest = ap (sum_by f) (valued-more pieces nav before i d h) ∙ sum_by-cons f item rest in
     rw e (add_assoc sum (f item) (sum_by f rest) ∙ ap (λ n. sum + n) (sym left) ∙ so_far)
 
 sum-end : (f : Valued → ℕ) (pieces : List Piece) (nav before i sum whole : ℕ) → length pieces ≤ i
-    → sum + sum_by f (valued nav before (drop i pieces)) ≡ whole → sum ≡ whole
+    → sum + sum_by f (with_values nav before (drop i pieces)) ≡ whole → sum ≡ whole
 sum-end f pieces nav before i sum whole h so_far =
     sym (add-zero sum) ∙ ap (λ items. sum + sum_by f items) (sym (valued-end pieces nav before i h)) ∙ so_far
 
@@ -125,9 +125,9 @@ mils-more pieces before i d whole h so_far =
 pub record SoFar (pieces : List Piece) (nav day : ℕ) (schedule : List ℕ) (i before : ℕ) (sums : Charged) : Type 0 where
   pub mils : before + sum_by mils_of (drop i pieces) ≡ sum_by mils_of pieces
   pub value : sums.value ≡ value_at nav before
-  pub values : sums.value + sum_by value_of (valued nav before (drop i pieces)) ≡ sum_by value_of (valued nav 0 pieces)
-  pub bases : sums.base + sum_by base_of (valued nav before (drop i pieces)) ≡ sum_by base_of (valued nav 0 pieces)
-  pub charges : sums.charge + sum_by (charge_of day schedule) (valued nav before (drop i pieces)) ≡ sum_by (charge_of day schedule) (valued nav 0 pieces)
+  pub values : sums.value + sum_by value_of (with_values nav before (drop i pieces)) ≡ sum_by value_of (with_values nav 0 pieces)
+  pub bases : sums.base + sum_by base_of (with_values nav before (drop i pieces)) ≡ sum_by base_of (with_values nav 0 pieces)
+  pub charges : sums.charge + sum_by (charge_of day schedule) (with_values nav before (drop i pieces)) ≡ sum_by (charge_of day schedule) (with_values nav 0 pieces)
   pub base_within : sums.base ≤ sums.value
   pub charge_within : sums.charge ≤ sums.value
 
@@ -135,9 +135,9 @@ pub SoFar-start : (pieces : List Piece) (nav day : ℕ) (schedule : List ℕ) �
 SoFar-start pieces nav day schedule = record {
   mils = zero-add (sum_by mils_of pieces);
   value = sym (value-zero nav);
-  values = zero-add (sum_by value_of (valued nav 0 pieces));
-  bases = zero-add (sum_by base_of (valued nav 0 pieces));
-  charges = zero-add (sum_by (charge_of day schedule) (valued nav 0 pieces));
+  values = zero-add (sum_by value_of (with_values nav 0 pieces));
+  bases = zero-add (sum_by base_of (with_values nav 0 pieces));
+  charges = zero-add (sum_by (charge_of day schedule) (with_values nav 0 pieces));
   base_within = omega arith;
   charge_within = omega arith;
 }
@@ -160,9 +160,9 @@ SoFar-next pieces nav day schedule i before sums next d short rates so_far added
     record {
       mils = mils-more pieces before i d (sum_by mils_of pieces) short so_far.mils;
       value = added.value ∙ ap (λ n. n + value_between nav before piece.mils) so_far.value ∙ value-step nav before piece.mils;
-      values = sum-more value_of pieces nav before i d sums.value next.value (sum_by value_of (valued nav 0 pieces)) short so_far.values added.value;
-      bases = sum-more base_of pieces nav before i d sums.base next.base (sum_by base_of (valued nav 0 pieces)) short so_far.bases added.base;
-      charges = sum-more (charge_of day schedule) pieces nav before i d sums.charge next.charge (sum_by (charge_of day schedule) (valued nav 0 pieces)) short so_far.charges added.charge;
+      values = sum-more value_of pieces nav before i d sums.value next.value (sum_by value_of (with_values nav 0 pieces)) short so_far.values added.value;
+      bases = sum-more base_of pieces nav before i d sums.base next.base (sum_by base_of (with_values nav 0 pieces)) short so_far.bases added.base;
+      charges = sum-more (charge_of day schedule) pieces nav before i d sums.charge next.charge (sum_by (charge_of day schedule) (with_values nav 0 pieces)) short so_far.charges added.charge;
       base_within = both-within sums.base (base_of item) sums.value item.value next.base next.value so_far.base_within (base-within item) added.base added.value;
       charge_within = both-within sums.charge (charge_of day schedule item) sums.value item.value next.charge next.value so_far.charge_within (charge-within day schedule item rates) added.charge added.value;
     }
@@ -182,28 +182,28 @@ SoFar-room pieces nav day schedule i before sums piece short is so_far =
     subst (λ (p : Piece). before + p.mils ≤ sum_by mils_of pieces) (sym is) (omega arith)
 
 -- what the sums of the whole keep to
-charges-within-cost : (day : ℕ) (schedule : List ℕ) (nav before : ℕ) (pieces : List Piece) → sum_by (charge_of day schedule) (valued nav before pieces) ≤ most_charged pieces day schedule
-unfolding valued
+charges-within-cost : (day : ℕ) (schedule : List ℕ) (nav before : ℕ) (pieces : List Piece) → sum_by (charge_of day schedule) (with_values nav before pieces) ≤ most_charged pieces day schedule
+unfolding with_values
 charges-within-cost day schedule nav before [] = omega arith
 charges-within-cost day schedule nav before (p ∷ ps) =
     let item = item_at nav before p in
-    rw (sum_by-cons (charge_of day schedule) item (valued nav (before + p.mils) ps), sum_by-cons (cost_charge day schedule) p ps)
-    (both-within (charge_of day schedule item) (sum_by (charge_of day schedule) (valued nav (before + p.mils) ps)) (cost_charge day schedule p) (most_charged ps day schedule) _ _ (charge-cost day schedule item) (charges-within-cost day schedule nav (before + p.mils) ps) refl refl)
+    rw (sum_by-cons (charge_of day schedule) item (with_values nav (before + p.mils) ps), sum_by-cons (cost_charge day schedule) p ps)
+    (both-within (charge_of day schedule item) (sum_by (charge_of day schedule) (with_values nav (before + p.mils) ps)) (cost_charge day schedule p) (most_charged ps day schedule) _ _ (charge-cost day schedule item) (charges-within-cost day schedule nav (before + p.mils) ps) refl refl)
 
 -- at the end the sums are those of the whole
 charged-is : (sums : Charged) (v b c : ℕ) → sums.value ≡ v → sums.base ≡ b → sums.charge ≡ c → sums ≡ record { value = v; base = b; charge = c }
 charged-is sums v b c e f g = rw (← e, ← f, ← g) refl
 
 pub SoFar-end : (pieces : List Piece) (nav day : ℕ) (schedule : List ℕ) (i before : ℕ) (sums : Charged) → length pieces ≤ i
-    → SoFar pieces nav day schedule i before sums → sums ≡ charged pieces nav day schedule
+    → SoFar pieces nav day schedule i before sums → sums ≡ charge_of_pieces pieces nav day schedule
 SoFar-end pieces nav day schedule i before sums done so_far =
-    charged-is sums (sum_by value_of (valued nav 0 pieces)) (sum_by base_of (valued nav 0 pieces)) (sum_by (charge_of day schedule) (valued nav 0 pieces))
-    (sum-end value_of pieces nav before i sums.value (sum_by value_of (valued nav 0 pieces)) done so_far.values)
-    (sum-end base_of pieces nav before i sums.base (sum_by base_of (valued nav 0 pieces)) done so_far.bases)
-    (sum-end (charge_of day schedule) pieces nav before i sums.charge (sum_by (charge_of day schedule) (valued nav 0 pieces)) done so_far.charges)
+    charged-is sums (sum_by value_of (with_values nav 0 pieces)) (sum_by base_of (with_values nav 0 pieces)) (sum_by (charge_of day schedule) (with_values nav 0 pieces))
+    (sum-end value_of pieces nav before i sums.value (sum_by value_of (with_values nav 0 pieces)) done so_far.values)
+    (sum-end base_of pieces nav before i sums.base (sum_by base_of (with_values nav 0 pieces)) done so_far.bases)
+    (sum-end (charge_of day schedule) pieces nav before i sums.charge (sum_by (charge_of day schedule) (with_values nav 0 pieces)) done so_far.charges)
 
 pub SoFar-cost : (pieces : List Piece) (nav day : ℕ) (schedule : List ℕ) (i before : ℕ) (sums : Charged) → length pieces ≤ i
     → SoFar pieces nav day schedule i before sums → sums.charge ≤ most_charged pieces day schedule
 SoFar-cost pieces nav day schedule i before sums done so_far =
-    rw (sum-end (charge_of day schedule) pieces nav before i sums.charge (sum_by (charge_of day schedule) (valued nav 0 pieces)) done so_far.charges)
+    rw (sum-end (charge_of day schedule) pieces nav before i sums.charge (sum_by (charge_of day schedule) (with_values nav 0 pieces)) done so_far.charges)
     (charges-within-cost day schedule nav 0 pieces)

@@ -7,11 +7,11 @@ use Rattle.fund_calendar.specs.Dates.{anniversaries}
 use Rattle.fund_calendar.proofs.AnniversaryLemmas.{anniversaries-rise}
 use Rattle.share_lots.specs.declared.lot.Piece.{Piece}
 use Rattle.share_lots.specs.Values.{value_at}
-use Rattle.contingent_charge.specs.DeferredCharge.{NeverRises, rate_on, Valued, valued, base_of}
+use Rattle.contingent_charge.specs.DeferredCharge.{NeverRises, rate_on, Valued, with_values, base_of}
 use Rattle.contingent_charge.proofs.ChargeLemmas.{mils_of}
 
-pub valued-pieces : (nav before : ℕ) (pieces : List Piece) → map (λ (item : Valued). item.piece) (valued nav before pieces) ≡ pieces
-unfolding valued
+pub valued-pieces : (nav before : ℕ) (pieces : List Piece) → map (λ (item : Valued). item.piece) (with_values nav before pieces) ≡ pieces
+unfolding with_values
 valued-pieces nav before [] = refl
 valued-pieces nav before (p ∷ ps) = ap (λ rest. p ∷ rest) (valued-pieces nav (before + p.mils) ps)
 
@@ -23,8 +23,8 @@ first-taken before p ps n =
     add_assoc before p.mils (sum_by mils_of (take n ps)) ∙ ap (λ m. before + m) (sym (sum_by-cons mils_of p (take n ps)))
 
 valued-at : (nav before : ℕ) (pieces : List Piece) (i : ℕ) (d : Valued) → i < length pieces
-    → (get_or (valued nav before pieces) i d).value ≡ value_at nav (before + sum_by mils_of (take (suc i) pieces)) - value_at nav (before + sum_by mils_of (take i pieces))
-unfolding valued
+    → (get_or (with_values nav before pieces) i d).value ≡ value_at nav (before + sum_by mils_of (take (suc i) pieces)) - value_at nav (before + sum_by mils_of (take i pieces))
+unfolding with_values
 valued-at nav before [] i d h = absurd (omega arith)
 valued-at nav before (p ∷ ps) zero d h =
     between nav before (before + p.mils) (before + 0) (before + sum_by mils_of (take 1 (p ∷ ps))) (sym (add-zero (before + p.mils)) ∙ first-taken before p ps 0) (sym (add-zero before))
@@ -33,7 +33,7 @@ valued-at nav before (p ∷ ps) (suc i) d h =
     ∙ between nav (before + p.mils + sum_by mils_of (take i ps)) (before + p.mils + sum_by mils_of (take (suc i) ps)) (before + sum_by mils_of (take (suc i) (p ∷ ps))) (before + sum_by mils_of (take (suc (suc i)) (p ∷ ps))) (first-taken before p ps (suc i)) (first-taken before p ps i)
 
 pub valued-whole : (nav : ℕ) (pieces : List Piece) (i : ℕ) (d : Valued) → i < length pieces
-    → (get_or (valued nav 0 pieces) i d).value ≡ value_at nav (sum_by mils_of (take (i + 1) pieces)) - value_at nav (sum_by mils_of (take i pieces))
+    → (get_or (with_values nav 0 pieces) i d).value ≡ value_at nav (sum_by mils_of (take (i + 1) pieces)) - value_at nav (sum_by mils_of (take i pieces))
 valued-whole nav pieces i d h =
     valued-at nav 0 pieces i d h
     ∙ between nav (0 + sum_by mils_of (take i pieces)) (0 + sum_by mils_of (take (suc i) pieces)) (sum_by mils_of (take i pieces)) (sum_by mils_of (take (i + 1) pieces)) (zero-add (sum_by mils_of (take (suc i) pieces)) ∙ ap (λ n. sum_by mils_of (take n pieces)) (sym (add-one i))) (zero-add (sum_by mils_of (take i pieces)))

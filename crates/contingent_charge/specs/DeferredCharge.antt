@@ -27,10 +27,10 @@ pub record Valued : Type 0 where
   pub value : ℕ
 
 -- the pieces of a redemption with their values, where so many mils come before them
-unfoldable pub valued : ℕ → ℕ → List Piece → List Valued
-valued nav before [] = []
-valued nav before (piece ∷ pieces) =
-    record { piece = piece; value = value_between nav before piece.mils } ∷ valued nav (before + piece.mils) pieces
+unfoldable pub with_values : ℕ → ℕ → List Piece → List Valued
+with_values nav before [] = []
+with_values nav before (piece ∷ pieces) =
+    record { piece = piece; value = value_between nav before piece.mils } ∷ with_values nav (before + piece.mils) pieces
 
 -- what a piece is charged on: the lesser of its cost and its value, and nothing where it is free
 abbrev pub base_of : Valued → ℕ
@@ -43,16 +43,16 @@ charge_of day schedule item =
     else half (min item.piece.cost item.value * rate_on item.piece.day day schedule) 10000
 
 -- the sums over pieces with their values
-abbrev pub summed : ℕ → List ℕ → List Valued → Charged
-summed day schedule items = record {
+abbrev pub sums_of_pieces : ℕ → List ℕ → List Valued → Charged
+sums_of_pieces day schedule items = record {
   value = sum_by (λ (item : Valued). item.value) items;
   base = sum_by base_of items;
   charge = sum_by (charge_of day schedule) items;
 }
 
 -- a redemption of these pieces at this net asset value, on this day
-abbrev pub charged : List Piece → ℕ → ℕ → List ℕ → Charged
-charged pieces nav day schedule = summed day schedule (valued nav 0 pieces)
+abbrev pub charge_of_pieces : List Piece → ℕ → ℕ → List ℕ → Charged
+charge_of_pieces pieces nav day schedule = sums_of_pieces day schedule (with_values nav 0 pieces)
 
 -- what the rate of a piece takes of its whole cost
 abbrev pub cost_charge : ℕ → List ℕ → Piece → ℕ

@@ -26,7 +26,7 @@ pub fn charge(pieces: &[Piece], nav: Nav, day: Day, schedule: &[Bps]) -> Charged
     requires few_mils { sum_by (λ piece. piece.mils) pieces.now ≤ most_mils }
     requires low_cost { sum_by (λ piece. piece.cost) pieces.now ≤ most_cost }
     requires rates { All (λ rate. rate ≤ 850) schedule.now }
-    ensures charged { result ≡ spec.charged pieces.now nav day schedule.now }
+    ensures charged { result ≡ spec.charge_of_pieces pieces.now nav day schedule.now }
     ensures whole_value { result.value ≡ value_at nav (sum_by (λ piece. piece.mils) pieces.now) }
     ensures base_within_value { result.base ≤ result.value }
     ensures within_cost { result.charge ≤ spec.most_charged pieces.now day schedule.now }

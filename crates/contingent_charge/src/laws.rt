@@ -10,17 +10,17 @@ ghost use Rattle.contingent_charge.specs.DeferredCharge.{Valued};
 /// The values of pieces sum to the value of all their mils: nothing is lost or made by rounding.
 pub fn pieces_make_the_value()
     ensures { (nav : ℕ) (pieces : List Piece)
-        → sum_by (λ item. item.value) (spec.valued nav 0 pieces)
+        → sum_by (λ item. item.value) (spec.with_values nav 0 pieces)
         ≡ value_at nav (sum_by (λ piece. piece.mils) pieces) }
 {}
 
 /// Each piece has one value: what the mils to its end are worth together, less what those to its beginning are.
 pub fn a_piece_is_valued_at_its_ends()
     ensures pieces { (nav : ℕ) (pieces : List Piece)
-        → map (λ item. item.piece) (spec.valued nav 0 pieces) ≡ pieces }
+        → map (λ item. item.piece) (spec.with_values nav 0 pieces) ≡ pieces }
     ensures values { (nav : ℕ) (pieces : List Piece) (i : ℕ) (d : Valued)
         → i < length pieces
-        → (slice_index_or (spec.valued nav 0 pieces) i d).value
+        → (slice_index_or (spec.with_values nav 0 pieces) i d).value
         ≡ value_at nav (sum_by (λ piece. piece.mils) (take (i + 1) pieces)) - value_at nav
         (sum_by (λ piece. piece.mils) (take i pieces)) }
 {}

@@ -7,7 +7,7 @@ use Rattle.agent_events.specs.declared.order.OrderRow.{OrderRow}
 use Rattle.agent_events.specs.declared.request.AccountForm.{AccountForm}
 use Rattle.correction_trials.specs.Fresh.{IsOnTrial}
 use Rattle.event_laws.specs.EventReplays.{is_correction}
-use Rattle.forward_price.specs.PriceTables.{Table, published}
+use Rattle.forward_price.specs.PriceTables.{Table, sheet_published}
 use Rattle.forward_price.specs.declared.price_sheet.Sheet.{Sheet}
 use Rattle.household_replay.specs.Replays.{NumberedOrder, orders_under}
 use Rattle.ledger_laws.specs.PartsByFacts.{AreRowsOf}
@@ -77,7 +77,7 @@ pub late_on_trial : (journal : Journal) (event : Event) (owners : List ℕ) (hou
 late_on_trial journal event owners household first number rows late corrects is owned own settled are zero behind short = absurd (omega (arith, behind))
 late_on_trial journal event owners household first number rows late corrects is owned own settled are (suc place) behind short =
     let after = book_behind (with_event journal event) in
-    let some : Sheet = published after.table 0 (pos 0) [] in
+    let some : Sheet = sheet_published after.table 0 (pos 0) [] in
     let sheet = get_or after.table.sheets place some in
     let at : sheet.number ≡ place + 1 = is.orders.numbered.each place some (omega (arith, short)) in
     let next : place + 1 ≡ suc place = omega arith in

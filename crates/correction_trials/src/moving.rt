@@ -1,7 +1,7 @@
 //! What a correction that breaks no order makes of the ledger, with its gains.
 ghost use Rattle.std.specs.Prelude.{◌≡◌, ◌≤◌, IfOk, true};
 ghost use Rattle.correction_trials.specs.Changed.{AreGainsOf, AreWithin, IsChangeWith};
-ghost use Rattle.forward_price.specs.PriceTables.{patched};
+ghost use Rattle.forward_price.specs.PriceTables.{sheets_on_trial};
 ghost use Rattle.gain_loss_book.specs.ClassGains.{are_numbered, most_mils, size_of_mils};
 ghost use Rattle.gain_loss_book.specs.Posted.{most_cash, size_of_cash};
 ghost use Rattle.register_machine.specs.corrections.Payments.{bearer_in};
@@ -24,7 +24,7 @@ pub(crate) fn with_gains(
     prices: &PriceBook,
     patch: Option<Patch>,
 ) -> Result<LedgerChange, NoMemory>
-    ensures { IfOk result (IsChangeWith change bearer (patched patch prices.now.table.sheets)) }
+    ensures { IfOk result (IsChangeWith change bearer (sheets_on_trial patch prices.now.table.sheets)) }
 {
     let gains = gains_within_limits(alloc, change.changes(), prices, patch)?;
     Ok(LedgerChange {
@@ -40,7 +40,7 @@ fn gains_within_limits(
     patch: Option<Patch>,
 ) -> Result<ClassGains, NoMemory>
     ensures within { IfOk result (AreWithin changes.now) }
-    ensures gains { IfOk result (AreGainsOf changes.now (patched patch prices.now.table.sheets)) }
+    ensures gains { IfOk result (AreGainsOf changes.now (sheets_on_trial patch prices.now.table.sheets)) }
 {
     if are_within(changes) {
         let gains = gains(alloc, changes, prices, patch)?;

@@ -15,7 +15,7 @@ ghost use Rattle.correction_trials.specs.Trials.{IsFresh, Says};
 ghost use Rattle.correction_trials.specs.declared.trial.Tried.{Tried as AnyTried};
 ghost use Rattle.desk_books.specs.BooksOfJournals.{AreBooksOf, ShowTheSame};
 ghost use Rattle.event_laws.specs.EventReplays.{is_correction};
-ghost use Rattle.forward_price.specs.PriceTables.{patched};
+ghost use Rattle.forward_price.specs.PriceTables.{sheets_on_trial};
 ghost use Rattle.household_fold.specs.Facts.{FactsFit, sheets_known};
 ghost use Rattle.register_laws.specs.CorrectionReach.{order_changed};
 ghost use Rattle.register_laws.specs.Lawful.{book_behind};
@@ -274,7 +274,7 @@ fn said<L: StepLedger>(
     steps: &mut Steps<L>,
 ) -> Result<Tried, NoMemory>
     requires tried { IsTriedOver books.now event.now facts.now }
-    requires sheets { patched patch books.now.prices.table.sheets ≡ sheets_known facts.now }
+    requires sheets { sheets_on_trial patch books.now.prices.table.sheets ≡ sheets_known facts.now }
     requires reached { IsReopenedWhole books.now event.now facts.now reopened.change
         reopened.first.least }
     ensures tried { IfOk result (Says books.now.book.journal event.now books.now.ledger.parts) }
@@ -315,7 +315,7 @@ fn moves<L: StepLedger>(
 ) -> Result<Tried, NoMemory>
     requires { 1 ≤ facts.now.sheet → FactsFit facts.now }
     ensures made { IfOk result (AreMovesOf event.now
-        (patched patch books.now.prices.table.sheets) change) }
+        (sheets_on_trial patch books.now.prices.table.sheets) change) }
     ensures steps { OnOk result (steps.new ≡ steps.old) }
 {
     let made = change_of(alloc, facts, change, steps)?;
@@ -332,7 +332,7 @@ fn moved_with(
     prices: &PriceBook,
     patch: Option<Patch>,
 ) -> Result<Tried, NoMemory>
-    ensures { IfOk result (IsMovedWith made bearer (patched patch prices.now.table.sheets)) }
+    ensures { IfOk result (IsMovedWith made bearer (sheets_on_trial patch prices.now.table.sheets)) }
 {
     let moved = with_gains(alloc, made, bearer, prices, patch)?;
     Ok(Tried::Moves(moved))

@@ -8,7 +8,7 @@ use Rattle.checkpoint_replay.specs.declared.change.HouseholdMove.{HouseholdMove}
 use Rattle.checkpoint_replay.specs.declared.part.HouseholdPart.{HouseholdPart}
 use Rattle.desk_books.specs.LedgerChanges.{IsLedgerChange, MovesLedger}
 use Rattle.desk_books.specs.declared.change.LedgerChange.{LedgerChange}
-use Rattle.gain_loss_book.specs.Flows.{net, no_flow, turned, with_flow}
+use Rattle.gain_loss_book.specs.Flows.{net, no_flow, reverse_flow, with_flow}
 use Rattle.gain_loss_book.specs.Movements.{trades_mils}
 use Rattle.gain_loss_book.specs.declared.flows.Flow.{Flow}
 use Rattle.register_machine.specs.journal.Journals.{Journal}
@@ -29,13 +29,13 @@ same-moves journal event parts others change same moves = record {
         moves.changes.cash party
         ∙ ap net
         (fold-same (with_cash_of parts party) (with_cash_of others party)
-        (λ flow move. ap (λ (day : Day). with_flow (with_flow flow (trades_cash move.trades party)) (turned (trades_cash (drop move.kept day.trades) party))) (sym (same move.household)))
+        (λ flow move. ap (λ (day : Day). with_flow (with_flow flow (trades_cash move.trades party)) (reverse_flow (trades_cash (drop move.kept day.trades) party))) (sym (same move.household)))
         no_flow change.change.moves);
     mils = λ class.
         moves.changes.mils class
         ∙ ap net
         (fold-same (with_mils_of parts class) (with_mils_of others class)
-        (λ flow move. ap (λ (day : Day). with_flow (with_flow flow (trades_mils move.trades class)) (turned (trades_mils (drop move.kept day.trades) class))) (sym (same move.household)))
+        (λ flow move. ap (λ (day : Day). with_flow (with_flow flow (trades_mils move.trades class)) (reverse_flow (trades_mils (drop move.kept day.trades) class))) (sym (same move.household)))
         no_flow change.change.moves);
   };
   differences = moves.differences;

@@ -18,15 +18,15 @@ abbrev pub passes_ceiling : ℕ → ℕ → ℕ → ℕ → Bool
 passes_ceiling mils cash room cost_room = nat_lt room mils || nat_lt cost_room cash
 
 -- cents that buy mils are reinvested, unless the holder elected cash, no mil results or the ceiling would be passed
-abbrev pub paid : Bool → ℕ → ℕ → ℕ → ℕ → Payment
-paid in_cash cash mils room cost_room =
+abbrev pub payment_of_cash : Bool → ℕ → ℕ → ℕ → ℕ → Payment
+payment_of_cash in_cash cash mils room cost_room =
     if in_cash || mils == 0 || passes_ceiling mils cash room cost_room then Cash cash else Shares cash mils
 
 -- the payment on the mils of a position; there is none of 0 cents
 abbrev pub payment : ℕ → ℕ → ℕ → Bool → ℕ → ℕ → Payment
 payment mils rate nav in_cash room cost_room =
     if cash_of mils rate == 0 then Nothing
-    else paid in_cash (cash_of mils rate) (mils_of (cash_of mils rate) nav) room cost_room
+    else payment_of_cash in_cash (cash_of mils rate) (mils_of (cash_of mils rate) nav) room cost_room
 
 -- the cents of a payment, in whatever it is paid
 abbrev pub cents_of : Payment → ℕ

@@ -8,7 +8,7 @@ use Rattle.std.specs.Option.{option_map_or}
 use Rattle.std.specs.Prelude.{int_lt, option_and_then}
 use Rattle.agent_events.specs.declared.order.OrderRow.{OrderRow}
 use Rattle.forward_price.proofs.PricingFacts.{lt_fact}
-use Rattle.forward_price.specs.Choices.{best, considered, preferred}
+use Rattle.forward_price.specs.Choices.{best, best_so_far, found_or_better}
 use Rattle.forward_price.specs.PriceTables.{is_before, is_earlier, is_later, next_sheet, price_before, prices_order, sheet_before}
 use Rattle.forward_price.specs.Sheets.{lists_class, nav_on}
 use Rattle.forward_price.specs.declared.price_sheet.Sheet.{Sheet}
@@ -21,18 +21,18 @@ use Rattle.register_machine.specs.replay.Replay.{Priced, all_in_turn, is_priced_
 
 -- ---- the best of a list with one more
 
-best-more : {X : Type 0} (passes : X → Bool) (better : X → X → Bool) (xs : List X) (x : X) → best passes better (xs ++ x ∷ []) ≡ considered passes better (best passes better xs) x
-best-more passes better xs x = fold-append (considered passes better) None xs (x ∷ [])
+best-more : {X : Type 0} (passes : X → Bool) (better : X → X → Bool) (xs : List X) (x : X) → best passes better (xs ++ x ∷ []) ≡ best_so_far passes better (best passes better xs) x
+best-more passes better xs x = fold-append (best_so_far passes better) None xs (x ∷ [])
 
 -- what is found has what all have that pass
 abbrev pub HasIfFound : {X : Type 0} → (X → Type 0) → Option X → Type 0
 HasIfFound P None = Unit {0}
 HasIfFound P (Some x) = P x
 
-pub best-has : {X : Type 0} (P : X → Type 0) (passes : X → Bool) (better : X → X → Bool) (found : Option X) (xs : List X) → All (λ x. passes x ≡ true → P x) xs → HasIfFound P found → HasIfFound P (fold (considered passes better) found xs)
+pub best-has : {X : Type 0} (P : X → Type 0) (passes : X → Bool) (better : X → X → Bool) (found : Option X) (xs : List X) → All (λ x. passes x ≡ true → P x) xs → HasIfFound P found → HasIfFound P (fold (best_so_far passes better) found xs)
 best-has P passes better found [] all fine = fine
 best-has {X = X} P passes better found (x ∷ xs) all fine =
-    best-has P passes better (considered passes better found x) xs (All-tail (λ x. passes x ≡ true → P x) x xs all) (by (passes x) refl found fine)
+    best-has P passes better (best_so_far passes better found x) xs (All-tail (λ x. passes x ≡ true → P x) x xs all) (by (passes x) refl found fine)
   where
     here : passes x ≡ true → P x
     here = All-head (λ x. passes x ≡ true → P x) x xs all
@@ -41,7 +41,7 @@ best-has {X = X} P passes better found (x ∷ xs) all fine =
     prefer is true y fine = here is
     prefer is false y fine = fine
 
-    by : (b : Bool) → passes x ≡ b → (found : Option X) → HasIfFound P found → HasIfFound P (cond b (preferred better found x) found)
+    by : (b : Bool) → passes x ≡ b → (found : Option X) → HasIfFound P found → HasIfFound P (cond b (found_or_better better found x) found)
     by true is None fine = here is
     by true is (Some y) fine = prefer is (better x y) y fine
     by false is found fine = fine
@@ -50,8 +50,8 @@ not-before : (a b : ℤ) → b ≤ℤ a → int_lt a b ≡ false
 not-before a b le = is-false (int_lt a b) (λ is. let less = lt_fact a b is in omega (arith, ints, less, le))
 
 -- one that doesn't pass
-passed-over : {X : Type 0} (passes : X → Bool) (better : X → X → Bool) (found : Option X) (x : X) → passes x ≡ false → considered passes better found x ≡ found
-passed-over passes better found x off = ap (λ b. cond b (preferred better found x) found) off
+passed-over : {X : Type 0} (passes : X → Bool) (better : X → X → Bool) (found : Option X) (x : X) → passes x ≡ false → best_so_far passes better found x ≡ found
+passed-over passes better found x off = ap (λ b. cond b (found_or_better better found x) found) off
 
 -- ---- prices before a moment
 
@@ -74,7 +74,7 @@ next-more sheets new asked receipt number past other =
     ∙ by (prices_order asked receipt new) (next_sheet sheets asked receipt)
     (best-has (λ (s : Sheet). s.moment ≤ℤ new.moment) (prices_order asked receipt) is_earlier None sheets (All-weaker (λ (s : Sheet). s.moment ≤ℤ new.moment) (λ (s : Sheet). prices_order asked receipt s ≡ true → s.moment ≤ℤ new.moment) (λ s le _. le) sheets past) tt)
   where
-    by : (b : Bool) (found : Option Sheet) → HasIfFound (λ (s : Sheet). s.moment ≤ℤ new.moment) found → is_numbered number (cond b (preferred is_earlier found new) found) ≡ is_numbered number found
+    by : (b : Bool) (found : Option Sheet) → HasIfFound (λ (s : Sheet). s.moment ≤ℤ new.moment) found → is_numbered number (cond b (found_or_better is_earlier found new) found) ≡ is_numbered number found
     by true None fine = other
     by true (Some y) fine = ap (λ c. is_numbered number (cond c (Some new) (Some y))) (not-before new.moment y.moment fine)
     by false found fine = refl

@@ -4,7 +4,7 @@ use Rattle.std.specs.Prelude.{Bool, [], false, is_some, length, pos, ℕ, ◌++�
 use Rattle.agent_events.specs.Events.{Event}
 use Rattle.agent_events.specs.declared.event.EventKind.{EventKind}
 use Rattle.agent_events.specs.declared.request.SheetForm.{SheetForm}
-use Rattle.forward_price.specs.PriceTables.{published}
+use Rattle.forward_price.specs.PriceTables.{sheet_published}
 use Rattle.forward_price.specs.declared.price_sheet.Sheet.{Sheet}
 use Rattle.register_laws.specs.Lawful.{book_behind}
 use Rattle.register_machine.specs.corrections.Payments.{bearer_in}
@@ -34,7 +34,7 @@ LawfulLeavesReplay journal event =
 
 -- the sheet that an event publishes behind a journal
 abbrev pub sheet_behind : Journal → SheetForm → Sheet
-sheet_behind journal form = published (book_behind journal).table form.calendar (pos form.moment) form.prices
+sheet_behind journal form = sheet_published (book_behind journal).table form.calendar (pos form.moment) form.prices
 
 -- A sheet is one day more: it comes behind the others, and the replay goes on over it from where it was.
 pub record AddsSheet (journal : Journal) (event : Event) (form : SheetForm) : Type 0 where

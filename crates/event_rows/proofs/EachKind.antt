@@ -7,9 +7,9 @@ use Rattle.agent_events.specs.declared.order.Body.{Body}
 use Rattle.agent_events.specs.Fields.{are_floors, is_rising, are_holidays}
 use Rattle.row_fields.specs.Exact.{IsBytes, IsField}
 use Rattle.row_fields.specs.Ranges.{IsIdentifier, IsAmount, IsQuantity, IsBps, AreListed}
-use Rattle.row_fields.specs.Reading.{◌&◌, made}
+use Rattle.row_fields.specs.Reading.{◌&◌, map_read}
 use Rattle.row_fields.specs.Readers.{identifier_at, amount_at, quantity_at, flag_at}
-use Rattle.row_fields.specs.Spelling.{two_bytes, four_bytes, eight_bytes, flag, listed}
+use Rattle.row_fields.specs.Spelling.{two_bytes, four_bytes, eight_bytes, flag, list_bytes}
 use Rattle.row_fields.proofs.Fields.{both, shaped, tested, tagged, chosen, map_some}
 use Rattle.row_fields.proofs.EachField.{respelled, four_field, eight_field, flag_field, identifier_field, identifier_or_none_field, reference_field, moment_field, day_field, amount_field, minimum_field, nav_field, quantity_field, dividend_rate_field, corrected_rate_field, time_of_day_field, window_field, rate_field, name_field, zone_field, household_key_field, dealer_key_field, bearer_field, listed_field}
 use Rattle.event_rows.specs.InForm.{IsBody, AreHolidays, IsBracket, AreBrackets, IsListedPrice, ArePrices, IsCalendar, IsClose, IsClass, IsDealer, IsHousehold, IsAccount, IsPlaced, IsCancel, IsSheet, IsDividend, IsFixPrice, IsFixRate, IsEntry, IsVoid, IsKind}
@@ -18,7 +18,7 @@ use Rattle.event_rows.specs.Reading.{buy_of, sell_of, sell_cash_of, exchange_of,
 
 -- ---- the lists
 
-holidays_field : IsField (listed four_bytes) AreHolidays holidays_at
+holidays_field : IsField (list_bytes four_bytes) AreHolidays holidays_at
 unfolding holidays_at
 holidays_field = tested are_holidays (listed_field day_field)
 
@@ -26,11 +26,11 @@ bracket_field : IsField bracket IsBracket bracket_at
 unfolding bracket_at
 bracket_field = shaped bracket_of (λ row. (row.floor, row.rate)) (λ row fits. refl) (λ x fits. refl) (both eight_field rate_field)
 
-front_field : IsField (listed bracket) AreBrackets front_at
+front_field : IsField (list_bytes bracket) AreBrackets front_at
 unfolding front_at
 front_field = tested are_floors (listed_field bracket_field)
 
-deferred_field : IsField (listed two_bytes) (AreListed IsBps) deferred_at
+deferred_field : IsField (list_bytes two_bytes) (AreListed IsBps) deferred_at
 unfolding deferred_at
 deferred_field = listed_field rate_field
 
@@ -38,7 +38,7 @@ price_field : IsField price IsListedPrice price_at
 unfolding price_at
 price_field = both four_field nav_field
 
-prices_field : IsField (listed price) ArePrices prices_at
+prices_field : IsField (list_bytes price) ArePrices prices_at
 unfolding prices_at
 prices_field = tested is_rising (listed_field price_field)
 
@@ -123,7 +123,7 @@ From rest_of fits tag n bytes x rest = (bytes ≡ rest_of x ++ rest) × fits x �
 -- one line of a table of readers
 line : {A B : Type 0} {s : A → List ℕ} {f : A → Type 0} {r : List ℕ → Option (A × List ℕ)} (rest_of : B → List ℕ) (fits_of : B → Type 0) (tag : B → ℕ) (n k : ℕ) (make : A → B)
     → IsField s f r → ((a : A) → rest_of (make a) ≡ s a) → ((a : A) → f a → fits_of (make a)) → ((a : A) → tag (make a) ≡ k)
-    → (bytes : List ℕ) (x : B) (rest : List ℕ) → IsBytes bytes → eqb n k ≡ true → made make r bytes ≡ Some (x, rest) → From rest_of fits_of tag n bytes x rest
+    → (bytes : List ℕ) (x : B) (rest : List ℕ) → IsBytes bytes → eqb n k ≡ true → map_read make r bytes ≡ Some (x, rest) → From rest_of fits_of tag n bytes x rest
 line {A = A} {B = B} {s = s} {r = r} rest_of fits_of tag n k make field spells suits tags bytes x rest fits is found =
     let a = map_some (r bytes) (λ (y : A × List ℕ). (make y.0, y.1)) (x, rest) found in
     let one = field.takes bytes a.0.0 a.0.1 fits a.1 in

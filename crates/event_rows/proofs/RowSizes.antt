@@ -4,7 +4,7 @@ use Rattle.std.specs.List.{flat_map}
 use Rattle.class_terms.specs.declared.lists.Bracket.{Bracket}
 use Rattle.agent_events.specs.declared.event.EventKind.{EventKind}
 use Rattle.agent_events.specs.Events.{Event}
-use Rattle.row_fields.specs.Spelling.{two_bytes, four_bytes, eight_bytes, text, listed}
+use Rattle.row_fields.specs.Spelling.{two_bytes, four_bytes, eight_bytes, text, list_bytes}
 use Rattle.event_rows.specs.Rows.{bracket, price, calendar, class_loads, class, dealer, household, account, sheet, fields, event_row}
 use Rattle.event_rows.specs.Sizes.{content_size}
 
@@ -20,8 +20,8 @@ items_size : {A : Type 0} (item : A → List ℕ) → ((x : A) → 1 ≤ length 
 items_size item long [] = omega arith
 items_size item long (x ∷ xs) = omega (arith, length-append (item x) (flat_map item xs), long x, items_size item long xs)
 
-list_size : {A : Type 0} (item : A → List ℕ) → ((x : A) → 1 ≤ length (item x)) → (xs : List A) → length xs ≤ length (listed item xs)
-unfolding listed
+list_size : {A : Type 0} (item : A → List ℕ) → ((x : A) → 1 ≤ length (item x)) → (xs : List A) → length xs ≤ length (list_bytes item xs)
+unfolding list_bytes
 list_size item long xs = behind (two_bytes (length xs)) (flat_map item xs) (length xs) (items_size item long xs)
 
 two_long : (n : ℕ) → 1 ≤ length (two_bytes n)

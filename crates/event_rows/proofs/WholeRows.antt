@@ -5,7 +5,7 @@ use Rattle.std.proofs.lemmas.List.{append-nil}
 use Rattle.agent_events.specs.declared.event.EventKind.{EventKind}
 use Rattle.agent_events.specs.Events.{Event}
 use Rattle.row_fields.specs.Exact.{IsBytes, IsField}
-use Rattle.row_fields.specs.Reading.{made, byte_at}
+use Rattle.row_fields.specs.Reading.{map_read, byte_at}
 use Rattle.row_fields.specs.Readers.{moment_at}
 use Rattle.row_fields.specs.Spelling.{one_byte, eight_bytes}
 use Rattle.row_fields.proofs.Fields.{IsBytes-rest, read_some, map_some, byte_takes, whole_some, chosen}
@@ -25,7 +25,7 @@ first_takes bytes event rest fits e =
     let a = read_some (byte_at bytes) (λ x. event_behind x.0 (moment_at x.1)) (event, rest) e in
     let one = byte_takes bytes a.0.0 a.0.1 fits a.1 in
     let fits1 = IsBytes-rest bytes (a.0.0 ∷ []) a.0.1 one.0 fits in
-    let b = read_some (moment_at a.0.1) (λ x. made (event_with x.0) (fields_at a.0.0) x.1) (event, rest) a.2 in
+    let b = read_some (moment_at a.0.1) (λ x. map_read (event_with x.0) (fields_at a.0.0) x.1) (event, rest) a.2 in
     let two = moment_field.takes a.0.1 b.0.0 b.0.1 fits1 b.1 in
     let fits2 = IsBytes-rest a.0.1 (eight_bytes b.0.0) b.0.1 two.0 fits1 in
     let d = map_some (fields_at a.0.0 b.0.1) (λ (x : EventKind × List ℕ). (event_with b.0.0 x.0, x.1)) (event, rest) b.2 in

@@ -19,7 +19,7 @@ use Rattle.agent_events.specs.declared.request.HouseholdForm.{HouseholdForm}
 use Rattle.agent_events.specs.declared.request.SheetForm.{SheetForm}
 use Rattle.agent_events.specs.declared.request.VoidForm.{VoidForm}
 use Rattle.agent_events.specs.Events.{Event}
-use Rattle.row_fields.specs.Spelling.{one_byte, two_bytes, four_bytes, eight_bytes, flag, text, listed, bearer}
+use Rattle.row_fields.specs.Spelling.{one_byte, two_bytes, four_bytes, eight_bytes, flag, text, list_bytes, bearer}
 
 -- what an order does: a tag and its fields; an election is 00 for shares and 01 for cash
 unfoldable pub body : Body → List ℕ
@@ -48,7 +48,7 @@ price priced = four_bytes priced.0 ++ eight_bytes priced.1
 unfoldable pub calendar : CalendarForm → List ℕ
 calendar form =
     four_bytes form.calendar ++ (text form.zone ++ (two_bytes form.minute ++ (four_bytes form.first
-    ++ (four_bytes form.last ++ listed four_bytes form.holidays))))
+    ++ (four_bytes form.last ++ list_bytes four_bytes form.holidays))))
 
 -- kind 02
 unfoldable pub close : CloseForm → List ℕ
@@ -58,7 +58,7 @@ close form = four_bytes form.calendar ++ four_bytes form.day
 unfoldable pub class_loads : ClassForm → List ℕ
 class_loads form =
     flag form.counts ++ (eight_bytes form.first_min ++ (eight_bytes form.later_min
-    ++ (listed bracket form.front ++ listed two_bytes form.deferred)))
+    ++ (list_bytes bracket form.front ++ list_bytes two_bytes form.deferred)))
 
 unfoldable pub class : ClassForm → List ℕ
 class form =
@@ -89,7 +89,7 @@ cancel form = four_bytes form.account ++ (eight_bytes form.ref_no ++ eight_bytes
 
 -- kind 09
 unfoldable pub sheet : SheetForm → List ℕ
-sheet form = four_bytes form.calendar ++ (eight_bytes form.moment ++ listed price form.prices)
+sheet form = four_bytes form.calendar ++ (eight_bytes form.moment ++ list_bytes price form.prices)
 
 -- kind 0a
 unfoldable pub dividend : DividendForm → List ℕ

@@ -4,7 +4,7 @@ ghost use Rattle.std.specs.List.{flat_map, AllByRecursion};
 ghost use Rattle.row_fields.specs.Ranges.{IsDay, IsBps, AreListed};
 ghost use Rattle.event_rows.specs.InForm.{IsBracket, IsListedPrice};
 ghost use Rattle.agent_events.specs.Events.{fits_count};
-ghost use Rattle.row_fields.specs.Spelling.{two_bytes, four_bytes, listed};
+ghost use Rattle.row_fields.specs.Spelling.{two_bytes, four_bytes, list_bytes};
 ghost use Rattle.event_rows.specs.Rows.{bracket, price};
 
 use class_terms::Bracket;
@@ -76,7 +76,7 @@ fn put_each_price(row: &mut RowWriter, prices: &[(u32, Nav)]) -> Result<(), NoMe
 #[tactic(auto, unfolding(row_fields::specs::Spelling::listed))]
 pub(crate) fn put_holidays(row: &mut RowWriter, days: &[Day]) -> Result<(), NoMemory>
     requires { fits_count days.now ≡ true }
-    ensures written { OnOk result (row.new ≡ row.old ++ listed four_bytes days.now) }
+    ensures written { OnOk result (row.new ≡ row.old ++ list_bytes four_bytes days.now) }
     ensures in_form { OnOk result (AreListed IsDay days.now) }
 {
     row.count(days.len())?;
@@ -88,7 +88,7 @@ pub(crate) fn put_holidays(row: &mut RowWriter, days: &[Day]) -> Result<(), NoMe
 #[tactic(auto, unfolding(row_fields::specs::Spelling::listed))]
 pub(crate) fn put_front(row: &mut RowWriter, brackets: &[Bracket]) -> Result<(), NoMemory>
     requires { fits_count brackets.now ≡ true }
-    ensures written { OnOk result (row.new ≡ row.old ++ listed bracket brackets.now) }
+    ensures written { OnOk result (row.new ≡ row.old ++ list_bytes bracket brackets.now) }
     ensures in_form { OnOk result (AreListed IsBracket brackets.now) }
 {
     row.count(brackets.len())?;
@@ -100,7 +100,7 @@ pub(crate) fn put_front(row: &mut RowWriter, brackets: &[Bracket]) -> Result<(),
 #[tactic(auto, unfolding(row_fields::specs::Spelling::listed))]
 pub(crate) fn put_deferred(row: &mut RowWriter, rates: &[Bps]) -> Result<(), NoMemory>
     requires { fits_count rates.now ≡ true }
-    ensures written { OnOk result (row.new ≡ row.old ++ listed two_bytes rates.now) }
+    ensures written { OnOk result (row.new ≡ row.old ++ list_bytes two_bytes rates.now) }
     ensures in_form { OnOk result (AreListed IsBps rates.now) }
 {
     row.count(rates.len())?;
@@ -112,7 +112,7 @@ pub(crate) fn put_deferred(row: &mut RowWriter, rates: &[Bps]) -> Result<(), NoM
 #[tactic(auto, unfolding(row_fields::specs::Spelling::listed))]
 pub(crate) fn put_prices(row: &mut RowWriter, prices: &[(u32, Nav)]) -> Result<(), NoMemory>
     requires { fits_count prices.now ≡ true }
-    ensures written { OnOk result (row.new ≡ row.old ++ listed price prices.now) }
+    ensures written { OnOk result (row.new ≡ row.old ++ list_bytes price prices.now) }
     ensures in_form { OnOk result (AreListed IsListedPrice prices.now) }
 {
     row.count(prices.len())?;

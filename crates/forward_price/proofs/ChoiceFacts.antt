@@ -3,7 +3,7 @@ use Rattle.std.proofs.Common.{◌≡◌, Bool, true, false, List, [], ◌∷◌,
 use Rattle.std.proofs.lemmas.Bool.{true≢false}
 use Rattle.std.proofs.lemmas.List.Sums.{fold-append}
 use Rattle.std.proofs.lemmas.List.Elements.{All-nil, All-weaker, All-contains, All-push, All-append, Contains-push, Contains-append_left, Contains-append_right}
-use Rattle.forward_price.specs.Choices.{IsChoice, preferred, considered, best, better_of}
+use Rattle.forward_price.specs.Choices.{IsChoice, found_or_better, best_so_far, best, better_of}
 
 -- where neither is better they are the same
 abbrev pub IsTotal : {X : Type 0} → (X → X → Bool) → Type 0
@@ -28,7 +28,7 @@ itself better order x = elim (tested (better x x)) [ inl pass ↦ order.apart x 
 still_worse : {X : Type 0} (better : X → X → Bool) → IsOrder better → (o x t : X) → better x t ≡ true → better o t ≡ false → better o x ≡ false
 still_worse better order o x t over worse = order.behind o t x worse (order.apart x t over)
 
-pub preferred-choice : {X : Type 0} (passes : X → Bool) (better : X → X → Bool) → IsOrder better → (xs : List X) (found : Option X) (x : X) → passes x ≡ true → IsChoice passes better xs found → IsChoice passes better (xs ++ x ∷ []) (preferred better found x)
+pub preferred-choice : {X : Type 0} (passes : X → Bool) (better : X → X → Bool) → IsOrder better → (xs : List X) (found : Option X) (x : X) → passes x ≡ true → IsChoice passes better xs found → IsChoice passes better (xs ++ x ∷ []) (found_or_better better found x)
 preferred-choice passes better order xs None x pass none = record {
   among = Contains-push xs x;
   here = pass;
@@ -56,17 +56,17 @@ passed_over passes better xs (Some t) x fail is = record {
   best = All-push (λ o. passes o ≡ true → better o t ≡ false) xs x is.best (λ pass. absurd (not_true (passes x) pass fail));
 }
 
-pub considered-choice : {X : Type 0} (passes : X → Bool) (better : X → X → Bool) → IsOrder better → (xs : List X) (found : Option X) (x : X) → IsChoice passes better xs found → IsChoice passes better (xs ++ x ∷ []) (considered passes better found x)
+pub considered-choice : {X : Type 0} (passes : X → Bool) (better : X → X → Bool) → IsOrder better → (xs : List X) (found : Option X) (x : X) → IsChoice passes better xs found → IsChoice passes better (xs ++ x ∷ []) (best_so_far passes better found x)
 considered-choice passes better order xs found x is = elim (tested (passes x)) [
   | inl pass ↦ rw pass (preferred-choice passes better order xs found x pass is)
   | inr fail ↦ rw fail (passed_over passes better xs found x fail is)
 ]
 
-fold-choice : {X : Type 0} (passes : X → Bool) (better : X → X → Bool) → IsOrder better → (xs ys : List X) (found : Option X) → IsChoice passes better xs found → IsChoice passes better (xs ++ ys) (fold (considered passes better) found ys)
+fold-choice : {X : Type 0} (passes : X → Bool) (better : X → X → Bool) → IsOrder better → (xs ys : List X) (found : Option X) → IsChoice passes better xs found → IsChoice passes better (xs ++ ys) (fold (best_so_far passes better) found ys)
 fold-choice passes better order xs [] found is = subst (λ l. IsChoice passes better l found) (sym (append-nil xs)) is
 fold-choice passes better order xs (y ∷ ys) found is =
-    subst (λ l. IsChoice passes better l (fold (considered passes better) (considered passes better found y) ys)) (append_assoc xs (y ∷ []) ys)
-    (fold-choice passes better order (xs ++ y ∷ []) ys (considered passes better found y) (considered-choice passes better order xs found y is))
+    subst (λ l. IsChoice passes better l (fold (best_so_far passes better) (best_so_far passes better found y) ys)) (append_assoc xs (y ∷ []) ys)
+    (fold-choice passes better order (xs ++ y ∷ []) ys (best_so_far passes better found y) (considered-choice passes better order xs found y is))
 
 -- what is computed is the choice
 pub best-choice : {X : Type 0} (passes : X → Bool) (better : X → X → Bool) → IsOrder better → (xs : List X) → IsChoice passes better xs (best passes better xs)
@@ -118,9 +118,9 @@ better_none better None = refl
 better_none better (Some x) = refl
 
 -- the better of three is the better of the first and of the better of the others
-associate : {X : Type 0} (better : X → X → Bool) → IsOrder better → (found : Option X) (y : X) (b : Option X) → better_of better (preferred better found y) b ≡ better_of better found (better_of better (Some y) b)
+associate : {X : Type 0} (better : X → X → Bool) → IsOrder better → (found : Option X) (y : X) (b : Option X) → better_of better (found_or_better better found y) b ≡ better_of better found (better_of better (Some y) b)
 associate better order None y None = refl
-associate better order None y (Some z) = sym (better_none better (preferred better (Some y) z))
+associate better order None y (Some z) = sym (better_none better (found_or_better better (Some y) z))
 associate better order (Some t) y None = refl
 associate better order (Some t) y (Some z) = elim (tested (better y t)) [
   | inl over ↦ elim (tested (better z y)) [
@@ -136,30 +136,30 @@ associate better order (Some t) y (Some z) = elim (tested (better y t)) [
   ]
 ]
 
-considered_pass : {X : Type 0} (passes : X → Bool) (better : X → X → Bool) (found : Option X) (y : X) → passes y ≡ true → considered passes better found y ≡ preferred better found y
+considered_pass : {X : Type 0} (passes : X → Bool) (better : X → X → Bool) (found : Option X) (y : X) → passes y ≡ true → best_so_far passes better found y ≡ found_or_better better found y
 considered_pass passes better found y pass = rw pass refl
 
-considered_fail : {X : Type 0} (passes : X → Bool) (better : X → X → Bool) (found : Option X) (y : X) → passes y ≡ false → considered passes better found y ≡ found
+considered_fail : {X : Type 0} (passes : X → Bool) (better : X → X → Bool) (found : Option X) (y : X) → passes y ≡ false → best_so_far passes better found y ≡ found
 considered_fail passes better found y fail = rw fail refl
 
-fold_from : {X : Type 0} (passes : X → Bool) (better : X → X → Bool) → IsOrder better → (ys : List X) (found : Option X) → fold (considered passes better) found ys ≡ better_of better found (best passes better ys)
+fold_from : {X : Type 0} (passes : X → Bool) (better : X → X → Bool) → IsOrder better → (ys : List X) (found : Option X) → fold (best_so_far passes better) found ys ≡ better_of better found (best passes better ys)
 fold_from passes better order [] found = refl
 fold_from {X} passes better order (y ∷ ys) found = elim (tested (passes y)) [
   | inl pass ↦
-      ap (λ a. fold (considered passes better) a ys) (considered_pass passes better found y pass)
-      ∙ fold_from passes better order ys (preferred better found y)
+      ap (λ a. fold (best_so_far passes better) a ys) (considered_pass passes better found y pass)
+      ∙ fold_from passes better order ys (found_or_better better found y)
       ∙ associate better order found y (best passes better ys)
-      ∙ ap (better_of better found) (sym (fold_from passes better order ys (Some y)) ∙ ap (λ a. fold (considered passes better) a ys) (sym (considered_pass passes better None y pass)))
+      ∙ ap (better_of better found) (sym (fold_from passes better order ys (Some y)) ∙ ap (λ a. fold (best_so_far passes better) a ys) (sym (considered_pass passes better None y pass)))
   | inr fail ↦
-      ap (λ a. fold (considered passes better) a ys) (considered_fail passes better found y fail)
+      ap (λ a. fold (best_so_far passes better) a ys) (considered_fail passes better found y fail)
       ∙ fold_from passes better order ys found
-      ∙ ap (better_of better found) (ap (λ a. fold (considered passes better) a ys) (sym (considered_fail passes better None y fail)))
+      ∙ ap (better_of better found) (ap (λ a. fold (best_so_far passes better) a ys) (sym (considered_fail passes better None y fail)))
 ]
 
 -- the best of two lists together is the better of their best
 best-append : {X : Type 0} (passes : X → Bool) (better : X → X → Bool) → IsOrder better → (xs ys : List X) → best passes better (xs ++ ys) ≡ better_of better (best passes better xs) (best passes better ys)
 best-append passes better order xs ys =
-    fold-append (considered passes better) None xs ys ∙ fold_from passes better order ys (best passes better xs)
+    fold-append (best_so_far passes better) None xs ys ∙ fold_from passes better order ys (best passes better xs)
 
 -- where none passes none is the best
 pub best_of_none : {X : Type 0} (passes : X → Bool) (better : X → X → Bool) → IsOrder better → (xs : List X) → All (λ x. passes x ≡ false) xs → best passes better xs ≡ None

@@ -8,8 +8,8 @@ use Rattle.std.proofs.lemmas.List.Elements.{All-contains, Contains-append_left, 
 use Rattle.forward_price.specs.declared.price_sheet.Opening.{Opening}
 use Rattle.forward_price.specs.declared.price_sheet.Sheet.{Sheet}
 use Rattle.forward_price.specs.Sheets.{lists_class, lists_all}
-use Rattle.forward_price.specs.Choices.{IsBest, IsChoice, considered}
-use Rattle.forward_price.specs.PriceTables.{Table, prices_order, is_earlier, next_sheet, NextPrice, published, with_published, corrected, corrected_sheet}
+use Rattle.forward_price.specs.Choices.{IsBest, IsChoice, best_so_far}
+use Rattle.forward_price.specs.PriceTables.{Table, prices_order, is_earlier, next_sheet, NextPrice, sheet_published, with_published, sheets_with_nav, corrected_sheet}
 use Rattle.forward_price.specs.Turns.{pricing_pairs, is_awaited, is_wrong, class_numbers, price_numbers, must_list, wrong_class}
 use Rattle.forward_price.specs.Orderly.{IsOrderly, IsInTurn}
 use Rattle.forward_price.proofs.ChoiceFacts.{best-choice}
@@ -88,7 +88,7 @@ later_stays t calendar moment prices asked receipt s orderly turn some next list
     let not_awaited = All-contains (λ pair. pair.1 ≡ s.calendar → pair.0 ≤ℤ s.moment → is_awaited t.classes t.sheets pair ≡ false) (pricing_pairs t.calendars) (moment, calendar) passed is.among of upto in
     true≢false (sym is.here ∙ not_awaited)
 
-stays_by : (asked : List ℕ) (receipt : ℤ) (s p : Sheet) → (lists_all p.prices asked ≡ true → int_lt p.moment s.moment ≡ true → ⊥) → considered (prices_order asked receipt) is_earlier (Some s) p ≡ Some s
+stays_by : (asked : List ℕ) (receipt : ℤ) (s p : Sheet) → (lists_all p.prices asked ≡ true → int_lt p.moment s.moment ≡ true → ⊥) → best_so_far (prices_order asked receipt) is_earlier (Some s) p ≡ Some s
 stays_by asked receipt s p never = elim (tested (prices_order asked receipt p)) [
   | inl passes ↦ rw passes (
       elim (tested (is_earlier p s)) [
@@ -100,9 +100,9 @@ stays_by asked receipt s p never = elim (tested (prices_order asked receipt p)) 
 
 pub priced_stays : (t : Table) (calendar : ℕ) (moment : ℤ) (prices : List (ℕ × ℕ)) (asked : List ℕ) (receipt : ℤ) (s : Sheet) → IsOrderly t → IsInTurn t calendar moment prices → 0 < length asked → next_sheet t.sheets asked receipt ≡ Some s → next_sheet (with_published t calendar moment prices).sheets asked receipt ≡ Some s
 priced_stays t calendar moment prices asked receipt s orderly turn some e =
-    let p = published t calendar moment prices in
-    fold-append (considered (prices_order asked receipt) is_earlier) None t.sheets (p ∷ [])
-    ∙ ap (λ found. considered (prices_order asked receipt) is_earlier found p) e
+    let p = sheet_published t calendar moment prices in
+    fold-append (best_so_far (prices_order asked receipt) is_earlier) None t.sheets (p ∷ [])
+    ∙ ap (λ found. best_so_far (prices_order asked receipt) is_earlier found p) e
     ∙ stays_by asked receipt s p (later_stays t calendar moment prices asked receipt s orderly turn some (next_sheet-next t.sheets asked receipt s e))
 
 -- a correction leaves the number of the sheet as it is
@@ -116,7 +116,7 @@ same_number : (class number nav : ℕ) (found : Option Sheet) → option_map (λ
 same_number class number nav None = refl
 same_number class number nav (Some s) = ap Some (number-kept class number nav s)
 
-pub corrected_stays : (class number nav : ℕ) (sheets : List Sheet) (asked : List ℕ) (receipt : ℤ) → option_map (λ sheet. sheet.number) (next_sheet (corrected class number nav sheets) asked receipt) ≡ option_map (λ sheet. sheet.number) (next_sheet sheets asked receipt)
+pub corrected_stays : (class number nav : ℕ) (sheets : List Sheet) (asked : List ℕ) (receipt : ℤ) → option_map (λ sheet. sheet.number) (next_sheet (sheets_with_nav class number nav sheets) asked receipt) ≡ option_map (λ sheet. sheet.number) (next_sheet sheets asked receipt)
 corrected_stays class number nav sheets asked receipt =
     ap (option_map (λ sheet. sheet.number))
     (best-kept (corrected_sheet class number nav) (prices_order asked receipt) is_earlier

@@ -4,7 +4,7 @@ use Rattle.std.proofs.lemmas.Bool.Decides.{Decides-eqb}
 use Rattle.forward_price.specs.declared.price_sheet.Sheet.{Sheet}
 use Rattle.forward_price.specs.declared.price_sheet.Patch.{Patch}
 use Rattle.forward_price.specs.Sheets.{nav_on}
-use Rattle.forward_price.specs.PriceTables.{sheet_numbered, price_on, patched, patched_nav, trial_nav}
+use Rattle.forward_price.specs.PriceTables.{sheet_numbered, price_on, sheets_on_trial, patched_nav, trial_nav}
 use Rattle.forward_price.proofs.PatchFacts.{price-patched}
 
 tested : (b : Bool) → (b ≡ true) ⊎ (b ≡ false)
@@ -36,12 +36,12 @@ read_as_is : (patch : Patch) (class number : ℕ) (found : Option Sheet) → ((s
 read_as_is patch class number None apart = refl
 read_as_is patch class number (Some s) apart = same_nav patch s class (apart s refl)
 
-pub other_class : (patch : Patch) (sheets : List Sheet) (number class : ℕ) → (class ≡ patch.class → ⊥) → price_on (patched (Some patch) sheets) number class ≡ price_on sheets number class
+pub other_class : (patch : Patch) (sheets : List Sheet) (number class : ℕ) → (class ≡ patch.class → ⊥) → price_on (sheets_on_trial (Some patch) sheets) number class ≡ price_on sheets number class
 other_class patch sheets number class apart =
     price-patched (Some patch) sheets number class
     ∙ read_as_is patch class number (sheet_numbered sheets number) (λ s e. rw (differs class patch.class apart) (and_none (s.number == patch.sheet)))
 
-pub other_sheet : (patch : Patch) (sheets : List Sheet) (number class : ℕ) → (number ≡ patch.sheet → ⊥) → price_on (patched (Some patch) sheets) number class ≡ price_on sheets number class
+pub other_sheet : (patch : Patch) (sheets : List Sheet) (number class : ℕ) → (number ≡ patch.sheet → ⊥) → price_on (sheets_on_trial (Some patch) sheets) number class ≡ price_on sheets number class
 other_sheet patch sheets number class apart =
     price-patched (Some patch) sheets number class
     ∙ read_as_is patch class number (sheet_numbered sheets number) (λ s e. rw (differs s.number patch.sheet (λ same. apart (sym (numbered-is sheets number s e) ∙ same))) refl)

@@ -4,7 +4,7 @@ use Rattle.std.proofs.lemmas.List.{length-map, get_or-take}
 use Rattle.std.proofs.lemmas.Bool.{cases_lt}
 use Rattle.fund_calendar.proofs.LookUpLemmas.{find_at, find_none, eq_true, eq_false}
 use Rattle.forward_price.specs.declared.price_sheet.Sheet.{Sheet}
-use Rattle.forward_price.specs.PriceTables.{AreNumbered, sheet_numbered, corrected, corrected_sheet}
+use Rattle.forward_price.specs.PriceTables.{AreNumbered, sheet_numbered, sheets_with_nav, corrected_sheet}
 use Rattle.forward_price.proofs.PatchFacts.{number-kept}
 
 pub none_numbered : AreNumbered []
@@ -66,12 +66,12 @@ numbered_less sheets n are = record {
 }
 
 -- a corrected sheet stands in its place
-pub map_get : (class number nav : ℕ) (xs : List Sheet) (i : ℕ) (d : Sheet) → i < length xs → get_or (corrected class number nav xs) i d ≡ corrected_sheet class number nav (get_or xs i d)
+pub map_get : (class number nav : ℕ) (xs : List Sheet) (i : ℕ) (d : Sheet) → i < length xs → get_or (sheets_with_nav class number nav xs) i d ≡ corrected_sheet class number nav (get_or xs i d)
 map_get class number nav [] i d l = absurd (omega arith)
 map_get class number nav (x ∷ xs) zero d l = refl
 map_get class number nav (x ∷ xs) (suc i) d l = map_get class number nav xs i d (omega arith)
 
-pub numbered_corrected : (class number nav : ℕ) (sheets : List Sheet) → AreNumbered sheets → AreNumbered (corrected class number nav sheets)
+pub numbered_corrected : (class number nav : ℕ) (sheets : List Sheet) → AreNumbered sheets → AreNumbered (sheets_with_nav class number nav sheets)
 numbered_corrected class number nav sheets are = record {
   each = λ k d l.
       let short : k < length sheets = subst (λ n. k < n) (length-map sheets (corrected_sheet class number nav)) l in

@@ -15,7 +15,7 @@ use Rattle.forward_price.specs.declared.price_sheet.Opening.{Opening}
 use Rattle.forward_price.specs.declared.price_sheet.Sheet.{Sheet}
 use Rattle.forward_price.specs.Sheets.{lists_class}
 use Rattle.forward_price.specs.Choices.{IsBest}
-use Rattle.forward_price.specs.PriceTables.{Table, is_sheet_at, published, with_published, with_calendar, with_class, with_sheets, without_day_of, without_last, with_correction, but_last, closed_in, calendar_numbered, class_opened, corrected, corrected_sheet}
+use Rattle.forward_price.specs.PriceTables.{Table, is_sheet_at, sheet_published, with_published, with_calendar, with_class, with_sheets, without_day_of, without_last, with_correction, but_last, closed_in, calendar_numbered, class_opened, sheets_with_nav, corrected_sheet}
 use Rattle.forward_price.specs.Turns.{pricing_pair, pairs_of, pricing_pairs, is_offered_at, is_awaited, is_sooner, must_list}
 use Rattle.forward_price.specs.Orderly.{IsOrderly, IsInTurn, OpensAfter, AreOnPricingDays}
 use Rattle.forward_price.proofs.TurnFacts.{Tells, told, never, All-unmap, All-left, All-right, awaited_before, expected_best}
@@ -167,15 +167,15 @@ orderly_sheet t calendar moment prices o turn = record {
 }
   where
     p : Sheet
-    p = published t calendar moment prices
+    p = sheet_published t calendar moment prices
 
     is : IsBest (is_awaited t.classes t.sheets) is_sooner (pricing_pairs t.calendars) (moment, calendar)
     is = expected_best t (moment, calendar) turn.expected
 
-    itself : (pair : ℤ × ℕ) → pair.1 ≡ calendar → pair.0 ≤ℤ moment → is_awaited t.classes (t.sheets ++ published t calendar moment prices ∷ []) pair ≡ true → Tells pair (moment, calendar) false → ⊥
+    itself : (pair : ℤ × ℕ) → pair.1 ≡ calendar → pair.0 ≤ℤ moment → is_awaited t.classes (t.sheets ++ sheet_published t calendar moment prices ∷ []) pair ≡ true → Tells pair (moment, calendar) false → ⊥
     itself pair of upto now (inl later) = omega (arith, ints)
     itself pair of upto now (inr same) =
-        let q = published t calendar moment prices in
+        let q = sheet_published t calendar moment prices in
         let at : is_sheet_at pair.1 pair.0 q ≡ true = and_from (calendar == pair.1) (int_eq moment pair.0) ((Decides-eqb calendar pair.1).1 (sym of)) ((Decides-int_eq moment pair.0).1 (sym same.0)) in
         let there : list_any (is_sheet_at pair.1 pair.0) (t.sheets ++ q ∷ []) ≡ true = any_from (is_sheet_at pair.1 pair.0) (t.sheets ++ q ∷ []) q (Contains-push t.sheets q) at in
         let parts = and_parts (list_any (is_offered_at pair.1 pair.0) t.classes) (not (list_any (is_sheet_at pair.1 pair.0) (t.sheets ++ q ∷ []))) now in
@@ -235,7 +235,7 @@ orderly_correction t class number nav o = record {
   classes_differ = o.classes_differ;
   on_pricing_days = All-map (λ s. Contains (pricing_pairs t.calendars) (s.moment, s.calendar)) f t.sheets (λ k d l. rw (moment-kept class number nav (get_or t.sheets k d), calendar-kept class number nav (get_or t.sheets k d)) (o.on_pricing_days k d l));
   complete = All-map (λ s. (n : ℕ) → lists_class s.prices n ≡ must_list t.classes s.calendar s.moment n) f t.sheets (λ k d l n. rw (moment-kept class number nav (get_or t.sheets k d), calendar-kept class number nav (get_or t.sheets k d)) (lists-kept class number nav n (get_or t.sheets k d) ∙ o.complete k d l n));
-  none_passed = All-map (λ s. All (λ pair. pair.1 ≡ s.calendar → pair.0 ≤ℤ s.moment → is_awaited t.classes (corrected class number nav t.sheets) pair ≡ false) (pricing_pairs t.calendars)) f t.sheets (λ k d l i e m of upto. awaited-kept class number nav t.classes t.sheets (get_or (pricing_pairs t.calendars) i e) ∙ o.none_passed k d l i e m (of ∙ calendar-kept class number nav (get_or t.sheets k d)) (subst (λ z. (get_or (pricing_pairs t.calendars) i e).0 ≤ℤ z) (moment-kept class number nav (get_or t.sheets k d)) upto));
+  none_passed = All-map (λ s. All (λ pair. pair.1 ≡ s.calendar → pair.0 ≤ℤ s.moment → is_awaited t.classes (sheets_with_nav class number nav t.sheets) pair ≡ false) (pricing_pairs t.calendars)) f t.sheets (λ k d l i e m of upto. awaited-kept class number nav t.classes t.sheets (get_or (pricing_pairs t.calendars) i e) ∙ o.none_passed k d l i e m (of ∙ calendar-kept class number nav (get_or t.sheets k d)) (subst (λ z. (get_or (pricing_pairs t.calendars) i e).0 ≤ℤ z) (moment-kept class number nav (get_or t.sheets k d)) upto));
   rises = pairs_map (λ a b. a.calendar ≡ b.calendar → a.moment <ℤ b.moment) f t.sheets (λ i j d lt l same. rw (moment-kept class number nav (get_or t.sheets i d), moment-kept class number nav (get_or t.sheets j d)) (o.rises i j d lt l (sym (calendar-kept class number nav (get_or t.sheets i d)) ∙ same ∙ calendar-kept class number nav (get_or t.sheets j d))));
 }
   where

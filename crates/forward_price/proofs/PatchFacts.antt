@@ -11,8 +11,8 @@ use Rattle.std.proofs.lemmas.Bool.Decides.{Decides-eqb}
 use Rattle.forward_price.specs.declared.price_sheet.Sheet.{Sheet}
 use Rattle.forward_price.specs.declared.price_sheet.Patch.{Patch}
 use Rattle.forward_price.specs.Sheets.{nav_on, lists_class}
-use Rattle.forward_price.specs.Choices.{considered, best}
-use Rattle.forward_price.specs.PriceTables.{is_sheet_at, corrected_price, with_prices, corrected_sheet, corrected, patched, patched_nav, sheet_numbered, sheet_before, is_before, is_later, price_on, price_before}
+use Rattle.forward_price.specs.Choices.{best_so_far, best}
+use Rattle.forward_price.specs.PriceTables.{is_sheet_at, corrected_price, with_prices, corrected_sheet, sheets_with_nav, sheets_on_trial, patched_nav, sheet_numbered, sheet_before, is_before, is_later, price_on, price_before}
 
 tested : (b : Bool) → (b ≡ true) ⊎ (b ≡ false)
 tested true = inl refl
@@ -92,7 +92,7 @@ find-kept f p kept (x ∷ xs) =
     rw (kept x) (elim (p x) as (λ b. cond b (Some (f x)) (find p (map f xs)) ≡ option_map f (cond b (Some x) (find p xs))) [ true ↦ refl | false ↦ find-kept f p kept xs ])
 
 -- a choice by what stays
-considered-kept : {X : Type 0} (f : X → X) (p : X → Bool) (better : X → X → Bool) → ((x : X) → p (f x) ≡ p x) → ((x y : X) → better (f x) (f y) ≡ better x y) → (found : Option X) (x : X) → considered p better (option_map f found) (f x) ≡ option_map f (considered p better found x)
+considered-kept : {X : Type 0} (f : X → X) (p : X → Bool) (better : X → X → Bool) → ((x : X) → p (f x) ≡ p x) → ((x y : X) → better (f x) (f y) ≡ better x y) → (found : Option X) (x : X) → best_so_far p better (option_map f found) (f x) ≡ option_map f (best_so_far p better found x)
 considered-kept f p better kept ranks None x =
     rw (kept x) (elim (p x) as (λ b. cond b (Some (f x)) None ≡ option_map f (cond b (Some x) None)) [ true ↦ refl | false ↦ refl ])
 considered-kept f p better kept ranks (Some t) x =
@@ -101,15 +101,15 @@ considered-kept f p better kept ranks (Some t) x =
       | false ↦ refl
     ])
 
-fold-kept : {X : Type 0} (f : X → X) (p : X → Bool) (better : X → X → Bool) → ((x : X) → p (f x) ≡ p x) → ((x y : X) → better (f x) (f y) ≡ better x y) → (xs : List X) (found : Option X) → fold (considered p better) (option_map f found) (map f xs) ≡ option_map f (fold (considered p better) found xs)
+fold-kept : {X : Type 0} (f : X → X) (p : X → Bool) (better : X → X → Bool) → ((x : X) → p (f x) ≡ p x) → ((x y : X) → better (f x) (f y) ≡ better x y) → (xs : List X) (found : Option X) → fold (best_so_far p better) (option_map f found) (map f xs) ≡ option_map f (fold (best_so_far p better) found xs)
 fold-kept f p better kept ranks [] found = refl
 fold-kept f p better kept ranks (x ∷ xs) found =
-    ap (λ o. fold (considered p better) o (map f xs)) (considered-kept f p better kept ranks found x) ∙ fold-kept f p better kept ranks xs (considered p better found x)
+    ap (λ o. fold (best_so_far p better) o (map f xs)) (considered-kept f p better kept ranks found x) ∙ fold-kept f p better kept ranks xs (best_so_far p better found x)
 
 pub best-kept : {X : Type 0} (f : X → X) (p : X → Bool) (better : X → X → Bool) → ((x : X) → p (f x) ≡ p x) → ((x y : X) → better (f x) (f y) ≡ better x y) → (xs : List X) → best p better (map f xs) ≡ option_map f (best p better xs)
 best-kept f p better kept ranks xs = fold-kept f p better kept ranks xs None
 
-pub numbered-corrected : (class number nav asked : ℕ) (sheets : List Sheet) → sheet_numbered (corrected class number nav sheets) asked ≡ option_map (corrected_sheet class number nav) (sheet_numbered sheets asked)
+pub numbered-corrected : (class number nav asked : ℕ) (sheets : List Sheet) → sheet_numbered (sheets_with_nav class number nav sheets) asked ≡ option_map (corrected_sheet class number nav) (sheet_numbered sheets asked)
 numbered-corrected class number nav asked sheets =
     find-kept (corrected_sheet class number nav) (λ s. s.number == asked) (λ s. ap (λ n. n == asked) (number-kept class number nav s)) sheets
 
@@ -123,7 +123,7 @@ later-kept class number nav s t =
     ap (λ m. int_lt (corrected_sheet class number nav t).moment m) (moment-kept class number nav s)
     ∙ ap (λ m. int_lt m s.moment) (moment-kept class number nav t)
 
-pub before-corrected : (class number nav asked : ℕ) (moment : ℤ) (sheets : List Sheet) → sheet_before (corrected class number nav sheets) asked moment ≡ option_map (corrected_sheet class number nav) (sheet_before sheets asked moment)
+pub before-corrected : (class number nav asked : ℕ) (moment : ℤ) (sheets : List Sheet) → sheet_before (sheets_with_nav class number nav sheets) asked moment ≡ option_map (corrected_sheet class number nav) (sheet_before sheets asked moment)
 before-corrected class number nav asked moment sheets =
     best-kept (corrected_sheet class number nav) (is_before asked moment) is_later (before-kept class number nav asked moment) (later-kept class number nav) sheets
 
@@ -140,13 +140,13 @@ read_plain class (Some s) = itself (nav_on s.prices class)
     itself None = refl
     itself (Some n) = refl
 
-pub price-patched : (patch : Option Patch) (sheets : List Sheet) (number class : ℕ) → price_on (patched patch sheets) number class ≡ option_and_then (λ s. patched_nav patch s class) (sheet_numbered sheets number)
+pub price-patched : (patch : Option Patch) (sheets : List Sheet) (number class : ℕ) → price_on (sheets_on_trial patch sheets) number class ≡ option_and_then (λ s. patched_nav patch s class) (sheet_numbered sheets number)
 price-patched None sheets number class = read_plain class (sheet_numbered sheets number)
 price-patched (Some patch) sheets number class =
     ap (option_and_then (λ s. nav_on s.prices class)) (numbered-corrected patch.class patch.sheet patch.nav number sheets)
     ∙ read_patched patch class (sheet_numbered sheets number)
 
-pub before-patched : (patch : Option Patch) (sheets : List Sheet) (class : ℕ) (moment : ℤ) → price_before (patched patch sheets) class moment ≡ option_and_then (λ s. patched_nav patch s class) (sheet_before sheets class moment)
+pub before-patched : (patch : Option Patch) (sheets : List Sheet) (class : ℕ) (moment : ℤ) → price_before (sheets_on_trial patch sheets) class moment ≡ option_and_then (λ s. patched_nav patch s class) (sheet_before sheets class moment)
 before-patched None sheets class moment = read_plain class (sheet_before sheets class moment)
 before-patched (Some patch) sheets class moment =
     ap (option_and_then (λ s. nav_on s.prices class)) (before-corrected patch.class patch.sheet patch.nav class moment sheets)
@@ -157,17 +157,17 @@ at-kept class number nav calendar moment s =
     ap (λ c. (c == calendar) && int_eq (corrected_sheet class number nav s).moment moment) (calendar-kept class number nav s)
     ∙ ap (λ m. (s.calendar == calendar) && int_eq m moment) (moment-kept class number nav s)
 
-published-kept : (class number nav calendar : ℕ) (moment : ℤ) (sheets : List Sheet) → list_any (is_sheet_at calendar moment) (corrected class number nav sheets) ≡ list_any (is_sheet_at calendar moment) sheets
+published-kept : (class number nav calendar : ℕ) (moment : ℤ) (sheets : List Sheet) → list_any (is_sheet_at calendar moment) (sheets_with_nav class number nav sheets) ≡ list_any (is_sheet_at calendar moment) sheets
 published-kept class number nav calendar moment [] = refl
 published-kept class number nav calendar moment (s ∷ ss) =
-    ap (λ b. b || list_any (is_sheet_at calendar moment) (corrected class number nav ss)) (at-kept class number nav calendar moment s)
+    ap (λ b. b || list_any (is_sheet_at calendar moment) (sheets_with_nav class number nav ss)) (at-kept class number nav calendar moment s)
     ∙ ap (λ b. is_sheet_at calendar moment s || b) (published-kept class number nav calendar moment ss)
 
-pub awaited-kept : (class number nav : ℕ) (classes : List Opening) (sheets : List Sheet) (pair : ℤ × ℕ) → is_awaited classes (corrected class number nav sheets) pair ≡ is_awaited classes sheets pair
+pub awaited-kept : (class number nav : ℕ) (classes : List Opening) (sheets : List Sheet) (pair : ℤ × ℕ) → is_awaited classes (sheets_with_nav class number nav sheets) pair ≡ is_awaited classes sheets pair
 awaited-kept class number nav classes sheets pair =
     ap (λ b. list_any (is_offered_at pair.1 pair.0) classes && not b) (published-kept class number nav pair.1 pair.0 sheets)
 
-pub none_awaited-kept : (class number nav : ℕ) (calendars : List Listing) (classes : List Opening) (sheets : List Sheet) (passed : ℤ) → NoneAwaitedTo calendars classes sheets passed → NoneAwaitedTo calendars classes (corrected class number nav sheets) passed
+pub none_awaited-kept : (class number nav : ℕ) (calendars : List Listing) (classes : List Opening) (sheets : List Sheet) (passed : ℤ) → NoneAwaitedTo calendars classes sheets passed → NoneAwaitedTo calendars classes (sheets_with_nav class number nav sheets) passed
 none_awaited-kept class number nav calendars classes sheets passed none = record {
-  later = All-weaker (λ pair. is_awaited classes sheets pair ≡ true → passed <ℤ pair.0) (λ pair. is_awaited classes (corrected class number nav sheets) pair ≡ true → passed <ℤ pair.0) (λ pair h now. h (sym (awaited-kept class number nav classes sheets pair) ∙ now)) (pricing_pairs calendars) none.later;
+  later = All-weaker (λ pair. is_awaited classes sheets pair ≡ true → passed <ℤ pair.0) (λ pair. is_awaited classes (sheets_with_nav class number nav sheets) pair ≡ true → passed <ℤ pair.0) (λ pair h now. h (sym (awaited-kept class number nav classes sheets pair) ∙ now)) (pricing_pairs calendars) none.later;
 }

@@ -6,7 +6,7 @@ use Rattle.std.proofs.lemmas.List.{length-append}
 use Rattle.std.proofs.lemmas.Option.{slice_get_read}
 use Rattle.std.proofs.Math.Seq.{get_or-append_seam}
 use Rattle.forward_price.specs.declared.price_sheet.Sheet.{Sheet}
-use Rattle.forward_price.specs.PriceTables.{Book, Table, last_length, published, with_published, without_last, with_sheets, published_book, withdrawn_book}
+use Rattle.forward_price.specs.PriceTables.{Book, Table, last_length, sheet_published, with_published, without_last, with_sheets, published_book, withdrawn_book}
 use Rattle.forward_price.proofs.KeptFacts.{published_back}
 
 -- the last sheet is the one that was appended
@@ -31,7 +31,7 @@ book_of t spare list = record { table = t; spare = spare; list = list }
 -- a sheet that is published and withdrawn leaves the book as it was, where its list takes the room
 pub room_back : (book : Book) (calendar : ℕ) (moment : ℤ) (prices : List (ℕ × ℕ)) → book.list ≡ length prices → withdrawn_book (published_book book calendar moment prices) ≡ book
 room_back book calendar moment prices takes =
-    let sheet : Sheet = published book.table calendar moment prices in
+    let sheet : Sheet = sheet_published book.table calendar moment prices in
     let table : without_last (with_published book.table calendar moment prices) ≡ book.table = ap (with_sheets book.table) (published_back book.table.sheets sheet) in
     let list : max 0 (last_length (book.table.sheets ++ sheet ∷ [])) ≡ book.list = omega (arith, last_length-append book.table.sheets sheet, takes) in
     ap (λ t. book_of t book.spare (max 0 (last_length (book.table.sheets ++ sheet ∷ [])))) table

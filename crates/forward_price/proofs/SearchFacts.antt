@@ -9,7 +9,7 @@ use Rattle.std.proofs.lemmas.List.Elements.{All-weaker, All-contains, Contains-a
 use Rattle.std.proofs.lemmas.List.Quantifiers.{all_pairs_push}
 use Rattle.forward_price.specs.declared.price_sheet.Sheet.{Sheet}
 use Rattle.forward_price.specs.Sheets.{lists_class, lists_all}
-use Rattle.forward_price.specs.PriceTables.{NeverFall, prices_order, is_earlier, next_sheet, is_before, is_later, sheet_before, corrected, corrected_sheet}
+use Rattle.forward_price.specs.PriceTables.{NeverFall, prices_order, is_earlier, next_sheet, is_before, is_later, sheet_before, sheets_with_nav, corrected_sheet}
 use Rattle.forward_price.proofs.ChoiceFacts.{best_of_none, best_behind, best_in_front, best_stays, best_wins, some_best}
 use Rattle.forward_price.proofs.TurnFacts.{earlier-order, later-order}
 use Rattle.forward_price.proofs.NumberFacts.{within, long, map_get}
@@ -34,7 +34,7 @@ falls_dropped n sheets never i j d lt l =
 pub falls_pushed : (sheets : List Sheet) (s : Sheet) → NeverFall sheets → All (λ o. o.moment ≤ℤ s.moment) sheets → NeverFall (sheets ++ s ∷ [])
 falls_pushed sheets s never upto = all_pairs_push (λ a b. a.moment ≤ℤ b.moment) sheets s never (λ k d l. upto k d l)
 
-pub falls_corrected : (class number nav : ℕ) (sheets : List Sheet) → NeverFall sheets → NeverFall (corrected class number nav sheets)
+pub falls_corrected : (class number nav : ℕ) (sheets : List Sheet) → NeverFall sheets → NeverFall (sheets_with_nav class number nav sheets)
 falls_corrected class number nav sheets never i j d lt l =
     let back : j < length sheets = subst (λ n. j < n) (length-map sheets (corrected_sheet class number nav)) l in
     let front : i < length sheets = omega arith in

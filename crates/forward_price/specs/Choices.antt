@@ -14,18 +14,18 @@ IsChoice passes better xs None = All (λ x. passes x ≡ false) xs
 IsChoice passes better xs (Some x) = IsBest passes better xs x
 
 -- the better of the one found so far and one more
-abbrev pub preferred : {X : Type 0} → (X → X → Bool) → Option X → X → Option X
-preferred better None x = Some x
-preferred better (Some found) x = if better x found then Some x else Some found
+abbrev pub found_or_better : {X : Type 0} → (X → X → Bool) → Option X → X → Option X
+found_or_better better None x = Some x
+found_or_better better (Some found) x = if better x found then Some x else Some found
 
-abbrev pub considered : {X : Type 0} → (X → Bool) → (X → X → Bool) → Option X → X → Option X
-considered passes better found x = if passes x then preferred better found x else found
+abbrev pub best_so_far : {X : Type 0} → (X → Bool) → (X → X → Bool) → Option X → X → Option X
+best_so_far passes better found x = if passes x then found_or_better better found x else found
 
 -- the best one, and the first of those that tie
 abbrev pub best : {X : Type 0} → (X → Bool) → (X → X → Bool) → List X → Option X
-best passes better xs = fold (considered passes better) None xs
+best passes better xs = fold (best_so_far passes better) None xs
 
 -- the better of two, where there are two
 abbrev pub better_of : {X : Type 0} → (X → X → Bool) → Option X → Option X → Option X
 better_of better found None = found
-better_of better found (Some x) = preferred better found x
+better_of better found (Some x) = found_or_better better found x

@@ -43,5 +43,5 @@ second_sheet = record {
 abbrev pub on_first : Table
 on_first = record { calendars = july 2 ∷ july 1 ∷ []; classes = openings; sheets = [] }
 
-abbrev pub priced : List Sheet
-priced = first_sheet ∷ record { number = 2; calendar = 2; moment = pos 1719864000; day = 19905; prices = (24, 500) ∷ [] } ∷ second_sheet ∷ []
+abbrev pub sheets_of_july : List Sheet
+sheets_of_july = first_sheet ∷ record { number = 2; calendar = 2; moment = pos 1719864000; day = 19905; prices = (24, 500) ∷ [] } ∷ second_sheet ∷ []

@@ -123,13 +123,13 @@ corrected_sheet class number nav sheet =
     else sheet
 
 -- the sheets with another net asset value of one class on the sheet of one number
-abbrev pub corrected : ℕ → ℕ → ℕ → List Sheet → List Sheet
-corrected class number nav sheets = map (corrected_sheet class number nav) sheets
+abbrev pub sheets_with_nav : ℕ → ℕ → ℕ → List Sheet → List Sheet
+sheets_with_nav class number nav sheets = map (corrected_sheet class number nav) sheets
 
 -- the sheets under a correction on trial
-abbrev pub patched : Option Patch → List Sheet → List Sheet
-patched None sheets = sheets
-patched (Some patch) sheets = corrected patch.class patch.sheet patch.nav sheets
+abbrev pub sheets_on_trial : Option Patch → List Sheet → List Sheet
+sheets_on_trial None sheets = sheets
+sheets_on_trial (Some patch) sheets = sheets_with_nav patch.class patch.sheet patch.nav sheets
 
 -- the net asset value of a class on one sheet under a correction on trial, which is read for its class and sheet alone
 abbrev pub trial_nav : Option Patch → Sheet → ℕ → ℕ → ℕ
@@ -154,8 +154,8 @@ date_priced calendars calendar moment =
     unwrap_or (option_and_then (λ c. date_at c moment) (calendar_numbered calendars calendar)) 0
 
 -- a sheet as it is published, numbered in order of publication
-abbrev pub published : Table → ℕ → ℤ → List (ℕ × ℕ) → Sheet
-published t calendar moment prices = record {
+abbrev pub sheet_published : Table → ℕ → ℤ → List (ℕ × ℕ) → Sheet
+sheet_published t calendar moment prices = record {
   number = length t.sheets + 1;
   calendar = calendar;
   moment = moment;
@@ -204,7 +204,7 @@ without_day_of t calendar day = with_calendars t (map (closed_in calendar day) t
 -- the table with one more sheet
 abbrev pub with_published : Table → ℕ → ℤ → List (ℕ × ℕ) → Table
 with_published t calendar moment prices = with_sheets t
-    (t.sheets ++ published t calendar moment prices ∷ [])
+    (t.sheets ++ sheet_published t calendar moment prices ∷ [])
 
 -- the table without its last sheet
 abbrev pub without_last : Table → Table
@@ -212,7 +212,7 @@ without_last t = with_sheets t (but_last t.sheets)
 
 -- the table with another net asset value of one class on one sheet
 abbrev pub with_correction : Table → ℕ → ℕ → ℕ → Table
-with_correction t class number nav = with_sheets t (corrected class number nav t.sheets)
+with_correction t class number nav = with_sheets t (sheets_with_nav class number nav t.sheets)
 
 -- nothing is known, published or reserved
 abbrev pub empty_book : Book

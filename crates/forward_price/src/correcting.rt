@@ -1,6 +1,6 @@
 //! Changes of a sheet and of a calendar in their place.
 ghost use Rattle.std.specs.Prelude.{◌≡◌, map};
-ghost use Rattle.forward_price.specs.PriceTables.{corrected, corrected_sheet, closed_in, is_priced, is_priced_day};
+ghost use Rattle.forward_price.specs.PriceTables.{sheets_with_nav, corrected_sheet, closed_in, is_priced, is_priced_day};
 
 use crate::price_sheet::Sheet;
 use fund_calendar::{Calendar, Day};
@@ -16,7 +16,7 @@ fn correct_sheet(sheet: &mut Sheet, class: u32, number: u32, nav: Nav)
 
 /// Gives a class another net asset value on the sheet of one number.
 pub fn correct_sheets(sheets: &mut [Sheet], class: u32, number: u32, nav: Nav)
-    ensures { sheets.new ≡ corrected class number nav sheets.old }
+    ensures { sheets.new ≡ sheets_with_nav class number nav sheets.old }
 {
     for sheet in sheets.iter_mut() {
         correct_sheet(sheet, class, number, nav);

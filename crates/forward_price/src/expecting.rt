@@ -3,7 +3,7 @@ ghost use Rattle.std.specs.Prelude.{◌≡◌, ℤ, ◌<ℤ◌, true, All, IfSom
 ghost use Rattle.std.specs.Option.{option_copied};
 ghost use Rattle.std.specs.List.{list_any};
 ghost use Rattle.fund_calendar.specs.PricingDays.{IsMoment, date_at};
-ghost use Rattle.forward_price.specs.Choices.{IsChoice, preferred, considered, better_of};
+ghost use Rattle.forward_price.specs.Choices.{IsChoice, found_or_better, best_so_far, better_of};
 ghost use Rattle.forward_price.specs.PriceTables.{calendar_numbered, is_sheet_at, date_priced};
 ghost use Rattle.forward_price.specs.Turns.{asks_for, opened_by, is_due, calendar_in, due_on, due_in, is_offered_at, is_awaited, is_sooner, pairs_of, pricing_pairs, IsMomentOf, NamesMoment, NoneAwaitedTo, expected_in, must_list, is_wrong, class_numbers, price_numbers, wrong_class, is_pair, list_fault, fault_of};
 
@@ -145,7 +145,7 @@ fn is_sooner(pair: (i64, u32), other: (i64, u32)) -> bool
 
 // The sooner of the pair found so far and one more.
 fn sooner(found: Option<(i64, u32)>, pair: (i64, u32)) -> Option<(i64, u32)>
-    ensures { result ≡ preferred is_sooner found pair }
+    ensures { result ≡ found_or_better is_sooner found pair }
 {
     match found {
         None => Some(pair),
@@ -219,7 +219,7 @@ fn is_wrong(
 
 // The lesser of the number found so far and one more.
 fn lesser(found: Option<u32>, number: u32) -> Option<u32>
-    ensures { result ≡ preferred nat_lt found number }
+    ensures { result ≡ found_or_better nat_lt found number }
 {
     match found {
         None => Some(number),
@@ -240,7 +240,7 @@ fn least_missing(
     prices: &[(u32, Nav)],
 ) -> Option<u32>
     ensures { result ≡ fold
-        (considered (is_wrong classes.now calendar moment prices.now) nat_lt) None
+        (best_so_far (is_wrong classes.now calendar moment prices.now) nat_lt) None
         (class_numbers classes.now) }
 {
     let mut found = None;

@@ -4,7 +4,7 @@ ghost use Rattle.fund_calendar.specs.PricingDays.{Listing};
 ghost use Rattle.forward_price.specs.declared.price_sheet.Opening.{Opening};
 ghost use Rattle.forward_price.specs.declared.price_sheet.Sheet.{Sheet};
 ghost use Rattle.forward_price.specs.declared.price_sheet.Patch.{Patch};
-ghost use Rattle.forward_price.specs.PriceTables.{Table, Book, published_book, withdrawn_book, next_sheet, sheet_before, LastPrice, price_on, patched, with_calendar, with_class, with_published, without_last, with_correction, without_day_of, calendar_numbered, class_opened};
+ghost use Rattle.forward_price.specs.PriceTables.{Table, Book, published_book, withdrawn_book, next_sheet, sheet_before, LastPrice, price_on, sheets_on_trial, with_calendar, with_class, with_published, without_last, with_correction, without_day_of, calendar_numbered, class_opened};
 ghost use Rattle.forward_price.specs.Choices.{IsBest};
 ghost use Rattle.forward_price.specs.Turns.{due_of, IsRising, IsComplete, is_wrong, wrong_class, class_numbers, price_numbers};
 ghost use Rattle.forward_price.specs.Orderly.{IsOrderly, IsInTurn, OpensAfter, AreOnPricingDays};
@@ -65,13 +65,13 @@ pub fn complete_lists_have_no_wrong_class()
 /// A correction on trial is read for its class and sheet alone, and as it will stand once it is made.
 pub fn trial_is_read_alone()
     ensures made { (patch : Patch) (t : Table) (number class : ℕ)
-        → price_on (patched (Some patch) t.sheets) number class
+        → price_on (sheets_on_trial (Some patch) t.sheets) number class
         ≡ price_on (with_correction t patch.class patch.sheet patch.nav).sheets number class }
     ensures other_class { (patch : Patch) (sheets : List Sheet) (number class : ℕ)
-        → (class ≡ patch.class → ⊥) → price_on (patched (Some patch) sheets) number class
+        → (class ≡ patch.class → ⊥) → price_on (sheets_on_trial (Some patch) sheets) number class
         ≡ price_on sheets number class }
     ensures other_sheet { (patch : Patch) (sheets : List Sheet) (number class : ℕ)
-        → (number ≡ patch.sheet → ⊥) → price_on (patched (Some patch) sheets) number class
+        → (number ≡ patch.sheet → ⊥) → price_on (sheets_on_trial (Some patch) sheets) number class
         ≡ price_on sheets number class }
 {}
 

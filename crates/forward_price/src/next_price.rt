@@ -1,8 +1,8 @@
 //! The look-ups of prices over the published sheets.
 ghost use Rattle.std.specs.Prelude.{◌≡◌, true, ◌∷◌, ◌==◌, ◌&&◌, int_le, int_lt, slice_get, find, fold, option_map, option_and_then, map, All, ◌≤ℤ◌};
 ghost use Rattle.std.specs.Option.{option_copied};
-ghost use Rattle.forward_price.specs.Choices.{preferred};
-ghost use Rattle.forward_price.specs.PriceTables.{AreNumbered, NeverFall, prices_order, is_earlier, is_later, next_sheet, is_before, sheet_before, sheet_numbered, is_sheet_at, number_at, corrected_price, corrected_sheet, corrected, patched, price_on, price_before, with_prices, patched_nav};
+ghost use Rattle.forward_price.specs.Choices.{found_or_better};
+ghost use Rattle.forward_price.specs.PriceTables.{AreNumbered, NeverFall, prices_order, is_earlier, is_later, next_sheet, is_before, sheet_before, sheet_numbered, is_sheet_at, number_at, corrected_price, corrected_sheet, sheets_with_nav, sheets_on_trial, price_on, price_before, with_prices, patched_nav};
 ghost use Rattle.forward_price.specs.Sheets.{nav_on};
 
 use crate::in_order;
@@ -18,7 +18,7 @@ fn prices_order(asked: &[u32], receipt: i64, sheet: &Sheet) -> bool
 
 // The earlier of the sheet found so far and one more.
 fn earlier<'a>(found: Option<&'a Sheet>, sheet: &'a Sheet) -> Option<&'a Sheet>
-    ensures { option_copied result ≡ preferred is_earlier (option_copied found.entry) sheet.now }
+    ensures { option_copied result ≡ found_or_better is_earlier (option_copied found.entry) sheet.now }
 {
     match found {
         None => Some(sheet),
@@ -53,7 +53,7 @@ fn is_before(class: u32, moment: i64, sheet: &Sheet) -> bool
 
 // The later of the sheet found so far and one more.
 fn later<'a>(found: Option<&'a Sheet>, sheet: &'a Sheet) -> Option<&'a Sheet>
-    ensures { option_copied result ≡ preferred is_later (option_copied found.entry) sheet.now }
+    ensures { option_copied result ≡ found_or_better is_later (option_copied found.entry) sheet.now }
 {
     match found {
         None => Some(sheet),

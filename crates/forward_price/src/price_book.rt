@@ -3,7 +3,7 @@ ghost use Rattle.std.specs.Prelude.{◌≡◌, ◌↔◌, ℕ, ◌+◌, ◌<◌,
 ghost use Rattle.std.specs.Option.{option_copied};
 ghost use Rattle.std.specs.Bool.{OnFalse};
 ghost use Rattle.fund_calendar.specs.PricingDays.{Listing, IsMoment};
-ghost use Rattle.forward_price.specs.PriceTables.{AreNumbered, Table, Book, next_sheet, IsPricedBy, IsPending, sheet_numbered, number_at, price_on, price_before, patched, calendar_numbered, class_opened, with_calendar, with_class, with_published, with_correction, without_day_of, is_priced, empty_book, with_table, published_book, withdrawn_book};
+ghost use Rattle.forward_price.specs.PriceTables.{AreNumbered, Table, Book, next_sheet, IsPricedBy, IsPending, sheet_numbered, number_at, price_on, price_before, sheets_on_trial, calendar_numbered, class_opened, with_calendar, with_class, with_published, with_correction, without_day_of, is_priced, empty_book, with_table, published_book, withdrawn_book};
 ghost use Rattle.forward_price.specs.Turns.{due_of, IsDue, NoneDue, expected_of, wrong_class, publish_fault, IsExpected, NoneExpected, IsMomentOf, NamesMoment, IsRising};
 
 use crate::price_sheet::{NoSheet, Opening, Patch, PublishFault, Sheet};
@@ -175,7 +175,7 @@ impl PriceBook {
     /// The net asset value of a class on the sheet of this number, under a correction on trial; `None` exactly where
     /// that sheet doesn't list the class.
     pub fn price(&self, patch: Option<Patch>, sheet: u32, class: u32) -> Option<Nav>
-        ensures { result ≡ price_on (patched patch self.now.table.sheets) sheet class }
+        ensures { result ≡ price_on (sheets_on_trial patch self.now.table.sheets) sheet class }
     {
         next_price::price(patch, &self.sheets, sheet, class)
     }
@@ -183,7 +183,7 @@ impl PriceBook {
     /// The last net asset value of a class on a sheet with a smaller moment, under a correction on trial; `None` exactly
     /// where no such sheet lists the class.
     pub fn last_before(&self, patch: Option<Patch>, class: u32, moment: i64) -> Option<Nav>
-        ensures { result ≡ price_before (patched patch self.now.table.sheets) class moment }
+        ensures { result ≡ price_before (sheets_on_trial patch self.now.table.sheets) class moment }
     {
         next_price::last_before(patch, &self.sheets, self.in_order, class, moment)
     }

@@ -11,7 +11,7 @@ use Rattle.share_lots.specs.Values.{value_at}
 use Rattle.share_lots.specs.declared.lot.Piece.{Piece}
 use Rattle.share_lots.proofs.ValueLemmas.{value_at-rises}
 use Rattle.share_lots.proofs.LotLemmas.{sum_by-filter-le}
-use Rattle.fund_exchange.specs.Exchange.{mils_total, cost_total, mils_at, renewed, renewed_behind, renewed_all, has_mils, carried_pieces, without_mils}
+use Rattle.fund_exchange.specs.Exchange.{mils_total, cost_total, mils_at, with_new_mils, renewed_behind, renewed_all, has_mils, carried_pieces, without_mils}
 
 abbrev mils : Piece → ℕ
 mils piece = piece.mils
@@ -41,7 +41,7 @@ renewed-total from to before [] positive =
 renewed-total from to before (piece ∷ pieces) positive =
     let rest = renewed_behind from to (before + piece.mils) pieces in
     let onward : before + piece.mils + mils_total pieces ≡ before + (piece.mils + mils_total pieces) = omega arith in
-    ap (λ n. n + mils_at from to before) (sum_by-cons mils (renewed from to before piece) rest)
+    ap (λ n. n + mils_at from to before) (sum_by-cons mils (with_new_mils from to before piece) rest)
     ∙ end-to-end (mils_at from to before) (mils_at from to (before + piece.mils)) (mils_total rest)
     (mils_at from to (before + piece.mils + mils_total pieces))
     (mils_at-rises from to before (before + piece.mils) positive (omega arith))
@@ -61,7 +61,7 @@ pub cost-renewed : (from to before : ℕ) (pieces : List Piece)
     → cost_total (renewed_behind from to before pieces) ≡ cost_total pieces
 cost-renewed from to before [] = refl
 cost-renewed from to before (x ∷ xs) =
-    sum_by-cons cost (renewed from to before x) (renewed_behind from to (before + x.mils) xs)
+    sum_by-cons cost (with_new_mils from to before x) (renewed_behind from to (before + x.mils) xs)
     ∙ ap (λ n. x.cost + n) (cost-renewed from to (before + x.mils) xs) ∙ sym (sum_by-cons cost x xs)
 
 nothing-more : (a b : ℕ) → b ≡ 0 → a ≡ a + b
@@ -97,13 +97,13 @@ All-has_mils (x ∷ xs) = elim (leb_tells 1 x.mils) [
 
 -- the new mils of the piece that stands behind others
 pub renewed-at : (from to n : ℕ) (before : List Piece) (piece : Piece) (behind : List Piece)
-    → slice_get (renewed_behind from to n (before ++ piece ∷ behind)) (length before) ≡ Some (renewed from to (n + mils_total before) piece)
+    → slice_get (renewed_behind from to n (before ++ piece ∷ behind)) (length before) ≡ Some (with_new_mils from to (n + mils_total before) piece)
 renewed-at from to n [] piece behind =
-    let same : n ≡ n + 0 = omega arith in ap (λ m. Some (renewed from to m piece)) same
+    let same : n ≡ n + 0 = omega arith in ap (λ m. Some (with_new_mils from to m piece)) same
 renewed-at from to n (x ∷ xs) piece behind =
     let same : n + x.mils + mils_total xs ≡ n + (x.mils + mils_total xs) = omega arith in
     renewed-at from to (n + x.mils) xs piece behind
-    ∙ ap (λ m. Some (renewed from to m piece)) (same ∙ ap (λ m. n + m) (sym (sum_by-cons mils x xs)))
+    ∙ ap (λ m. Some (with_new_mils from to m piece)) (same ∙ ap (λ m. n + m) (sym (sum_by-cons mils x xs)))
 
 -- each piece keeps its lot number, date, cost and free mark
 pub renewed-keeps : (from to before : ℕ) (pieces : List Piece)

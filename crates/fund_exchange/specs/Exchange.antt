@@ -20,15 +20,15 @@ mils_at from to mils = half (1000 * value_at from mils) to
 
 -- a piece with its new mils, where so many mils stand before it: what is bought by its end, less what is bought by its
 -- beginning
-abbrev pub renewed : ℕ → ℕ → ℕ → Piece → Piece
-renewed from to before piece =
+abbrev pub with_new_mils : ℕ → ℕ → ℕ → Piece → Piece
+with_new_mils from to before piece =
     record piece { mils = mils_at from to (before + piece.mils) - mils_at from to before }
 
 -- pieces with their new mils, where so many mils stand before them
 abbrev pub renewed_behind : ℕ → ℕ → ℕ → List Piece → List Piece
 renewed_behind from to before [] = []
 renewed_behind from to before (piece ∷ pieces) =
-    renewed from to before piece ∷ renewed_behind from to (before + piece.mils) pieces
+    with_new_mils from to before piece ∷ renewed_behind from to (before + piece.mils) pieces
 
 abbrev pub renewed_all : ℕ → ℕ → List Piece → List Piece
 renewed_all from to pieces = renewed_behind from to 0 pieces
@@ -41,8 +41,8 @@ abbrev pub carried_pieces : ℕ → ℕ → List Piece → List Piece
 carried_pieces from to pieces = filter has_mils (renewed_all from to pieces)
 
 -- what an exchange carries: the value of all pieces, those that have new mils, and the sums of these
-abbrev pub carried : ℕ → ℕ → List Piece → Carried
-carried from to pieces = record {
+abbrev pub transfer_of : ℕ → ℕ → List Piece → Carried
+transfer_of from to pieces = record {
   value = value_at from (mils_total pieces);
   mils = mils_total (carried_pieces from to pieces);
   cost = cost_total (carried_pieces from to pieces);

@@ -26,7 +26,7 @@ pub struct Carried {
 pub fn carry(alloc: Global, pieces: &[Piece], from: Nav, to: Nav) -> Result<Carried, NoMemory>
     requires mils_within { spec.mils_total pieces.now ≤ 1000000000000 }
     requires cost_within { spec.cost_total pieces.now ≤ 1000000000000000 }
-    ensures carried { IfOk result (λ carried. carried ≡ spec.carried from to pieces.now) }
+    ensures carried { IfOk result (λ carried. carried ≡ spec.transfer_of from to pieces.now) }
     ensures with_mils { IfOk result (λ carried. All (λ piece. 1 ≤ piece.mils) carried.pieces) }
     ensures mils_sum { IfOk result (λ carried. carried.mils ≡ spec.mils_total carried.pieces) }
     ensures cost_sum { IfOk result (λ carried. carried.cost ≡ spec.cost_total carried.pieces) }

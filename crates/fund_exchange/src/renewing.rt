@@ -42,7 +42,7 @@ fn push_renewed(
     requires { before + piece.now.mils ≤ 1000000000000 }
     ensures ok { OnOk result
         (carried.new
-        ≡ carried.old ++ filter spec.has_mils (spec.renewed from to before piece.now ∷ [])) }
+        ≡ carried.old ++ filter spec.has_mils (spec.with_new_mils from to before piece.now ∷ [])) }
     ensures err { OnErr result (carried.new ≡ carried.old) }
 {
     let mils = new_mils(from, to, before, mils_of(piece));

@@ -1,10 +1,10 @@
 //! Worked exchanges, as laws: the checker computes each.
 ghost use Rattle.std.specs.Prelude.{◌≡◌, [], ◌∷◌, true, false};
-ghost use Rattle.fund_exchange.specs.Exchange.{mils_at, carried};
+ghost use Rattle.fund_exchange.specs.Exchange.{mils_at, transfer_of};
 
 /// 100.000 shares of 2024-07-01 that cost $1,000.00 and go from 10.00 to 20.00 are 50.000 shares of the same date and cost.
 pub fn half_as_many_shares()
-    ensures { carried 1000 2000
+    ensures { transfer_of 1000 2000
         (record { lot = 1; day = 19905; mils = 100000; cost = 100000; free = false } ∷ [])
         ≡ record {
           value = 100000;
@@ -20,7 +20,7 @@ pub fn half_as_many_shares()
 pub fn a_piece_without_shares_makes_no_lot()
     ensures first { mils_at 1000 2000 1 ≡ 1 }
     ensures both { mils_at 1000 2000 2 ≡ 1 }
-    ensures carried { carried 1000 2000
+    ensures carried { transfer_of 1000 2000
         (record { lot = 3; day = 19950; mils = 1; cost = 1; free = true }
         ∷ record { lot = 1; day = 19905; mils = 1; cost = 7; free = false } ∷ [])
         ≡ record {
@@ -36,7 +36,7 @@ pub fn a_piece_without_shares_makes_no_lot()
 pub fn pieces_are_rounded_together()
     ensures alone { mils_at 1000 3000 5 ≡ 2 }
     ensures both { mils_at 1000 3000 10 ≡ 3 }
-    ensures carried { carried 1000 3000
+    ensures carried { transfer_of 1000 3000
         (record { lot = 2; day = 19950; mils = 5; cost = 5; free = true }
         ∷ record { lot = 1; day = 19905; mils = 5; cost = 6; free = false } ∷ [])
         ≡ record {

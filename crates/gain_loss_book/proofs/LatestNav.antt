@@ -6,7 +6,7 @@ use Rattle.std.specs.Option.{option_map_or}
 use Rattle.std.proofs.lemmas.Option.{get_or_from_slice_get, slice_get_within}
 use Rattle.forward_price.proofs.NumberFacts.{numbered_at}
 use Rattle.forward_price.proofs.PatchFacts.{lists-kept, numbered-corrected}
-use Rattle.forward_price.specs.PriceTables.{AreNumbered, corrected, corrected_sheet, patched, price_on, sheet_numbered}
+use Rattle.forward_price.specs.PriceTables.{AreNumbered, sheets_with_nav, corrected_sheet, sheets_on_trial, price_on, sheet_numbered}
 use Rattle.forward_price.specs.Sheets.{lists_class, nav_on}
 use Rattle.forward_price.specs.declared.price_sheet.Patch.{Patch}
 use Rattle.forward_price.specs.declared.price_sheet.Sheet.{Sheet}
@@ -60,20 +60,20 @@ last-kept f test kept (x ∷ xs) found =
 abbrev nav_found : ℕ → Option Sheet → ℕ
 nav_found class found = option_map_or (λ sheet. nav_of sheet class) found 0
 
-pub nav-by_number : (patch : Option Patch) (sheets : List Sheet) (class : ℕ) → AreNumbered sheets → (s : Sheet) → last_of (λ sheet. lists_class sheet.prices class) sheets ≡ Some s → latest_nav (patched patch sheets) class ≡ unwrap_or (price_on (patched patch sheets) s.number class) 0
+pub nav-by_number : (patch : Option Patch) (sheets : List Sheet) (class : ℕ) → AreNumbered sheets → (s : Sheet) → last_of (λ sheet. lists_class sheet.prices class) sheets ≡ Some s → latest_nav (sheets_on_trial patch sheets) class ≡ unwrap_or (price_on (sheets_on_trial patch sheets) s.number class) 0
 nav-by_number None sheets class numbered s found =
     ap (nav_found class) found
     ∙ sym (ap (λ (o : Option Sheet). unwrap_or (option_and_then (λ sheet. nav_on sheet.prices class) o) 0) (latest-found sheets class numbered s found))
 nav-by_number (Some patch) sheets class numbered s found =
     let edit = corrected_sheet patch.class patch.sheet patch.nav in
-    let latest : last_of (λ sheet. lists_class sheet.prices class) (corrected patch.class patch.sheet patch.nav sheets) ≡ Some (edit s) =
+    let latest : last_of (λ sheet. lists_class sheet.prices class) (sheets_with_nav patch.class patch.sheet patch.nav sheets) ≡ Some (edit s) =
     last-kept edit (λ (sheet : Sheet). lists_class sheet.prices class) (lists-kept patch.class patch.sheet patch.nav class) sheets None ∙ ap (option_map edit) found in
-    let numbered_so : sheet_numbered (corrected patch.class patch.sheet patch.nav sheets) s.number ≡ Some (edit s) =
+    let numbered_so : sheet_numbered (sheets_with_nav patch.class patch.sheet patch.nav sheets) s.number ≡ Some (edit s) =
     numbered-corrected patch.class patch.sheet patch.nav s.number sheets ∙ ap (option_map edit) (latest-found sheets class numbered s found) in
     ap (nav_found class) latest
     ∙ sym (ap (λ (o : Option Sheet). unwrap_or (option_and_then (λ sheet. nav_on sheet.prices class) o) 0) numbered_so)
 
-pub nav-on_none : (patch : Option Patch) (sheets : List Sheet) (class : ℕ) → last_of (λ sheet. lists_class sheet.prices class) sheets ≡ None → latest_nav (patched patch sheets) class ≡ 0
+pub nav-on_none : (patch : Option Patch) (sheets : List Sheet) (class : ℕ) → last_of (λ sheet. lists_class sheet.prices class) sheets ≡ None → latest_nav (sheets_on_trial patch sheets) class ≡ 0
 nav-on_none None sheets class found = ap (nav_found class) found
 nav-on_none (Some patch) sheets class found =
     let edit = corrected_sheet patch.class patch.sheet patch.nav in

@@ -10,7 +10,7 @@ use Rattle.register_machine.specs.corrections.Cash.{Movement, cents_paid_in, cen
 use Rattle.register_machine.specs.corrections.Payments.{loss_payment, loss_payments, payer}
 use Rattle.gain_loss_book.proofs.FlowFacts.{flow-same}
 use Rattle.gain_loss_book.specs.Flows.{fall, flow_by, net, no_flow, rise, with_flow}
-use Rattle.gain_loss_book.specs.Posted.{all_changes, cents_moved, change_flow, changes_flow, fall_in, most_cash, most_gains, most_posts, moved, movements_flow, payments_by, rise_in, size_of_cash, size_of_correction, size_of_gains}
+use Rattle.gain_loss_book.specs.Posted.{all_changes, cents_moved, change_flow, changes_flow, fall_in, most_cash, most_gains, most_posts, flow_of_movements, movements_flow, payments_by, rise_in, size_of_cash, size_of_correction, size_of_gains}
 use Rattle.gain_loss_book.specs.declared.flows.Flow.{Flow}
 use Rattle.gain_loss_book.specs.declared.posting.Correction.{Correction}
 
@@ -60,10 +60,10 @@ movements-behind a b base now next q was is =
     (omega (arith, sum_by-append (cents_received_in q) a b, flow-in _ _ was, flow-in _ _ is))
     (omega (arith, sum_by-append (cents_paid_in q) a b, flow-out _ _ was, flow-out _ _ is))
 
-moved-behind : (a b : List Movement) (base now next : Flow) → now ≡ with_flow base (moved a) → next ≡ with_flow now (moved b) → next ≡ with_flow base (moved (a ++ b))
+moved-behind : (a b : List Movement) (base now next : Flow) → now ≡ with_flow base (flow_of_movements a) → next ≡ with_flow now (flow_of_movements b) → next ≡ with_flow base (flow_of_movements (a ++ b))
 moved-behind a b base now next was is =
     let both = sum_by-append (λ (m : Movement). m.cents) a b in
-    flow-same next (with_flow base (moved (a ++ b)))
+    flow-same next (with_flow base (flow_of_movements (a ++ b)))
     (omega (arith, both, flow-in _ _ was, flow-in _ _ is))
     (omega (arith, both, flow-out _ _ was, flow-out _ _ is))
 
@@ -80,10 +80,10 @@ losses-step party gains i x there at base now next q was is =
     movements-behind (loss_payments (Some party) (take i gains)) (loss_by party x) base now next q was is
     ∙ ap (λ (m : List Movement). with_flow base (movements_flow m q)) (sym (losses-more party gains i x there ∙ ap (λ (y : ClassGain). loss_payments (Some party) (take i gains) ++ loss_by party y) (sym at)))
 
-pub moved-step : (party : Party) (gains : List ClassGain) (i : ℕ) (x : ClassGain) → i < length gains → x ≡ get_or gains i x → (base now next : Flow) → now ≡ with_flow base (moved (loss_payments (Some party) (take i gains))) → next ≡ with_flow now (moved (loss_payment party x.class x.cents)) → next ≡ with_flow base (moved (loss_payments (Some party) (take (i + 1) gains)))
+pub moved-step : (party : Party) (gains : List ClassGain) (i : ℕ) (x : ClassGain) → i < length gains → x ≡ get_or gains i x → (base now next : Flow) → now ≡ with_flow base (flow_of_movements (loss_payments (Some party) (take i gains))) → next ≡ with_flow now (flow_of_movements (loss_payment party x.class x.cents)) → next ≡ with_flow base (flow_of_movements (loss_payments (Some party) (take (i + 1) gains)))
 moved-step party gains i x there at base now next was is =
     moved-behind (loss_payments (Some party) (take i gains)) (loss_by party x) base now next was is
-    ∙ ap (λ (m : List Movement). with_flow base (moved m)) (sym (losses-more party gains i x there ∙ ap (λ (y : ClassGain). loss_payments (Some party) (take i gains) ++ loss_by party y) (sym at)))
+    ∙ ap (λ (m : List Movement). with_flow base (flow_of_movements m)) (sym (losses-more party gains i x there ∙ ap (λ (y : ClassGain). loss_payments (Some party) (take i gains) ++ loss_by party y) (sym at)))
 
 -- the cents that losses move
 moved-sum : (party : Party) (gains : List ClassGain) → cents_moved (loss_payments (Some party) gains) ≡ sum_by (λ gain. cents_moved (loss_by party gain)) gains
@@ -119,11 +119,11 @@ pub falls-within : (rows : List CashChange) → (all_changes rows).outflow ≤ s
 falls-within rows = sum_by-le-sum_by (λ (x : CashChange). fall x.cents) (λ (x : CashChange). rise x.cents + fall x.cents) rows (λ x. omega arith)
 
 -- what a book has posted stays within its limits, of what came in and of what went out
-pub in-within : (rows : List CashChange) (correction : Option Correction) (base now next : Flow) (posts : ℕ) → base.inflow ≤ posts * (most_cash + most_gains) → now ≡ with_flow base (all_changes rows) → next ≡ with_flow now (moved (payments_by correction)) → size_of_cash rows ≤ most_cash → size_of_correction correction ≤ most_gains → next.inflow ≤ (posts + 1) * (most_cash + most_gains)
+pub in-within : (rows : List CashChange) (correction : Option Correction) (base now next : Flow) (posts : ℕ) → base.inflow ≤ posts * (most_cash + most_gains) → now ≡ with_flow base (all_changes rows) → next ≡ with_flow now (flow_of_movements (payments_by correction)) → size_of_cash rows ≤ most_cash → size_of_correction correction ≤ most_gains → next.inflow ≤ (posts + 1) * (most_cash + most_gains)
 in-within rows correction base now next posts before was is cash gains =
     omega (arith, before, flow-in _ _ was, flow-in _ _ is, rises-within rows, paid-within correction, cash, gains)
 
-pub out-within : (rows : List CashChange) (correction : Option Correction) (base now next : Flow) (posts : ℕ) → base.outflow ≤ posts * (most_cash + most_gains) → now ≡ with_flow base (all_changes rows) → next ≡ with_flow now (moved (payments_by correction)) → size_of_cash rows ≤ most_cash → size_of_correction correction ≤ most_gains → next.outflow ≤ (posts + 1) * (most_cash + most_gains)
+pub out-within : (rows : List CashChange) (correction : Option Correction) (base now next : Flow) (posts : ℕ) → base.outflow ≤ posts * (most_cash + most_gains) → now ≡ with_flow base (all_changes rows) → next ≡ with_flow now (flow_of_movements (payments_by correction)) → size_of_cash rows ≤ most_cash → size_of_correction correction ≤ most_gains → next.outflow ≤ (posts + 1) * (most_cash + most_gains)
 out-within rows correction base now next posts before was is cash gains =
     omega (arith, before, flow-out _ _ was, flow-out _ _ is, falls-within rows, paid-within correction, cash, gains)
 

@@ -2,7 +2,7 @@
 use Rattle.std.proofs.Common.{arith, pos, ℕ, ℤ, ◌-ℤ◌, ◌≡◌, ◌≤◌}
 use Rattle.std.proofs.lemmas.Int.{ints}
 use Rattle.gain_loss_book.proofs.PostedFacts.{flow-in, flow-out}
-use Rattle.gain_loss_book.specs.Flows.{net, no_flow, turned, with_flow}
+use Rattle.gain_loss_book.specs.Flows.{net, no_flow, reverse_flow, with_flow}
 use Rattle.gain_loss_book.specs.Tallies.{IsWithin}
 use Rattle.gain_loss_book.specs.declared.flows.Flow.{Flow}
 use Rattle.gain_loss_book.specs.declared.tally.Tally.{Tally}
@@ -21,7 +21,7 @@ net-brought base now flow none is =
     omega (arith, ints, flow-in _ _ none, flow-out _ _ none, flow-in _ _ is, flow-out _ _ is)
 
 -- and what was taken back behind it
-pub net-between : (base now next after before : Flow) → base ≡ no_flow → now ≡ with_flow base after → next ≡ with_flow now (turned before) → net next ≡ net after -ℤ net before
+pub net-between : (base now next after before : Flow) → base ≡ no_flow → now ≡ with_flow base after → next ≡ with_flow now (reverse_flow before) → net next ≡ net after -ℤ net before
 net-between base now next after before none is was =
     omega (arith, ints, flow-in _ _ none, flow-out _ _ none, flow-in _ _ is, flow-out _ _ is, flow-in _ _ was, flow-out _ _ was)
 

@@ -11,8 +11,8 @@ abbrev pub with_flow : Flow → Flow → Flow
 with_flow a b = record { inflow = a.inflow + b.inflow; outflow = a.outflow + b.outflow }
 
 -- a flow that is taken back
-abbrev pub turned : Flow → Flow
-turned flow = record { inflow = flow.outflow; outflow = flow.inflow }
+abbrev pub reverse_flow : Flow → Flow
+reverse_flow flow = record { inflow = flow.outflow; outflow = flow.inflow }
 
 -- what came in less what went out
 abbrev pub net : Flow → ℤ

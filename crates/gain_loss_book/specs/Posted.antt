@@ -114,8 +114,8 @@ cash_posted changes correction party = cash_change changes party +ℤ balance (p
 abbrev pub cents_moved : List Movement → ℕ
 cents_moved movements = sum_by (λ movement. movement.cents) movements
 
-abbrev pub moved : List Movement → Flow
-moved movements = record { inflow = cents_moved movements; outflow = cents_moved movements }
+abbrev pub flow_of_movements : List Movement → Flow
+flow_of_movements movements = record { inflow = cents_moved movements; outflow = cents_moved movements }
 
 -- no party's cash can pass what so many posts bring at most
 pub record KeepsWithin (accounts : Accounts) (posts : ℕ) : Type 0 where

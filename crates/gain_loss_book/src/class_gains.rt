@@ -4,7 +4,7 @@ ghost use Rattle.std.specs.BTreeMap.{keys};
 ghost use Rattle.std.specs.Ordering.{nat_cmp};
 ghost use Rattle.std.specs.List.Sorted.{IsStrictlyIncreasing, IsStrictlySortedBy};
 ghost use Rattle.agent_events.specs.declared.order.Party.{Party as AnyParty};
-ghost use Rattle.forward_price.specs.PriceTables.{patched};
+ghost use Rattle.forward_price.specs.PriceTables.{sheets_on_trial};
 ghost use Rattle.register_machine.specs.corrections.Gains.{gain_by};
 ghost use Rattle.gain_loss_book.specs.Flows.{fall, rise};
 ghost use Rattle.gain_loss_book.specs.ClassFlows.{flows_of, with_cash, with_mils};
@@ -37,7 +37,7 @@ pub fn gains(
     requires numbered { are_numbered changes.now ≡ true }
     ensures { IfOk result (λ gains. (classes : List ℕ) → IsStrictlyIncreasing classes
         → HasChanged classes changes.now
-        → gains ≡ gains_in changes.now (patched patch prices.now.table.sheets) classes) }
+        → gains ≡ gains_in changes.now (sheets_on_trial patch prices.now.table.sheets) classes) }
 {
     let classes = gathered(alloc, changes)?;
     let patch = &patch;
@@ -133,7 +133,7 @@ fn gains_of_classes(
     requires numbered { (q : ℕ) → changes_class (flows_of classes.now q) ≡ true → 1 ≤ q }
     ensures rising { IsStrictlySortedBy nat_cmp (keys classes.now) }
     ensures gains { IfOk result (λ gains. gains
-        ≡ filter_map (λ q. gain_of_flows q (flows_of classes.now q) (patched patch.now prices.now.table.sheets)) (keys classes.now)) }
+        ≡ filter_map (λ q. gain_of_flows q (flows_of classes.now q) (sheets_on_trial patch.now prices.now.table.sheets)) (keys classes.now)) }
 {
     let mut gains = ClassGains::new(alloc);
     for class in classes.keys() {
@@ -154,7 +154,7 @@ fn gain_of_class(
 ) -> Option<ClassGain>
     requires within { KeepsChange flows }
     requires numbered { changes_class flows ≡ true → 1 ≤ class }
-    ensures { result ≡ gain_of_flows class flows (patched patch.now prices.now.table.sheets) }
+    ensures { result ≡ gain_of_flows class flows (sheets_on_trial patch.now prices.now.table.sheets) }
 {
     let cash = flows.cash.net();
     let mils = flows.mils.net();

@@ -1,7 +1,7 @@
 //! The latest net asset value of a class.
 ghost use Rattle.std.specs.Prelude.{◌≡◌, ◌≤◌};
 ghost use Rattle.std.specs.Option.{option_copied};
-ghost use Rattle.forward_price.specs.PriceTables.{patched};
+ghost use Rattle.forward_price.specs.PriceTables.{sheets_on_trial};
 ghost use Rattle.forward_price.specs.Sheets.{lists_class};
 ghost use Rattle.register_machine.specs.corrections.Gains.{latest_nav};
 ghost use Rattle.register_machine.specs.journal.Choices.{last_of};
@@ -10,7 +10,7 @@ use forward_price::{Patch, PriceBook, Sheet, lists_class};
 
 /// The net asset value of a class on its latest sheet, under a correction on trial; 0 where it is on none.
 pub fn latest_nav(prices: &PriceBook, patch: Option<Patch>, class: u32) -> u64
-    ensures nav { result ≡ latest_nav (patched patch prices.now.table.sheets) class }
+    ensures nav { result ≡ latest_nav (sheets_on_trial patch prices.now.table.sheets) class }
     ensures within { result ≤ 10000000 }
 {
     let Some(sheet) = latest_sheet(prices.sheets(), class) else {

@@ -6,7 +6,7 @@ ghost use Rattle.register_machine.specs.corrections.Cash.{movement};
 ghost use Rattle.register_machine.specs.corrections.Payments.{payer, loss_payment, loss_payments};
 ghost use Rattle.gain_loss_book.specs.Flows.{fall, flow_by, rise, with_flow};
 ghost use Rattle.gain_loss_book.specs.PartyAccounts.{all_flows, flow_in, room_in};
-ghost use Rattle.gain_loss_book.specs.Posted.{all_changes, change_flow, changes_flow, cents_moved, moved, movements_flow, payments_by, rows_of_correction};
+ghost use Rattle.gain_loss_book.specs.Posted.{all_changes, change_flow, changes_flow, cents_moved, flow_of_movements, movements_flow, payments_by, rows_of_correction};
 
 use crate::flows::Flow;
 use crate::party_accounts::Accounts;
@@ -69,7 +69,7 @@ fn move_cash(accounts: &mut Accounts, giver: Party, taker: Party, cents: u128)
     ensures flows { (q : AnyParty) → flow_in accounts.new q
         ≡ with_flow (flow_in accounts.old q) (movements_flow (movement giver taker cents ∷ []) q) }
     ensures all { all_flows accounts.new
-        ≡ with_flow (all_flows accounts.old) (moved (movement giver taker cents ∷ [])) }
+        ≡ with_flow (all_flows accounts.old) (flow_of_movements (movement giver taker cents ∷ [])) }
     ensures room { room_in accounts.old ≤ room_in accounts.new + 2 }
 {
     accounts.add(
@@ -98,7 +98,7 @@ fn pay_loss(accounts: &mut Accounts, payer: Party, gain: &ClassGain)
     ensures flows { (q : AnyParty) → flow_in accounts.new q
         ≡ with_flow (flow_in accounts.old q) (movements_flow (loss_payment payer gain.now.class gain.now.cents) q) }
     ensures all { all_flows accounts.new
-        ≡ with_flow (all_flows accounts.old) (moved (loss_payment payer gain.now.class gain.now.cents)) }
+        ≡ with_flow (all_flows accounts.old) (flow_of_movements (loss_payment payer gain.now.class gain.now.cents)) }
     ensures room { room_in accounts.old ≤ room_in accounts.new + 2 }
 {
     if gain.cents < 0 {
@@ -117,7 +117,7 @@ fn pay_losses(accounts: &mut Accounts, payer: Party, gains: &[ClassGain])
     ensures flows { (q : AnyParty) → flow_in accounts.new q
         ≡ with_flow (flow_in accounts.old q) (movements_flow (loss_payments (Some payer) gains.now) q) }
     ensures all { all_flows accounts.new
-        ≡ with_flow (all_flows accounts.old) (moved (loss_payments (Some payer) gains.now)) }
+        ≡ with_flow (all_flows accounts.old) (flow_of_movements (loss_payments (Some payer) gains.now)) }
     ensures room { room_in accounts.old ≤ room_in accounts.new + 2 * length gains.now }
 {
     for gain in gains {
@@ -135,7 +135,7 @@ pub fn pay(accounts: &mut Accounts, correction: Option<&Correction>)
     ensures flows { (q : AnyParty) → flow_in accounts.new q
         ≡ with_flow (flow_in accounts.old q) (movements_flow (payments_by (option_copied correction.entry)) q) }
     ensures all { all_flows accounts.new
-        ≡ with_flow (all_flows accounts.old) (moved (payments_by (option_copied correction.entry))) }
+        ≡ with_flow (all_flows accounts.old) (flow_of_movements (payments_by (option_copied correction.entry))) }
     ensures room { room_in accounts.old
         ≤ room_in accounts.new + rows_of_correction (option_copied correction.entry) }
 {

@@ -4,7 +4,7 @@ ghost use Rattle.agent_events.specs.declared.order.Party.{Party as AnyParty};
 ghost use Rattle.register_machine.specs.corrections.Cash.{cash_of, movements_in, movements_of};
 ghost use Rattle.gain_loss_book.specs.Booked.{SumsToZero};
 ghost use Rattle.gain_loss_book.specs.ClassGains.{mils_change};
-ghost use Rattle.gain_loss_book.specs.Flows.{net, turned, with_flow};
+ghost use Rattle.gain_loss_book.specs.Flows.{net, reverse_flow, with_flow};
 ghost use Rattle.gain_loss_book.specs.Movements.{brought_in, mils_flow_of, movement_listed, taken_in, trades_mils};
 ghost use Rattle.gain_loss_book.specs.Posted.{cash_change, movements_flow};
 ghost use Rattle.gain_loss_book.specs.Tallies.{IsWithin, cash_tallied, mils_tallied};
@@ -75,9 +75,9 @@ impl Tally {
         requires within { IsWithin self.old (2 ^ 126) }
         requires few { length trades.now ≤ 2 ^ 60 }
         ensures cash { OnOk result ((q : AnyParty) → cash_tallied self.new q
-            ≡ with_flow (cash_tallied self.old q) (turned (movements_flow (movements_of trades.now) q))) }
+            ≡ with_flow (cash_tallied self.old q) (reverse_flow (movements_flow (movements_of trades.now) q))) }
         ensures mils { OnOk result ((q : ℕ) → mils_tallied self.new q
-            ≡ with_flow (mils_tallied self.old q) (turned (trades_mils trades.now q))) }
+            ≡ with_flow (mils_tallied self.old q) (reverse_flow (trades_mils trades.now q))) }
         ensures within { OnOk result ((most : ℕ) → IsWithin self.old most
             → IsWithin self.new (most + length trades.now * 2 ^ 65)) }
     {
@@ -110,9 +110,9 @@ fn bring_trade(tally: &mut Tally, trade: &Trade) -> Result<(), NoMemory>
 fn take_trade_back(tally: &mut Tally, trade: &Trade) -> Result<(), NoMemory>
     requires within { IsWithin tally.old (2 ^ 127) }
     ensures cash { OnOk result ((q : AnyParty) → cash_tallied tally.new q
-        ≡ with_flow (cash_tallied tally.old q) (turned (movements_flow (movements_in trade.now.outcome trade.now) q))) }
+        ≡ with_flow (cash_tallied tally.old q) (reverse_flow (movements_flow (movements_in trade.now.outcome trade.now) q))) }
     ensures mils { OnOk result ((q : ℕ) → mils_tallied tally.new q
-        ≡ with_flow (mils_tallied tally.old q) (turned (mils_flow_of trade.now q))) }
+        ≡ with_flow (mils_tallied tally.old q) (reverse_flow (mils_flow_of trade.now q))) }
     ensures within { OnOk result ((most : ℕ) → IsWithin tally.old most
         → IsWithin tally.new (most + 2 ^ 65)) }
 {
@@ -127,7 +127,7 @@ fn take_trade_back(tally: &mut Tally, trade: &Trade) -> Result<(), NoMemory>
 fn move_cash_back(tally: &mut Tally, movement: &Option<CashMovement>) -> Result<(), NoMemory>
     requires within { IsWithin tally.old (2 ^ 127 + 2 ^ 65) }
     ensures cash { OnOk result ((q : AnyParty) → cash_tallied tally.new q
-        ≡ with_flow (cash_tallied tally.old q) (turned (movements_flow (movement_listed movement.now) q))) }
+        ≡ with_flow (cash_tallied tally.old q) (reverse_flow (movements_flow (movement_listed movement.now) q))) }
     ensures mils { OnOk result ((q : ℕ) → mils_tallied tally.new q ≡ mils_tallied tally.old q) }
     ensures within { OnOk result ((most : ℕ) → IsWithin tally.old most
         → IsWithin tally.new (most + 2 ^ 64)) }

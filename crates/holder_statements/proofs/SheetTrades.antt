@@ -8,17 +8,17 @@ use Rattle.agent_events.specs.declared.trade.Outcome.{Outcome}
 use Rattle.agent_events.specs.declared.trade.Trade.{Trade}
 use Rattle.agent_events.specs.declared.trade.TradeKind.{TradeKind}
 use Rattle.agent_events.specs.declared.trade.Why.{Why}
-use Rattle.contingent_charge.specs.DeferredCharge.{charged}
+use Rattle.contingent_charge.specs.DeferredCharge.{charge_of_pieces}
 use Rattle.dividend_reinvest.specs.declared.payment.Payment.{Payment}
 use Rattle.dividend_reinvest.specs.declared.payment.Payment.TheVariants as pays
 use Rattle.forward_price.specs.declared.price_sheet.Sheet.{Sheet}
-use Rattle.fund_exchange.specs.Exchange.{carried}
-use Rattle.letter_of_intent.specs.Letters.{begun, noted, settlement}
+use Rattle.fund_exchange.specs.Exchange.{transfer_of}
+use Rattle.letter_of_intent.specs.Letters.{new_letter, note_of_purchase, settlement}
 use Rattle.letter_of_intent.specs.declared.letter.Letter.{Letter}
 use Rattle.money_units.specs.Rounding.{half}
 use Rattle.offering_price.specs.Purchase.{split_of}
 use Rattle.offering_price.specs.declared.purchase.Split.{Split}
-use Rattle.share_lots.specs.Lots.{Added, added, held_total}
+use Rattle.share_lots.specs.Lots.{Added, shares_added, held_total}
 use Rattle.share_lots.specs.Taking.{pieces}
 use Rattle.register_machine.specs.journal.Choices.{first_some, when}
 use Rattle.register_machine.specs.pricing.CorrectedBook.{Book, front_of, schedule_of}
@@ -82,13 +82,13 @@ with_lot sheet day position lot None gross split trade on =
     one_more sheet day (day_after_trade day (with_holding position lot.holding) trade) trade on refl
 with_lot sheet day position lot (Some letter) gross split trade on =
     let kept = position_after_note position lot letter gross split in
-    if_reached sheet day (day_after_trade day kept trade) kept (noted letter gross split.price split.mils).reached
+    if_reached sheet day (day_after_trade day kept trade) kept (note_of_purchase letter gross split.price split.mils).reached
     (one_more sheet day (day_after_trade day kept trade) trade on refl)
 
 at_split : (sheet : Sheet) (day : Day) (position : Position) (gross : ℕ) (split : Option Split) (trade : Trade) → IsOn sheet trade → Grows sheet day (day_at_split sheet day position gross split trade)
 at_split sheet day position gross None trade on = unless sheet (first_some (Some Why.TooSmall ∷ [])) day trade day on (stays sheet day)
 at_split sheet day position gross (Some split) trade on =
-    let lot = added position.holding sheet.day split.mils gross false in
+    let lot = shares_added position.holding sheet.day split.mils gross false in
     let filled = purchase_trade trade gross split in
     unless sheet (first_some (when (not (has_room position.holding split.mils gross)) Why.Ceiling ∷ [])) day trade
     (day_with_lot sheet day position lot position.letter gross split filled) on
@@ -105,7 +105,7 @@ sale_grows : (book : Book) (sheet : Sheet) (day : Day) (position : Position) (as
 sale_grows book sheet day position asked trade on =
     let nav = nav_of sheet position.class in
     one_more sheet day (day_after_sale book sheet day position asked trade)
-    (redemption_trade trade nav asked (charged (pieces asked position.holding.lots) nav sheet.day (schedule_of book position.class)))
+    (redemption_trade trade nav asked (charge_of_pieces (pieces asked position.holding.lots) nav sheet.day (schedule_of book position.class)))
     (record { moment = on.moment; day = on.day }) refl
 
 redemption_grows : (book : Book) (sheet : Sheet) (day : Day) (order : Order) (asked : ℕ) → Grows sheet day (day_after_redemption book sheet day order asked)
@@ -129,7 +129,7 @@ exchange_grows sheet day order to asked =
     let position = position_of day.register order.account (class_of order.body) in
     let target = position_of day.register order.account to in
     let nav = nav_of sheet position.class in
-    let moved = carried nav (nav_of sheet to) (pieces asked position.holding.lots) in
+    let moved = transfer_of nav (nav_of sheet to) (pieces asked position.holding.lots) in
     let trade = order_trade sheet order TradeKind.Exchange in
     let done = day_after_trade (with_position day (position_less position asked)) (position_with_pieces target moved.pieces) (exchange_trade trade nav asked moved) in
     unless sheet (first_some (exchange_reasons position target asked moved)) day trade done (order_on sheet order TradeKind.Exchange)
@@ -140,7 +140,7 @@ letter_grows book sheet day order amount =
     let position = position_of day.register order.account (class_of order.body) in
     let trade = order_trade sheet order TradeKind.Letter in
     let start = credit_of book sheet day.register order.account in
-    let done = day_after_trade day (record position { letter = Some (begun amount sheet.day start (front_of book position.class)) }) (record trade { cash = amount }) in
+    let done = day_after_trade day (record position { letter = Some (new_letter amount sheet.day start (front_of book position.class)) }) (record trade { cash = amount }) in
     unless sheet (first_some (when (is_some position.letter) Why.LetterOpen ∷ [])) day trade done (order_on sheet order TradeKind.Letter)
     (one_more sheet day done (record trade { cash = amount }) (record { moment = refl; day = refl }) refl)
 

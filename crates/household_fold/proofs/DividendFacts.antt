@@ -15,7 +15,7 @@ use Rattle.register_machine.specs.pricing.DividendRates.{Rates, rate_at}
 use Rattle.register_machine.specs.pricing.PublishedTable.{moment_of}
 use Rattle.register_machine.specs.replay.Positions.{Position, PositionKey, Register, key_of, position_of, with_holding}
 use Rattle.register_machine.specs.replay.Trades.{Day, day_after_trade, nav_of, plain_trade, with_trade}
-use Rattle.share_lots.specs.Lots.{Added, Holding, added}
+use Rattle.share_lots.specs.Lots.{Added, Holding, shares_added}
 use Rattle.share_lots.proofs.AddedLemmas.{next_kept}
 use Rattle.household_fold.specs.Facts.{Known, book_of_facts, sheet_at_hand}
 use Rattle.household_fold.specs.Numbers.{AreNumbersWithin}
@@ -35,14 +35,14 @@ same-pair f a b c d one two = ap (λ x. f x c) one ∙ ap (λ y. f b y) two
 -- a position with its new lot goes back, with its trade
 pub reinvested : (sheet : Sheet) (day before after : Day) (a c cash mils number : ℕ) (x : Position) (h : Holding) (trade : Trade)
     → before ≡ day_without a c day → x ≡ position_of day.register a c
-    → record { number = number; holding = h } ≡ added x.holding sheet.day mils cash true
+    → record { number = number; holding = h } ≡ shares_added x.holding sheet.day mils cash true
     → trade ≡ record (plain_trade sheet a c TradeKind.DividendShares) { price = nav_of sheet c; mils = mils; cash = cash }
     → after ≡ day_after_trade before (with_holding x h) trade
     → after ≡ day_after_payment sheet day (position_of day.register a c) (pays.Shares cash mils)
 reinvested sheet day before after a c cash mils number x h trade before_is x_is h_is trade_is after_is =
-    let held : h ≡ (added x.holding sheet.day mils cash true).holding = ap (λ (it : Added). it.holding) h_is in
+    let held : h ≡ (shares_added x.holding sheet.day mils cash true).holding = ap (λ (it : Added). it.holding) h_is in
     let p = position_of day.register a c in
-    let left = with_holding p (added p.holding sheet.day mils cash true).holding in
+    let left = with_holding p (shares_added p.holding sheet.day mils cash true).holding in
     after_is
     ∙ (rw (before_is, trade_is, held, x_is)
     (close-back day a c left (shares_at sheet cash mils a c) (own-account day.register a c) (own-class day.register a c)
@@ -61,7 +61,7 @@ payment-grows sheet day a c pays.Nothing = grows-same day.register
 payment-grows sheet day a c (pays.Cash cash) = grows-same day.register
 payment-grows sheet day a c (pays.Shares cash mils) =
     let p = position_of day.register a c in
-    let left = with_holding p (added p.holding sheet.day mils cash true).holding in
+    let left = with_holding p (shares_added p.holding sheet.day mils cash true).holding in
     let same : next_of day.register p.account p.class ≡ p.holding.next_lot = same-pair (next_of day.register) p.account a p.class c (own-account day.register a c) (own-class day.register a c) in
     grows-put left day.register (omega (arith, same, next_kept p.holding sheet.day mils cash true))
 

@@ -8,7 +8,7 @@ use Rattle.std.proofs.lemmas.List.Sums.{sum_by-cons}
 use Rattle.agent_events.specs.declared.order.Order.{Order}
 use Rattle.agent_events.specs.declared.trade.Trade.{Trade}
 use Rattle.agent_events.specs.declared.trade.TradeKind.{TradeKind}
-use Rattle.fund_exchange.specs.Exchange.{carried, cost_total as pieces_cost, mils_total as pieces_mils}
+use Rattle.fund_exchange.specs.Exchange.{transfer_of, cost_total as pieces_cost, mils_total as pieces_mils}
 use Rattle.fund_exchange.specs.declared.carrying.Carried.{Carried}
 use Rattle.household_positions.specs.Register.{day_without}
 use Rattle.household_positions.proofs.ListParts.{filter-within}
@@ -42,11 +42,11 @@ order-move known day order to asked move trade moved move_is trade_is moved_is =
     let sheet = sheet_at_hand known in
     let p = position_of day.register order.account (class_of order.body) in
     rw (moved_is, trade_is, move_is)
-    (ap (λ nav. day_unless_any (exchange_reasons p (target_of day.register m) asked (carried nav (nav_of sheet to) (pieces asked p.holding.lots))) day
+    (ap (λ nav. day_unless_any (exchange_reasons p (target_of day.register m) asked (transfer_of nav (nav_of sheet to) (pieces asked p.holding.lots))) day
     (order_trade sheet order TradeKind.Exchange)
     (day_after_trade (with_position day (position_less p asked))
-    (position_with_pieces (target_of day.register m) (carried nav (nav_of sheet to) (pieces asked p.holding.lots)).pieces)
-    (exchange_trade (order_trade sheet order TradeKind.Exchange) nav asked (carried nav (nav_of sheet to) (pieces asked p.holding.lots)))))
+    (position_with_pieces (target_of day.register m) (transfer_of nav (nav_of sheet to) (pieces asked p.holding.lots)).pieces)
+    (exchange_trade (order_trade sheet order TradeKind.Exchange) nav asked (transfer_of nav (nav_of sheet to) (pieces asked p.holding.lots)))))
     (ap (nav_of sheet) (sym (own-class day.register order.account (class_of order.body)))))
 
 other-class : (x y a c to : ℕ) → y ≡ c → ¬ (c ≡ to) → (x == a && y == to) ≡ false

@@ -7,7 +7,7 @@ use Rattle.agent_events.specs.declared.trade.Trade.{Trade}
 use Rattle.agent_events.specs.declared.trade.TradeKind.{TradeKind}
 use Rattle.forward_price.specs.Sheets.{lists_class}
 use Rattle.forward_price.specs.declared.price_sheet.Sheet.{Sheet}
-use Rattle.letter_of_intent.specs.Letters.{IsLetter, begun, has_expired, settlement}
+use Rattle.letter_of_intent.specs.Letters.{IsLetter, new_letter, has_expired, settlement}
 use Rattle.letter_of_intent.specs.declared.letter.Letter.{Letter}
 use Rattle.letter_of_intent.specs.declared.letter.Settlement.{Settlement}
 use Rattle.register_machine.specs.pricing.CorrectedBook.{Book, front_of}
@@ -65,7 +65,7 @@ reaching-is sheet day a c before q trade by_before by_position by_trade =
 abbrev pub with_letter : Letter → Position → Position
 with_letter letter position = record position { letter = Some letter }
 
-pub begun-is : (known : Known) (day : Day) (order : Order) (amount : ℕ) (letter : Letter) (before : Day) (q : Position) (trade : Trade) → before ≡ day_without order.account (class_of order.body) day → q ≡ with_letter letter (position_in day order) → letter ≡ begun amount (sheet_at_hand known).day (credit_of (book_of_facts known) (sheet_at_hand known) day.register order.account) (front_of (book_of_facts known) (class_of order.body)) → trade ≡ record (order_trade (sheet_at_hand known) order TradeKind.Letter) { cash = amount } → day_after_trade before q trade ≡ day_with_letter known day order amount
+pub begun-is : (known : Known) (day : Day) (order : Order) (amount : ℕ) (letter : Letter) (before : Day) (q : Position) (trade : Trade) → before ≡ day_without order.account (class_of order.body) day → q ≡ with_letter letter (position_in day order) → letter ≡ new_letter amount (sheet_at_hand known).day (credit_of (book_of_facts known) (sheet_at_hand known) day.register order.account) (front_of (book_of_facts known) (class_of order.body)) → trade ≡ record (order_trade (sheet_at_hand known) order TradeKind.Letter) { cash = amount } → day_after_trade before q trade ≡ day_with_letter known day order amount
 begun-is known day order amount letter before q trade by_before by_position by_letter by_trade =
     let a = order.account in
     let c = class_of order.body in
@@ -74,16 +74,16 @@ begun-is known day order amount letter before q trade by_before by_position by_l
     let made = record (order_trade (sheet_at_hand known) order TradeKind.Letter) { cash = amount } in
     closed-as day a c before q trade (with_letter letter position) made by_before by_position by_trade (own-account day.register a c) (own-class day.register a c)
     ∙ ap (λ l. day_after_trade day (with_letter l position) made)
-    (by_letter ∙ ap (λ x. begun amount (sheet_at_hand known).day start (front_of (book_of_facts known) x)) (sym (own-class day.register a c)))
+    (by_letter ∙ ap (λ x. new_letter amount (sheet_at_hand known).day start (front_of (book_of_facts known) x)) (sym (own-class day.register a c)))
 
-pub begun-within : (known : Known) (day : Day) (order : Order) (amount : ℕ) (letter : Letter) → AreLettersWithin day.register → letter ≡ begun amount (sheet_at_hand known).day (credit_of (book_of_facts known) (sheet_at_hand known) day.register order.account) (front_of (book_of_facts known) (class_of order.body)) → IsLetter letter → AreLettersWithin (day_with_letter known day order amount).register
+pub begun-within : (known : Known) (day : Day) (order : Order) (amount : ℕ) (letter : Letter) → AreLettersWithin day.register → letter ≡ new_letter amount (sheet_at_hand known).day (credit_of (book_of_facts known) (sheet_at_hand known) day.register order.account) (front_of (book_of_facts known) (class_of order.body)) → IsLetter letter → AreLettersWithin (day_with_letter known day order amount).register
 begun-within known day order amount letter all by_letter is =
     let sheet = sheet_at_hand known in
     let book = book_of_facts known in
     let start = credit_of book sheet day.register order.account in
     let position = position_in day order in
-    letters-put (with_letter (begun amount sheet.day start (front_of book position.class)) position) day.register all
-    (subst IsLetter (by_letter ∙ ap (λ x. begun amount sheet.day start (front_of book x)) (sym (own-class day.register order.account (class_of order.body)))) is)
+    letters-put (with_letter (new_letter amount sheet.day start (front_of book position.class)) position) day.register all
+    (subst IsLetter (by_letter ∙ ap (λ x. new_letter amount sheet.day start (front_of book x)) (sym (own-class day.register order.account (class_of order.body)))) is)
 
 -- a letter that ends by date
 abbrev pub paid_and_released : ℕ → Position → Position

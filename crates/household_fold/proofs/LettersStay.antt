@@ -5,7 +5,7 @@ use Rattle.agent_events.specs.declared.trade.Trade.{Trade}
 use Rattle.agent_events.specs.declared.trade.TradeKind.{TradeKind}
 use Rattle.agent_events.specs.declared.trade.Why.{Why}
 use Rattle.forward_price.specs.declared.price_sheet.Sheet.{Sheet}
-use Rattle.fund_exchange.specs.Exchange.{carried}
+use Rattle.fund_exchange.specs.Exchange.{transfer_of}
 use Rattle.household_fold.proofs.PutFacts.{letter-found, letters-put}
 use Rattle.household_fold.specs.Limits.{AreLettersWithin}
 use Rattle.money_units.specs.Rounding.{half}
@@ -48,7 +48,7 @@ exchange-letters sheet day order to asked all =
     let position = position_of day.register order.account (class_of order.body) in
     let target = position_of day.register order.account to in
     let nav = nav_of sheet position.class in
-    let moved = carried nav (nav_of sheet to) (pieces asked position.holding.lots) in
+    let moved = transfer_of nav (nav_of sheet to) (pieces asked position.holding.lots) in
     let trade = order_trade sheet order TradeKind.Exchange in
     unless-within (exchange_reasons position target asked moved) day trade
     (day_after_trade (with_position day (position_less position asked)) (position_with_pieces target moved.pieces) (exchange_trade trade nav asked moved)) all

@@ -6,7 +6,7 @@ use Rattle.agent_events.specs.declared.trade.Trade.{Trade}
 use Rattle.agent_events.specs.declared.trade.TradeKind.{TradeKind}
 use Rattle.agent_events.specs.declared.trade.Why.{Why}
 use Rattle.forward_price.specs.declared.price_sheet.Sheet.{Sheet}
-use Rattle.fund_exchange.specs.Exchange.{carried}
+use Rattle.fund_exchange.specs.Exchange.{transfer_of}
 use Rattle.household_fold.proofs.FoundFacts.{found-elsewhere}
 use Rattle.household_fold.proofs.LotNumbers.{Grows, grows-on, grows-put, grows-same, next-put, next_of}
 use Rattle.household_fold.proofs.PutFacts.{all-put}
@@ -15,7 +15,7 @@ use Rattle.household_fold.specs.Households.{AreOwned, IsOwnPlace, order_known, o
 use Rattle.household_positions.proofs.DayFacts.{own-account, own-class}
 use Rattle.household_positions.proofs.PlaceFacts.{put-register, same-place}
 use Rattle.household_positions.specs.Register.{IsRegister}
-use Rattle.letter_of_intent.specs.Letters.{begun, noted}
+use Rattle.letter_of_intent.specs.Letters.{new_letter, note_of_purchase}
 use Rattle.letter_of_intent.specs.declared.letter.Letter.{Letter}
 use Rattle.money_units.specs.Rounding.{half}
 use Rattle.offering_price.specs.Purchase.{split_of}
@@ -30,7 +30,7 @@ use Rattle.register_machine.specs.replay.Positions.{Position, Register, has_room
 use Rattle.register_machine.specs.replay.Purchase.{credit_of, day_after_purchase, day_at_split, day_if_reached, day_with_lot, position_after_note, purchase_rate, purchase_trade}
 use Rattle.register_machine.specs.replay.Redemption.{day_after_redemption, day_after_redemption_for, day_after_sale, loose_of, position_less, short_of}
 use Rattle.register_machine.specs.replay.Trades.{Day, day_after_trade, day_unless, day_unless_any, nav_of, order_trade, with_position}
-use Rattle.share_lots.specs.Lots.{Holding, added, added_to, lot_joined, new_lot, release_all}
+use Rattle.share_lots.specs.Lots.{Holding, shares_added, added_to, lot_joined, new_lot, release_all}
 use Rattle.share_lots.specs.Taking.{pieces}
 use Rattle.share_lots.specs.declared.lot.Piece.{Piece}
 use Rattle.std.proofs.Common.{Bool, List, None, Option, Some, [], ap, arith, false, fold, inl, inr, is_some, not, refl, subst, sym, true, ℕ, ◌*◌, ◌==◌, ◌∙◌, ◌∷◌, ◌≡◌, ◌≤◌}
@@ -63,7 +63,7 @@ put-found R IsPlace kept r a c p account class more place =
 
 -- ---- the numbers of lots
 
-pub added-next : (h : Holding) (day mils cost : ℕ) (free : Bool) → h.next_lot ≤ (added h day mils cost free).holding.next_lot
+pub added-next : (h : Holding) (day mils cost : ℕ) (free : Bool) → h.next_lot ≤ (shares_added h day mils cost free).holding.next_lot
 added-next h day mils cost free =
     elim (lot_joined h.lots free) as (λ o. h.next_lot ≤ (added_to h (new_lot h day mils cost free) o).holding.next_lot) [
       | None ↦ omega arith
@@ -96,7 +96,7 @@ letter-kept : (R : Register → Register → Type 0) (IsPlace : ℕ → ℕ → 
 letter-kept R IsPlace kept book sheet day order amount place =
     let position = position_of day.register order.account (class_of order.body) in
     let trade = order_trade sheet order TradeKind.Letter in
-    let with_letter = record position { letter = Some (begun amount sheet.day (credit_of book sheet day.register order.account) (front_of book position.class)) } in
+    let with_letter = record position { letter = Some (new_letter amount sheet.day (credit_of book sheet day.register order.account) (front_of book position.class)) } in
     unless-kept R IsPlace kept (when (is_some position.letter) Why.LetterOpen ∷ []) day trade
     (day_after_trade day with_letter (record trade { cash = amount }))
     (put-found R IsPlace kept day.register order.account (class_of order.body) with_letter refl refl (omega arith) place)
@@ -128,7 +128,7 @@ exchange-kept R IsPlace kept sheet day order to asked place target_place =
     let position = position_of day.register order.account (class_of order.body) in
     let target = position_of day.register order.account to in
     let nav = nav_of sheet position.class in
-    let moved = carried nav (nav_of sheet to) (pieces asked position.holding.lots) in
+    let moved = transfer_of nav (nav_of sheet to) (pieces asked position.holding.lots) in
     let trade = order_trade sheet order TradeKind.Exchange in
     unless-kept R IsPlace kept (exchange_reasons position target asked moved) day trade
     (day_after_trade (with_position day (position_less position asked)) (position_with_pieces target moved.pieces) (exchange_trade trade nav asked moved))
@@ -145,23 +145,23 @@ reached-kept R IsPlace kept sheet day trade k a c account class more place true 
     let low : next_of (put k r) k.account k.class ≤ k.holding.next_lot = omega (arith, next-put k r) in
     kept.next r (put k r) (put ended (put k r)) (put-found R IsPlace kept r a c k account class more place) (kept.over ended (put k r) own low)
 
-lot-kept : (R : Register → Register → Type 0) (IsPlace : ℕ → ℕ → Type 0) → IsKept R IsPlace → (sheet : Sheet) (day : Day) (a c gross : ℕ) (split : Split) (trade : Trade) → IsPlace a c → (letter : Option Letter) → R day.register (day_with_lot sheet day (position_of day.register a c) (added (position_of day.register a c).holding sheet.day split.mils gross false) letter gross split trade).register
+lot-kept : (R : Register → Register → Type 0) (IsPlace : ℕ → ℕ → Type 0) → IsKept R IsPlace → (sheet : Sheet) (day : Day) (a c gross : ℕ) (split : Split) (trade : Trade) → IsPlace a c → (letter : Option Letter) → R day.register (day_with_lot sheet day (position_of day.register a c) (shares_added (position_of day.register a c).holding sheet.day split.mils gross false) letter gross split trade).register
 lot-kept R IsPlace kept sheet day a c gross split trade place None =
     let position = position_of day.register a c in
-    put-found R IsPlace kept day.register a c (with_holding position (added position.holding sheet.day split.mils gross false).holding) refl refl
+    put-found R IsPlace kept day.register a c (with_holding position (shares_added position.holding sheet.day split.mils gross false).holding) refl refl
     (added-next position.holding sheet.day split.mils gross false) place
 lot-kept R IsPlace kept sheet day a c gross split trade place (Some letter) =
     let position = position_of day.register a c in
-    let lot = added position.holding sheet.day split.mils gross false in
+    let lot = shares_added position.holding sheet.day split.mils gross false in
     reached-kept R IsPlace kept sheet day trade (position_after_note position lot letter gross split) a c refl refl
-    (added-next position.holding sheet.day split.mils gross false) place (noted letter gross split.price split.mils).reached
+    (added-next position.holding sheet.day split.mils gross false) place (note_of_purchase letter gross split.price split.mils).reached
 
 split-kept : (R : Register → Register → Type 0) (IsPlace : ℕ → ℕ → Type 0) → IsKept R IsPlace → (sheet : Sheet) (day : Day) (a c gross : ℕ) (trade : Trade) → IsPlace a c → (split : Option Split) → R day.register (day_at_split sheet day (position_of day.register a c) gross split trade).register
 split-kept R IsPlace kept sheet day a c gross trade place None = kept.same day.register
 split-kept R IsPlace kept sheet day a c gross trade place (Some split) =
     let position = position_of day.register a c in
     unless-kept R IsPlace kept (when (not (has_room position.holding split.mils gross)) Why.Ceiling ∷ []) day trade
-    (day_with_lot sheet day position (added position.holding sheet.day split.mils gross false) position.letter gross split (purchase_trade trade gross split))
+    (day_with_lot sheet day position (shares_added position.holding sheet.day split.mils gross false) position.letter gross split (purchase_trade trade gross split))
     (lot-kept R IsPlace kept sheet day a c gross split (purchase_trade trade gross split) place position.letter)
 
 bought-kept : (R : Register → Register → Type 0) (IsPlace : ℕ → ℕ → Type 0) → IsKept R IsPlace → (book : Book) (sheet : Sheet) (day : Day) (order : Order) (gross : ℕ) → IsPlace order.account (class_of order.body) → R day.register (day_after_purchase book sheet day order gross).register

@@ -12,7 +12,7 @@ use Rattle.household_fold.specs.Limits.{AreLettersWithin, AreLotsWithin, IsLette
 use Rattle.household_fold.specs.Purchases.{day_by_split, day_with_purchase, lot_bought, position_in, purchase_known, rate_known, trade_of_purchase}
 use Rattle.household_positions.proofs.DayFacts.{close-back, own-account, own-class}
 use Rattle.household_positions.specs.Register.{day_without, without}
-use Rattle.letter_of_intent.specs.Letters.{IsLetter, after_purchase, noted}
+use Rattle.letter_of_intent.specs.Letters.{IsLetter, after_purchase, note_of_purchase}
 use Rattle.letter_of_intent.specs.declared.letter.Letter.{Letter}
 use Rattle.offering_price.specs.Accumulation.{bracket}
 use Rattle.offering_price.specs.Purchase.{split_of}
@@ -23,7 +23,7 @@ use Rattle.register_machine.specs.pricing.OrderClasses.{class_of}
 use Rattle.register_machine.specs.replay.Positions.{Position, has_room, is_fresh, position_of, put, with_holding}
 use Rattle.register_machine.specs.replay.Purchase.{amount_rated, credit_of, day_at_split, day_if_reached, day_with_lot, position_after_note}
 use Rattle.register_machine.specs.replay.Trades.{Day, day_after_trade, day_unless_any, nav_of, order_trade, with_trade}
-use Rattle.share_lots.specs.Lots.{Added, hold_in, new_lot, placed, ranks_before, release_all, release_lot}
+use Rattle.share_lots.specs.Lots.{Added, hold_in, new_lot, lots_with, ranks_before, release_all, release_lot}
 use Rattle.share_lots.specs.declared.lot.Lot.{Lot}
 use Rattle.std.proofs.Common.{Bool, List, None, Option, Some, [], ap, arith, false, filter, length, length-append, map, not, refl, sym, true, ℕ, ◌++◌, ◌+◌, ◌<◌, ◌==◌, ◌∙◌, ◌∷◌, ◌≡◌, ◌≤◌}
 use Rattle.letter_of_intent.proofs.LetterFacts.{stays-after}
@@ -31,9 +31,9 @@ use Rattle.std.proofs.lemmas.Bool.{leb-false, ne_eqb}
 use Rattle.std.proofs.lemmas.List.{length-map}
 
 -- a lot put in its place is there
-pub placed-some : (lot : Lot) (lots : List Lot) → (length (placed lot lots) == 0) ≡ false
+pub placed-some : (lot : Lot) (lots : List Lot) → (length (lots_with lot lots) == 0) ≡ false
 placed-some lot lots =
-    ne_eqb (length (placed lot lots)) 0 (λ e.
+    ne_eqb (length (lots_with lot lots)) 0 (λ e.
     (let low = filter (λ other. ranks_before other lot) lots in
     let high = filter (λ other. not (ranks_before other lot)) lots in
     let whole = length-append (low ++ lot ∷ []) high in
@@ -61,8 +61,8 @@ next-by : (sheet : Sheet) (day : Day) (position : Position) (lot : Added) (o : O
 next-by sheet day position lot None gross split trade some within = next-within (with_holding position lot.holding) day.register some within
 next-by sheet day position lot (Some letter) gross split trade some within =
     let kept = position_after_note position lot letter gross split in
-    let held : (length kept.holding.lots == 0) ≡ false = same-length lot.holding.lots (hold_in lot.number (noted letter gross split.price split.mils).hold) some in
-    elim (noted letter gross split.price split.mils).reached as (λ b. AreLotsWithin (day_if_reached b sheet kept (day_after_trade day kept trade)).register → lot.holding.next_lot ≤ 4294967295) [
+    let held : (length kept.holding.lots == 0) ≡ false = same-length lot.holding.lots (hold_in lot.number (note_of_purchase letter gross split.price split.mils).hold) some in
+    elim (note_of_purchase letter gross split.price split.mils).reached as (λ b. AreLotsWithin (day_if_reached b sheet kept (day_after_trade day kept trade)).register → lot.holding.next_lot ≤ 4294967295) [
       | true ↦ λ all. next-within (record kept { holding = release_all kept.holding; letter = None }) (put kept day.register) (same-length kept.holding.lots release_lot held) all
       | false ↦ λ all. next-within kept day.register held all
     ] within
@@ -105,7 +105,7 @@ abbrev pub kept_in : Known → Day → Order → Letter → ℕ → Split → Po
 kept_in known day order letter gross split =
     position_after_note (position_in day order) (lot_bought known day order gross split) letter gross split
 
-pub under-letter : (known : Known) (day : Day) (order : Order) (gross : ℕ) (split : Split) (letter : Letter) (b : Bool) → (position_in day order).letter ≡ Some letter → b ≡ (noted letter gross split.price split.mils).reached → day_if_reached b (sheet_at_hand known) (kept_in known day order letter gross split) (day_after_trade (day_without order.account (class_of order.body) day) (kept_in known day order letter gross split) (trade_of_purchase known order gross split)) ≡ day_with_purchase known day order gross split
+pub under-letter : (known : Known) (day : Day) (order : Order) (gross : ℕ) (split : Split) (letter : Letter) (b : Bool) → (position_in day order).letter ≡ Some letter → b ≡ (note_of_purchase letter gross split.price split.mils).reached → day_if_reached b (sheet_at_hand known) (kept_in known day order letter gross split) (day_after_trade (day_without order.account (class_of order.body) day) (kept_in known day order letter gross split) (trade_of_purchase known order gross split)) ≡ day_with_purchase known day order gross split
 under-letter known day order gross split letter b is reached =
     let position = position_in day order in
     let sheet = sheet_at_hand known in
@@ -124,7 +124,7 @@ kept-some known day order letter gross split =
     let position = position_in day order in
     let lot = lot_bought known day order gross split in
     lots-kept (kept_in known day order letter gross split)
-    (same-length lot.holding.lots (hold_in lot.number (noted letter gross split.price split.mils).hold)
+    (same-length lot.holding.lots (hold_in lot.number (note_of_purchase letter gross split.price split.mils).hold)
     (placed-some (new_lot position.holding (sheet_at_hand known).day split.mils gross false) position.holding.lots))
 
 pub position-kept : (known : Known) (day : Day) (order : Order) (gross : ℕ) (split : Split) (letter : Letter) (trade : Trade) → position_in (day_after_trade (day_without order.account (class_of order.body) day) (kept_in known day order letter gross split) trade) order ≡ kept_in known day order letter gross split
@@ -136,14 +136,14 @@ position-kept known day order gross split letter trade =
     ∙ position-put kept register (kept-some known day order letter gross split)
 
 -- the letters after the purchase
-stays : (letter : Letter) (gross price mils : ℕ) → IsLetter letter → (noted letter gross price mils).reached ≡ false → IsLetter (after_purchase letter gross price mils)
+stays : (letter : Letter) (gross price mils : ℕ) → IsLetter letter → (note_of_purchase letter gross price mils).reached ≡ false → IsLetter (after_purchase letter gross price mils)
 stays letter gross price mils is e = stays-after letter (record { gross = gross; price = price; mils = mils }) is (leb-false letter.amount (letter.bought + gross) e)
 
 within-by : (sheet : Sheet) (day : Day) (position : Position) (lot : Added) (o : Option Letter) (gross : ℕ) (split : Split) (trade : Trade) → AreLettersWithin day.register → IsLetterWithin position.letter → IsLetterWithin o → AreLettersWithin (day_with_lot sheet day position lot o gross split trade).register
 within-by sheet day position lot None gross split trade all own within = letters-put (with_holding position lot.holding) day.register all own
 within-by sheet day position lot (Some letter) gross split trade all own within =
     let kept = position_after_note position lot letter gross split in
-    elim (noted letter gross split.price split.mils).reached as (λ b. (noted letter gross split.price split.mils).reached ≡ b → AreLettersWithin (day_if_reached b sheet kept (day_after_trade day kept trade)).register) [
+    elim (note_of_purchase letter gross split.price split.mils).reached as (λ b. (note_of_purchase letter gross split.price split.mils).reached ≡ b → AreLettersWithin (day_if_reached b sheet kept (day_after_trade day kept trade)).register) [
       | true ↦ λ e. letters-put-over (record kept { holding = release_all kept.holding; letter = None }) kept day.register refl refl all tt
       | false ↦ λ e. letters-put kept day.register all (stays letter gross split.price split.mils within e)
     ] refl

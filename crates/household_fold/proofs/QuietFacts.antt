@@ -12,7 +12,7 @@ use Rattle.std.proofs.lemmas.Bool.{and_parts, cases_Bool, eq-eqb, eqb-true, true
 use Rattle.std.proofs.lemmas.List.Folds.{list_any_at}
 use Rattle.std.proofs.lemmas.List.Elements.{All-head, All-tail}
 use Rattle.agent_events.specs.declared.order.Order.{Order}
-use Rattle.dividend_reinvest.specs.Dividend.{cash_of, mils_of as mils_bought, paid, passes_ceiling, payment}
+use Rattle.dividend_reinvest.specs.Dividend.{cash_of, mils_of as mils_bought, payment_of_cash, passes_ceiling, payment}
 use Rattle.dividend_reinvest.specs.declared.payment.Payment.TheVariants as pays
 use Rattle.forward_price.specs.Sheets.{lists_class}
 use Rattle.household_fold.specs.Facts.{Known, book_of_facts, sheet_at_hand}
@@ -41,7 +41,7 @@ fold-still step d (e ∷ es) still =
     ap (λ x. fold step x es) (All-head (λ e. step d e ≡ d) e es still) ∙ fold-still step d es (All-tail (λ e. step d e ≡ d) e es still)
 
 -- no payment at one net asset value is none at any
-paid-some : (in_cash : Bool) (cash mils room cost_room : ℕ) → is_payment (paid in_cash cash mils room cost_room) ≡ true
+paid-some : (in_cash : Bool) (cash mils room cost_room : ℕ) → is_payment (payment_of_cash in_cash cash mils room cost_room) ≡ true
 paid-some in_cash cash mils room cost_room =
     elim (in_cash || mils == 0 || passes_ceiling mils cash room cost_room) as (λ b. is_payment (cond b (pays.Cash cash) (pays.Shares cash mils)) ≡ true) [
       | true ↦ refl
@@ -51,8 +51,8 @@ paid-some in_cash cash mils room cost_room =
 payment-none : (mils rate nav other : ℕ) (in_cash : Bool) (room cost_room : ℕ) → is_payment (payment mils rate nav in_cash room cost_room) ≡ false
     → payment mils rate other in_cash room cost_room ≡ pays.Nothing
 payment-none mils rate nav other in_cash room cost_room none =
-    elim (cash_of mils rate == 0) as (λ b. is_payment (cond b pays.Nothing (paid in_cash (cash_of mils rate) (mils_bought (cash_of mils rate) nav) room cost_room)) ≡ false
-    → cond b pays.Nothing (paid in_cash (cash_of mils rate) (mils_bought (cash_of mils rate) other) room cost_room) ≡ pays.Nothing) [
+    elim (cash_of mils rate == 0) as (λ b. is_payment (cond b pays.Nothing (payment_of_cash in_cash (cash_of mils rate) (mils_bought (cash_of mils rate) nav) room cost_room)) ≡ false
+    → cond b pays.Nothing (payment_of_cash in_cash (cash_of mils rate) (mils_bought (cash_of mils rate) other) room cost_room) ≡ pays.Nothing) [
       | true ↦ λ e. refl
       | false ↦ λ e. absurd (true≢false (sym (paid-some in_cash (cash_of mils rate) (mils_bought (cash_of mils rate) nav) room cost_room) ∙ e))
     ] none
@@ -64,7 +64,7 @@ none-on rate nav other position none =
 fresh-none : (rate nav account class : ℕ) → payment_on rate nav (fresh_position account class) ≡ pays.Nothing
 fresh-none rate nav account class =
     let none : cash_of 0 rate ≡ 0 = (let zeros : 0 * rate ≡ 0 = omega arith in ap (λ n. half n 10000000) zeros ∙ half-zero 10000000 (omega arith)) in
-    ap (λ cash. cond (cash == 0) pays.Nothing (paid false cash (mils_bought cash nav) most_mils most_cost)) none
+    ap (λ cash. cond (cash == 0) pays.Nothing (payment_of_cash false cash (mils_bought cash nav) most_mils most_cost)) none
 
 -- where no position is paid on, no dividend changes the day
 unpaid-found : (known : Known) (register : Register) (a class nav : ℕ) → All (λ p. is_paid known p ≡ false) register

@@ -5,14 +5,14 @@ use Rattle.fund_calendar.specs.PricingDays.{IsMoment}
 use Rattle.std.proofs.lemmas.Bool.{true≢false}
 use Rattle.fund_calendar.proofs.LookUpLemmas.{list_any-find}
 use Rattle.forward_price.proofs.PatchFacts.{numbered-corrected, lists-kept}
-use Rattle.forward_price.specs.PriceTables.{corrected_price, patched, price_on, sheet_numbered, with_prices}
+use Rattle.forward_price.specs.PriceTables.{corrected_price, sheets_on_trial, price_on, sheet_numbered, with_prices}
 use Rattle.forward_price.specs.Sheets.{lists_class, nav_on}
 use Rattle.forward_price.specs.declared.price_sheet.Patch.{Patch}
 use Rattle.forward_price.specs.declared.price_sheet.Sheet.{Sheet}
 use Rattle.household_fold.specs.Facts.{FactsFit, Known, no_sheet, on_trial, sheet_at_hand, sheets_known}
 
 -- the sheet of a number under a correction on trial
-pub numbered-patched : (patch : Option Patch) (sheets : List Sheet) (number : ℕ) → sheet_numbered (patched patch sheets) number ≡ option_map (on_trial patch) (sheet_numbered sheets number)
+pub numbered-patched : (patch : Option Patch) (sheets : List Sheet) (number : ℕ) → sheet_numbered (sheets_on_trial patch sheets) number ≡ option_map (on_trial patch) (sheet_numbered sheets number)
 numbered-patched None sheets number = itself (sheet_numbered sheets number)
   where
     itself : (o : Option Sheet) → o ≡ option_map (on_trial None) o

@@ -23,7 +23,7 @@ use Rattle.register_machine.specs.replay.Dividend.{day_after_class, day_after_di
 use Rattle.register_machine.specs.replay.Letter.{day_after_end_of, day_after_letter_end, day_after_letter_ends, has_letter_over, keys_of_letters_over}
 use Rattle.register_machine.specs.replay.Positions.{PositionKey, Register, key_of, position_of, with_holding}
 use Rattle.register_machine.specs.replay.Trades.{Day, nav_of}
-use Rattle.share_lots.specs.Lots.{added, held_total, release_all}
+use Rattle.share_lots.specs.Lots.{shares_added, held_total, release_all}
 use Rattle.share_lots.specs.Taking.{after_paying}
 
 -- ---- folds
@@ -40,7 +40,7 @@ paid-kept R IsPlace kept sheet day a c place pays.Nothing = kept.same day.regist
 paid-kept R IsPlace kept sheet day a c place (pays.Cash cash) = kept.same day.register
 paid-kept R IsPlace kept sheet day a c place (pays.Shares cash mils) =
     let position = position_of day.register a c in
-    put-found R IsPlace kept day.register a c (with_holding position (added position.holding sheet.day mils cash true).holding) refl refl
+    put-found R IsPlace kept day.register a c (with_holding position (shares_added position.holding sheet.day mils cash true).holding) refl refl
     (added-next position.holding sheet.day mils cash true) place
 
 keys-kept : (R : Register → Register → Type 0) (IsPlace : ℕ → ℕ → Type 0) → IsKept R IsPlace → (sheet : Sheet) (rate nav : ℕ) (day : Day) (keys : List PositionKey) → All (λ key. IsPlace key.account key.class) keys → R day.register (fold (day_after_dividend sheet rate nav) day keys).register
@@ -75,7 +75,7 @@ paid-letters sheet day a c all pays.Nothing = all
 paid-letters sheet day a c all (pays.Cash cash) = all
 paid-letters sheet day a c all (pays.Shares cash mils) =
     let position = position_of day.register a c in
-    letters-put (with_holding position (added position.holding sheet.day mils cash true).holding) day.register all (letter-found day.register a c all)
+    letters-put (with_holding position (shares_added position.holding sheet.day mils cash true).holding) day.register all (letter-found day.register a c all)
 
 class-letters : (rates : Rates) (sheet : Sheet) (day : Day) (price : ℕ × ℕ) → AreLettersWithin day.register → AreLettersWithin (day_after_class rates sheet day price).register
 class-letters rates sheet day price all =

@@ -19,8 +19,8 @@ abbrev pub class_known : Known → Day → ℕ × ℕ → Day
 class_known known day price = day_after_class (book_of_facts known).rates (sheet_at_hand known) day price
 
 -- and those of a class at a rate
-abbrev pub rate_known : Known → ℕ → ℕ × ℕ → Day → Day
-rate_known known rate price day = day_after_rate (sheet_at_hand known) rate price day
+abbrev pub class_known_at_rate : Known → ℕ → ℕ × ℕ → Day → Day
+class_known_at_rate known rate price day = day_after_rate (sheet_at_hand known) rate price day
 
 -- that of one position
 abbrev pub dividend_known : Known → ℕ → ℕ → Day → PositionKey → Day

@@ -1,7 +1,7 @@
 -- An exchange on the sheet at hand, in its parts.
 use Rattle.agent_events.specs.declared.order.Order.{Order}
 use Rattle.agent_events.specs.declared.trade.Trade.{Trade}
-use Rattle.fund_exchange.specs.Exchange.{carried}
+use Rattle.fund_exchange.specs.Exchange.{transfer_of}
 use Rattle.fund_exchange.specs.declared.carrying.Carried.{Carried}
 use Rattle.household_fold.specs.Facts.{Known, sheet_at_hand}
 use Rattle.household_fold.specs.declared.exchange.Move.{Move}
@@ -23,7 +23,7 @@ target_of register move = position_of register move.account move.to
 abbrev pub moved_known : Known → Register → Move → Carried
 moved_known known register move =
     let sheet = sheet_at_hand known in
-    carried (nav_of sheet move.class) (nav_of sheet move.to) (pieces move.asked (source_of register move).holding.lots)
+    transfer_of (nav_of sheet move.class) (nav_of sheet move.to) (pieces move.asked (source_of register move).holding.lots)
 
 -- the day on which the source has given its shares; within one class the target stands in its stead
 abbrev pub day_given : Day → Move → Day

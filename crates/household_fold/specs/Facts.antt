@@ -6,7 +6,7 @@ use Rattle.agent_events.specs.declared.request.DividendForm.{DividendForm}
 use Rattle.agent_events.specs.declared.rows.AccountRow.{AccountRow}
 use Rattle.agent_events.specs.declared.rows.RateRow.{RateRow}
 use Rattle.class_terms.specs.declared.form.TermsForm.{TermsForm}
-use Rattle.forward_price.specs.PriceTables.{Table, corrected_sheet, patched, sheet_numbered, with_sheets}
+use Rattle.forward_price.specs.PriceTables.{Table, corrected_sheet, sheets_on_trial, sheet_numbered, with_sheets}
 use Rattle.forward_price.specs.Sheets.{lists_class}
 use Rattle.forward_price.specs.declared.price_sheet.Patch.{Patch}
 use Rattle.forward_price.specs.declared.price_sheet.Sheet.{Sheet}
@@ -51,7 +51,7 @@ rates_in_book rows = record { declared = map rate_in_book rows; fixed = [] }
 
 -- the sheets with the correction on trial
 abbrev pub sheets_known : Known → List Sheet
-sheets_known known = patched known.patch known.table.sheets
+sheets_known known = sheets_on_trial known.patch known.table.sheets
 
 -- the corrected book that the facts give; a step reads none of its orders
 abbrev pub book_of_facts : Known → Book

@@ -3,7 +3,7 @@ use Rattle.agent_events.specs.declared.order.Order.{Order}
 use Rattle.agent_events.specs.declared.trade.Trade.{Trade}
 use Rattle.agent_events.specs.declared.trade.TradeKind.{TradeKind}
 use Rattle.household_fold.specs.Facts.{Known, book_of_facts, sheet_at_hand}
-use Rattle.letter_of_intent.specs.Letters.{begun}
+use Rattle.letter_of_intent.specs.Letters.{new_letter}
 use Rattle.offering_price.specs.declared.purchase.Split.{Split}
 use Rattle.register_machine.specs.pricing.CorrectedBook.{front_of}
 use Rattle.register_machine.specs.pricing.OrderClasses.{class_of}
@@ -11,7 +11,7 @@ use Rattle.register_machine.specs.replay.Letter.{day_after_letter}
 use Rattle.register_machine.specs.replay.Positions.{Position, position_of}
 use Rattle.register_machine.specs.replay.Purchase.{credit_of, day_after_purchase, day_at_split, day_with_lot, purchase_rate, purchase_trade}
 use Rattle.register_machine.specs.replay.Trades.{Day, day_after_trade, order_trade}
-use Rattle.share_lots.specs.Lots.{Added, added}
+use Rattle.share_lots.specs.Lots.{Added, shares_added}
 use Rattle.std.specs.Prelude.{Some, false, ℕ}
 
 -- the position of an order
@@ -25,7 +25,7 @@ rate_known known day order gross =
 -- the lot of the purchase, its trade, and the day with both
 abbrev pub lot_bought : Known → Day → Order → ℕ → Split → Added
 lot_bought known day order gross split =
-    added (position_in day order).holding (sheet_at_hand known).day split.mils gross false
+    shares_added (position_in day order).holding (sheet_at_hand known).day split.mils gross false
 
 abbrev pub trade_of_purchase : Known → Order → ℕ → Split → Trade
 trade_of_purchase known order gross split =
@@ -53,7 +53,7 @@ day_with_letter known day order amount =
     let sheet = sheet_at_hand known in
     let start = credit_of (book_of_facts known) sheet day.register order.account in
     day_after_trade day
-    (record position { letter = Some (begun amount sheet.day start (front_of (book_of_facts known) position.class)) })
+    (record position { letter = Some (new_letter amount sheet.day start (front_of (book_of_facts known) position.class)) })
     (record (order_trade sheet order TradeKind.Letter) { cash = amount })
 
 -- a letter that begins, unless one is open

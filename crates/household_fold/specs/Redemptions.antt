@@ -2,7 +2,7 @@
 use Rattle.std.specs.Prelude.{List, ℕ}
 use Rattle.agent_events.specs.declared.order.Order.{Order}
 use Rattle.agent_events.specs.declared.trade.Trade.{Trade}
-use Rattle.contingent_charge.specs.DeferredCharge.{charged}
+use Rattle.contingent_charge.specs.DeferredCharge.{charge_of_pieces}
 use Rattle.contingent_charge.specs.declared.charging.Charged.{Charged}
 use Rattle.household_fold.specs.Facts.{Known, book_of_facts, sheet_at_hand}
 use Rattle.register_machine.specs.pricing.CorrectedBook.{schedule_of}
@@ -35,7 +35,7 @@ sale_known known day trade asked =
 -- what pieces of a class bring, and what is charged
 abbrev pub charged_known : Known → ℕ → List Piece → Charged
 charged_known known class taken =
-    charged taken (nav_of (sheet_at_hand known) class) (sheet_at_hand known).day (schedule_of (book_of_facts known) class)
+    charge_of_pieces taken (nav_of (sheet_at_hand known) class) (sheet_at_hand known).day (schedule_of (book_of_facts known) class)
 
 abbrev pub charged_of : Known → Position → ℕ → Charged
 charged_of known position asked = charged_known known position.class (pieces asked position.holding.lots)

@@ -6,7 +6,7 @@ ghost use Rattle.agent_events.specs.declared.trade.TradeKind.TheVariants.{Divide
 ghost use Rattle.register_machine.specs.replay.Positions.{mils_of, position_of};
 ghost use Rattle.share_lots.specs.Lots.{cost_total, most_cost, most_mils};
 ghost use Rattle.dividend_reinvest.specs.declared.payment.Payment.TheVariants as pays;
-ghost use Rattle.household_fold.specs.Dividends.{KeepsLimits, class_known, dividend_known, dividends_known, payment_known, rate_known};
+ghost use Rattle.household_fold.specs.Dividends.{KeepsLimits, class_known, dividend_known, dividends_known, payment_known, class_known_at_rate};
 ghost use Rattle.household_fold.specs.Facts.{FactsFit, IsListed, sheet_at_hand};
 ghost use Rattle.household_fold.specs.Numbers.{AreNumbersWithin};
 
@@ -160,8 +160,8 @@ fn day_after_rate(
     requires facts { FactsFit facts.now }
     requires listed { IsListed facts.now class }
     requires rate { rate ≤ 1000000000 }
-    requires lots { AreNumbersWithin (rate_known facts.now rate (class, nav) day.old).register }
-    ensures { OnOk result (day.new ≡ rate_known facts.now rate (class, nav) day.old) }
+    requires lots { AreNumbersWithin (class_known_at_rate facts.now rate (class, nav) day.old).register }
+    ensures { OnOk result (day.new ≡ class_known_at_rate facts.now rate (class, nav) day.old) }
 {
     let keys = day.register().keys_of_class(alloc, class)?;
     for key in keys.as_slice() {

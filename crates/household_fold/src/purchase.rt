@@ -1,9 +1,9 @@
 //! A purchase: its rate, its split, its lot, and what an open letter makes of it.
 ghost use Rattle.std.specs.Prelude.{◌≡◌, ◌<◌, ◌≤◌, IfOk, OnOk, false, true};
 ghost use Rattle.register_machine.specs.replay.Positions.{has_room, with_holding};
-ghost use Rattle.letter_of_intent.specs.Letters.{IsLetter, noted};
+ghost use Rattle.letter_of_intent.specs.Letters.{IsLetter, note_of_purchase};
 ghost use Rattle.register_machine.specs.replay.Purchase.{amount_rated, day_after_reaching, day_if_reached, position_after_note};
-ghost use Rattle.share_lots.specs.Lots.{HasLoose, added};
+ghost use Rattle.share_lots.specs.Lots.{HasLoose, shares_added};
 ghost use Rattle.household_fold.specs.Facts.{FactsFit, IsListed, sheet_at_hand};
 ghost use Rattle.household_fold.specs.Limits.{AreFew, AreLettersWithin, AreLotsWithin};
 ghost use Rattle.household_fold.specs.Purchases.{day_by_split, day_with_purchase, lot_bought, position_in, purchase_known, rate_known, trade_of_purchase};
@@ -180,9 +180,9 @@ fn position_with_lot(
     requires next { position.holding.next_lot < 4294967295 }
     ensures lot { IfOk result (λ bought. bought.0
         ≡ with_holding position
-        (added position.holding day split.now.mils gross.now false).holding) }
+        (shares_added position.holding day split.now.mils gross.now false).holding) }
     ensures number { IfOk result (λ bought. bought.1
-        ≡ (added position.holding day split.now.mils gross.now false).number) }
+        ≡ (shares_added position.holding day split.now.mils gross.now false).number) }
     ensures loose { IfOk result (λ bought. HasLoose bought.0.holding.lots bought.1 split.now.mils) }
 {
     let mut position = position;
@@ -205,7 +205,7 @@ fn position_after_note(
     requires loose { HasLoose position.holding.lots number split.now.mils }
     ensures kept { result.0 ≡ position_after_note position
         (record { number = number; holding = position.holding }) letter gross.now split.now }
-    ensures reached { result.1 ≡ (noted letter gross.now split.now.price split.now.mils).reached }
+    ensures reached { result.1 ≡ (note_of_purchase letter gross.now split.now.price split.now.mils).reached }
 {
     let mut position = position;
     let mut letter = letter;

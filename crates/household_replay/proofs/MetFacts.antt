@@ -10,7 +10,7 @@ use Rattle.std.specs.Prelude.{Contains}
 use Rattle.agent_events.specs.declared.order.Order.{Order}
 use Rattle.household_positions.proofs.ListParts.{filter-all, filter-within}
 use Rattle.household_replay.proofs.NumberFacts.{all-front, all-rest, length-numbered, number-at, under-none}
-use Rattle.household_replay.specs.NumberedRows.{AreKept, AreRising, numbered, numbers_met}
+use Rattle.household_replay.specs.NumberedRows.{AreKept, AreRising, orders_numbered, numbers_met}
 use Rattle.household_replay.specs.Replays.{NumberedOrder, orders_under}
 use Rattle.share_lots.proofs.LotLemmas.{AllPairs-head, AllPairs-tail}
 
@@ -73,9 +73,9 @@ place-later numbers number place behind rise short is point = elim (cases_lt pla
   | inr le ↦ absurd (let above = point.1 place 0 le short in omega arith)
 ]
 
-pub met-step : (numbers : List ℕ) (orders : List Order) (number place behind : ℕ) → AreKept numbers orders → place < length numbers → number ≡ get_or numbers place 0 → IsPartitionPoint (λ n. n ≤ number) (λ n. number < n) numbers behind → behind ≤ length numbers → numbers_met (drop place (numbered numbers orders)) ≡ number ∷ numbers_met (drop behind (numbered numbers orders))
+pub met-step : (numbers : List ℕ) (orders : List Order) (number place behind : ℕ) → AreKept numbers orders → place < length numbers → number ≡ get_or numbers place 0 → IsPartitionPoint (λ n. n ≤ number) (λ n. number < n) numbers behind → behind ≤ length numbers → numbers_met (drop place (orders_numbered numbers orders)) ≡ number ∷ numbers_met (drop behind (orders_numbered numbers orders))
 met-step numbers orders number place behind kept short is point bound =
-    let rows = numbered numbers orders in
+    let rows = orders_numbered numbers orders in
     let same = kept.each in
     let lengths = length-numbered numbers orders same in
     let later = place-later numbers number place behind kept.rise short is point in

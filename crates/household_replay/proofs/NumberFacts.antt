@@ -9,7 +9,7 @@ use Rattle.std.proofs.lemmas.List.Elements.{All-head, All-tail, filter-append}
 use Rattle.std.proofs.lemmas.List.Quantifiers.{all_pairs_push}
 use Rattle.std.specs.List.Sorted.{IsPartitionPoint}
 use Rattle.agent_events.specs.declared.order.Order.{Order}
-use Rattle.household_replay.specs.NumberedRows.{AreKept, AreRising, AreUpTo, numbered}
+use Rattle.household_replay.specs.NumberedRows.{AreKept, AreRising, AreUpTo, orders_numbered}
 use Rattle.household_replay.specs.Replays.{NumberedOrder, orders_under}
 
 -- ---- fronts and rests of a list
@@ -27,7 +27,7 @@ all-rest P n xs all k d short =
 -- ---- rows of numbers and orders
 
 -- as many rows as numbers and orders
-pub length-numbered : (numbers : List ℕ) (orders : List Order) → length numbers ≡ length orders → length (numbered numbers orders) ≡ length orders
+pub length-numbered : (numbers : List ℕ) (orders : List Order) → length numbers ≡ length orders → length (orders_numbered numbers orders) ≡ length orders
 length-numbered [] orders same = same
 length-numbered (number ∷ numbers) [] same = refl
 length-numbered (number ∷ numbers) (order ∷ orders) same =
@@ -35,7 +35,7 @@ length-numbered (number ∷ numbers) (order ∷ orders) same =
     omega (arith, length-numbered numbers orders shorter)
 
 -- the number of a row is that in its place
-pub number-at : (numbers : List ℕ) (orders : List Order) (i : ℕ) (d : NumberedOrder) (n : ℕ) → length numbers ≡ length orders → i < length numbers → (get_or (numbered numbers orders) i d).number ≡ get_or numbers i n
+pub number-at : (numbers : List ℕ) (orders : List Order) (i : ℕ) (d : NumberedOrder) (n : ℕ) → length numbers ≡ length orders → i < length numbers → (get_or (orders_numbered numbers orders) i d).number ≡ get_or numbers i n
 number-at [] orders i d n same short = absurd (omega arith)
 number-at (number ∷ numbers) [] i d n same short = absurd (omega arith)
 number-at (number ∷ numbers) (order ∷ orders) zero d n same short = refl
@@ -43,7 +43,7 @@ number-at (number ∷ numbers) (order ∷ orders) (suc i) d n same short =
     number-at numbers orders i d n (omega arith) (omega arith)
 
 -- numbers that never fall make rows that rise
-pub rising-numbered : (numbers : List ℕ) (orders : List Order) → length numbers ≡ length orders → AllPairs (λ a b. a ≤ b) numbers → AreRising (numbered numbers orders)
+pub rising-numbered : (numbers : List ℕ) (orders : List Order) → length numbers ≡ length orders → AllPairs (λ a b. a ≤ b) numbers → AreRising (orders_numbered numbers orders)
 rising-numbered numbers orders same rise i j d lt short =
     let within : j < length numbers = omega (arith, length-numbered numbers orders same) in
     let first = number-at numbers orders i d 0 same (omega arith) in
@@ -51,7 +51,7 @@ rising-numbered numbers orders same rise i j d lt short =
     omega (arith, first, second, rise i j 0 lt within)
 
 -- the orders of the rows
-pub orders-numbered : (numbers : List ℕ) (orders : List Order) → length numbers ≡ length orders → map (λ row. row.order) (numbered numbers orders) ≡ orders
+pub orders-numbered : (numbers : List ℕ) (orders : List Order) → length numbers ≡ length orders → map (λ row. row.order) (orders_numbered numbers orders) ≡ orders
 orders-numbered [] [] same = refl
 orders-numbered [] (order ∷ orders) same = absurd (omega arith)
 orders-numbered (number ∷ numbers) [] same = absurd (omega arith)
@@ -59,14 +59,14 @@ orders-numbered (number ∷ numbers) (order ∷ orders) same =
     ap (λ os. order ∷ os) (orders-numbered numbers orders (omega arith))
 
 -- and their numbers
-pub numbers-numbered : (numbers : List ℕ) (orders : List Order) → length numbers ≡ length orders → map (λ row. row.number) (numbered numbers orders) ≡ numbers
+pub numbers-numbered : (numbers : List ℕ) (orders : List Order) → length numbers ≡ length orders → map (λ row. row.number) (orders_numbered numbers orders) ≡ numbers
 numbers-numbered [] orders same = refl
 numbers-numbered (number ∷ numbers) [] same = absurd (omega arith)
 numbers-numbered (number ∷ numbers) (order ∷ orders) same =
     ap (λ ns. number ∷ ns) (numbers-numbered numbers orders (omega arith))
 
 -- one row more
-pub numbered-more : (numbers : List ℕ) (orders : List Order) (number : ℕ) (order : Order) → length numbers ≡ length orders → numbered (numbers ++ number ∷ []) (orders ++ order ∷ []) ≡ numbered numbers orders ++ record { number = number; order = order } ∷ []
+pub numbered-more : (numbers : List ℕ) (orders : List Order) (number : ℕ) (order : Order) → length numbers ≡ length orders → orders_numbered (numbers ++ number ∷ []) (orders ++ order ∷ []) ≡ orders_numbered numbers orders ++ record { number = number; order = order } ∷ []
 numbered-more [] [] number order same = refl
 numbered-more [] (o ∷ os) number order same = absurd (omega arith)
 numbered-more (n ∷ ns) [] number order same = absurd (omega arith)
@@ -122,9 +122,9 @@ under-between number first behind rows before at after le =
     ∙ ap (take (behind - first)) (sym (drop-map (λ r. r.order) first rows))))))))))
 
 -- so the orders under a number are those between its first place and the one behind it
-pub under-is : (numbers : List ℕ) (orders : List Order) (number first behind : ℕ) → AreKept numbers orders → IsPartitionPoint (λ n. n < number) (λ n. number ≤ n) numbers first → IsPartitionPoint (λ n. n ≤ number) (λ n. number < n) numbers behind → first ≤ behind → take (behind - first) (drop first orders) ≡ orders_under number (numbered numbers orders)
+pub under-is : (numbers : List ℕ) (orders : List Order) (number first behind : ℕ) → AreKept numbers orders → IsPartitionPoint (λ n. n < number) (λ n. number ≤ n) numbers first → IsPartitionPoint (λ n. n ≤ number) (λ n. number < n) numbers behind → first ≤ behind → take (behind - first) (drop first orders) ≡ orders_under number (orders_numbered numbers orders)
 under-is numbers orders number first behind kept low high le =
-    let rows = numbered numbers orders in
+    let rows = orders_numbered numbers orders in
     let lengths = length-numbered numbers orders kept.each in
     let same = kept.each in
     let at = λ (k : ℕ) (d : NumberedOrder) (short : k < length numbers). number-at numbers orders k d 0 same short in
@@ -145,7 +145,7 @@ first-before numbers number first behind low high bound = elim (cases_lt behind 
 -- ---- an order more
 
 -- a number that is at least all others is at the end
-pub kept-more : (numbers : List ℕ) (orders : List Order) (number : ℕ) (order : Order) → AreKept numbers orders → AreUpTo number (numbered numbers orders) → AreKept (numbers ++ number ∷ []) (orders ++ order ∷ [])
+pub kept-more : (numbers : List ℕ) (orders : List Order) (number : ℕ) (order : Order) → AreKept numbers orders → AreUpTo number (orders_numbered numbers orders) → AreKept (numbers ++ number ∷ []) (orders ++ order ∷ [])
 kept-more numbers orders number order kept up_to = record {
   each = (
       let a = length-append numbers (number ∷ []) in
@@ -190,13 +190,13 @@ last-most numbers o rise is = elim (slice_get_cases numbers (length numbers - 1)
     ]
 
 -- and what holds of all numbers holds of those of the rows
-pub all-numbered : (P : ℕ → Type 0) (numbers : List ℕ) (orders : List Order) → length numbers ≡ length orders → All P numbers → All (λ row. P row.number) (numbered numbers orders)
+pub all-numbered : (P : ℕ → Type 0) (numbers : List ℕ) (orders : List Order) → length numbers ≡ length orders → All P numbers → All (λ row. P row.number) (orders_numbered numbers orders)
 all-numbered P numbers orders same all k d short =
     let lengths = length-numbered numbers orders same in
     subst P (sym (number-at numbers orders k d 0 same (omega arith))) (all k 0 (omega arith))
 
-pub none-numbered : (numbers : List ℕ) (orders : List Order) → numbers ≡ [] → numbered numbers orders ≡ []
-none-numbered numbers orders none = ap (λ ns. numbered ns orders) none
+pub none-numbered : (numbers : List ℕ) (orders : List Order) → numbers ≡ [] → orders_numbered numbers orders ≡ []
+none-numbered numbers orders none = ap (λ ns. orders_numbered ns orders) none
 
 -- what is said of an option's number, by something weaker
 pub if-number : (P Q : ℕ → Type 0) (o : Option ℕ) → ((n : ℕ) → P n → Q n) → IfSome o P → IfSome o Q

@@ -4,11 +4,11 @@ use Rattle.household_replay.specs.Replays.{NumberedOrder}
 use Rattle.std.specs.Prelude.{All, AllPairs, List, [], filter, length, not, ℕ, ◌==◌, ◌∷◌, ◌≡◌, ◌≤◌}
 
 -- orders with their numbers beside them
-abbrev pub numbered : List ℕ → List Order → List NumberedOrder
-numbered [] orders = []
-numbered (number ∷ numbers) [] = []
-numbered (number ∷ numbers) (order ∷ orders) =
-    record { number = number; order = order } ∷ numbered numbers orders
+abbrev pub orders_numbered : List ℕ → List Order → List NumberedOrder
+orders_numbered [] orders = []
+orders_numbered (number ∷ numbers) [] = []
+orders_numbered (number ∷ numbers) (order ∷ orders) =
+    record { number = number; order = order } ∷ orders_numbered numbers orders
 
 -- each order has a number, and no number is lower than one before it
 pub record AreKept (numbers : List ℕ) (orders : List Order) : Type 0 where

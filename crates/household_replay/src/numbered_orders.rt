@@ -20,12 +20,12 @@ pub struct NumberedOrders {
 
 impl Model for NumberedOrders {
     ghost use Rattle.std.specs.Prelude.{List as ListOf};
-    ghost use Rattle.household_replay.specs.NumberedRows.{AreKept, numbered};
+    ghost use Rattle.household_replay.specs.NumberedRows.{AreKept, orders_numbered};
     ghost use Rattle.household_replay.specs.Replays.{NumberedOrder};
 
     ghost Value = { ListOf NumberedOrder };
 
-    ghost view = { λ rows. numbered rows.numbers.items rows.orders };
+    ghost view = { λ rows. orders_numbered rows.numbers.items rows.orders };
 
     ghost invariant = { λ rows. AreKept rows.numbers.items rows.orders };
 }

@@ -1,7 +1,7 @@
 //! The texts of a reply in order.
 ghost use Rattle.std.specs.Prelude.{◌≡◌, [], ◌∷◌, ◌++◌, codes, map, IfOk, OnOk};
 ghost use Rattle.money_units.specs.Texts.{money_text, number_text, shares_text};
-ghost use Rattle.agent_events.specs.AnswerTexts.{answer_texts, books_texts, day_text, order_texts, refusal_values, said, state_text, trace_texts};
+ghost use Rattle.agent_events.specs.AnswerTexts.{answer_texts, books_texts, day_text, order_texts, refusal_values, ok_answer, state_text, trace_texts};
 
 use crate::reply_texts::{
     class_books_of, day_digits, dealer_books_of, gains_of, money_of, number_of, positions_of,
@@ -55,7 +55,7 @@ pub(crate) fn reply_fields(alloc: Global, reply: &Reply) -> Result<Fields, NoMem
 
 // The texts of a reply that has one number.
 fn numbered_texts(alloc: Global, name: &[u8], number: u64) -> Result<Fields, NoMemory>
-    ensures { IfOk result (λ fields. fields ≡ said name.now (number_text number ∷ [])) }
+    ensures { IfOk result (λ fields. fields ≡ ok_answer name.now (number_text number ∷ [])) }
 {
     let text = number_of(alloc, number)?;
     fields_of(alloc, &[b"ok".as_slice(), name, text.as_slice()])
@@ -63,13 +63,13 @@ fn numbered_texts(alloc: Global, name: &[u8], number: u64) -> Result<Fields, NoM
 
 // The texts of a reply that has two texts.
 fn two_texts(alloc: Global, name: &[u8], first: &[u8], second: &[u8]) -> Result<Fields, NoMemory>
-    ensures { IfOk result (λ fields. fields ≡ said name.now (first.now ∷ second.now ∷ [])) }
+    ensures { IfOk result (λ fields. fields ≡ ok_answer name.now (first.now ∷ second.now ∷ [])) }
 {
     fields_of(alloc, &[b"ok".as_slice(), name, first, second])
 }
 
 fn order_texts(alloc: Global, order: &OrderReply) -> Result<Fields, NoMemory>
-    ensures { IfOk result (λ fields. fields ≡ said (codes "order") (order_texts order.now)) }
+    ensures { IfOk result (λ fields. fields ≡ ok_answer (codes "order") (order_texts order.now)) }
 {
     let account = number_of(alloc, order.account.number() as u64)?;
     let ref_no = number_of(alloc, order.ref_no.number())?;
@@ -90,7 +90,7 @@ fn cancel_texts(alloc: Global, form: &CancelForm) -> Result<Fields, NoMemory>
     ensures { IfOk result
         (λ fields.
         fields
-        ≡ said (codes "cancel")
+        ≡ ok_answer (codes "cancel")
         (number_text form.now.account ∷ number_text form.now.ref_no
         ∷ number_text form.now.target ∷ [])) }
 {
@@ -111,7 +111,7 @@ fn close_texts(alloc: Global, form: &CloseForm) -> Result<Fields, NoMemory>
     ensures { IfOk result
         (λ fields.
         fields
-        ≡ said (codes "close")
+        ≡ ok_answer (codes "close")
         (number_text form.now.calendar ∷ day_text form.now.day ∷ [])) }
 {
     let calendar = number_of(alloc, form.calendar.number() as u64)?;
@@ -170,7 +170,7 @@ fn push_trade(alloc: Global, traced: &TraceReply, fields: &mut Fields) -> Result
 }
 
 fn trace_fields(alloc: Global, traced: &TraceReply) -> Result<Fields, NoMemory>
-    ensures { IfOk result (λ fields. fields ≡ said (codes "trace") (trace_texts traced.now)) }
+    ensures { IfOk result (λ fields. fields ≡ ok_answer (codes "trace") (trace_texts traced.now)) }
 {
     let mut fields = Fields::new(alloc);
     fields.push(alloc, b"ok")?;
@@ -182,7 +182,7 @@ fn trace_fields(alloc: Global, traced: &TraceReply) -> Result<Fields, NoMemory>
 }
 
 fn books_texts(alloc: Global, books: &BooksReply) -> Result<Fields, NoMemory>
-    ensures { IfOk result (λ fields. fields ≡ said (codes "books") (books_texts books.now)) }
+    ensures { IfOk result (λ fields. fields ≡ ok_answer (codes "books") (books_texts books.now)) }
 {
     let classes = class_books_of(alloc, books.classes.as_slice())?;
     let underwriter = signed_of(alloc, books.underwriter)?;

@@ -13,7 +13,7 @@ use Rattle.agent_events.specs.declared.request.FixRateForm.{FixRateForm}
 use Rattle.agent_events.specs.declared.request.SheetForm.{SheetForm}
 use Rattle.agent_events.specs.declared.rows.RateRow.{RateRow}
 use Rattle.forward_price.proofs.NumberFacts.{numbered_at}
-use Rattle.forward_price.specs.PriceTables.{Table, corrected, corrected_sheet, price_before, sheet_numbered, with_correction}
+use Rattle.forward_price.specs.PriceTables.{Table, sheets_with_nav, corrected_sheet, price_before, sheet_numbered, with_correction}
 use Rattle.forward_price.specs.Sheets.{lists_class}
 use Rattle.fund_calendar.specs.PricingDays.{IsMoment}
 use Rattle.household_fold.proofs.BookFacts.{class_found, household_found, rate_found}
@@ -173,7 +173,7 @@ serves_fixed_price journal tables event form number sheet lawful is are there pr
         subst (λ n. with_price_fixed form (corrected_table journal) ≡ with_correction (corrected_table journal) form.class n form.nav)
         (one-number journal form fixes.0 number (last-brought journal event lawful).0 fixes.1.listed priced) fixes.1.table
 
-    sheets : (corrected_table (with_event journal event)).sheets ≡ corrected form.class number form.nav (corrected_table journal).sheets
+    sheets : (corrected_table (with_event journal event)).sheets ≡ sheets_with_nav form.class number form.nav (corrected_table journal).sheets
     sheets =
         ap (λ (table : Table). table.sheets) (table-behind journal event (EventKind.FixPrice form) lawful is ∙ table)
 

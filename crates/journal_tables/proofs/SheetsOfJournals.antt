@@ -8,7 +8,7 @@ use Rattle.agent_events.specs.Events.{Event, request_of}
 use Rattle.agent_events.specs.declared.event.EventKind.{EventKind}
 use Rattle.agent_events.specs.declared.request.ClassForm.{ClassForm}
 use Rattle.agent_events.specs.declared.request.SheetForm.{SheetForm}
-use Rattle.forward_price.specs.PriceTables.{Table, published}
+use Rattle.forward_price.specs.PriceTables.{Table, sheet_published}
 use Rattle.forward_price.specs.Sheets.{lists_class}
 use Rattle.forward_price.specs.declared.price_sheet.Sheet.{Sheet}
 use Rattle.fund_calendar.specs.PricingDays.{IsMoment}
@@ -49,7 +49,7 @@ within-range moment most = (omega (arith, ints), omega (arith, ints, most))
 
 timed-by : (table : Table) (moment : ℕ) (kind : EventKind) → All IsTimed table.sheets → All IsFormTimed (option_to_list (sheet_in kind)) → All IsTimed (table_by table moment kind).sheets
 timed-by table moment (EventKind.Sheet form) all own =
-    All-push IsTimed table.sheets (published table form.calendar (pos form.moment) form.prices) all
+    All-push IsTimed table.sheets (sheet_published table form.calendar (pos form.moment) form.prices) all
     (within-range form.moment (All-head IsFormTimed form [] own))
 timed-by table moment (EventKind.Calendar form) all own = all
 timed-by table moment (EventKind.Close form) all own = all
@@ -91,7 +91,7 @@ known-still journal event class sheet known lists = more-still class_in (is_clas
 known-by : (journal : Journal) (event : Event) (class : ℕ) (kind : EventKind) → IsLawful journal → event.kind ≡ kind → IsBrought journal event → All (ListsKnown journal class) (table_of journal).sheets → All (ListsKnown (with_event journal event) class) (table_by (table_of journal) event.moment kind).sheets
 known-by journal event class (EventKind.Sheet form) lawful is brought all =
     let clear = subst (λ kind. broken_rule (own_at journal event.moment brought.caller) (request_of kind) ≡ None) is brought.clear in
-    All-push (ListsKnown (with_event journal event) class) (table_of journal).sheets (published (table_of journal) form.calendar (pos form.moment) form.prices)
+    All-push (ListsKnown (with_event journal event) class) (table_of journal).sheets (sheet_published (table_of journal) form.calendar (pos form.moment) form.prices)
     (λ k d short. known-still journal event class (get_or (table_of journal).sheets k d) (all k d short))
     (λ lists.
     more-still class_in (is_class class) journal event

@@ -3,10 +3,10 @@ use Rattle.std.proofs.Common.{All, Bool, Contains, Err, List, None, Ok, Option, 
 use Rattle.std.proofs.lemmas.List.Elements.{All-append, All-nil, All-contains_itself, All-drop, All-push, All-take, All-weaker}
 use Rattle.std.proofs.lemmas.Bool.{ltb-true}
 use Rattle.std.specs.Prelude.{OnErr, OnOk}
-use Rattle.kept_states.specs.KeptStates.{last_before, thinned, with_one_more}
+use Rattle.kept_states.specs.KeptStates.{last_before, without_second, with_one_more}
 use Rattle.kept_states.specs.declared.states.KeptState.{KeptState}
 
-all-thinned : (states : List KeptState) → All (Contains states) (thinned states)
+all-thinned : (states : List KeptState) → All (Contains states) (without_second states)
 all-thinned states = by (nat_le 4 (length states))
   where
     themselves : All (Contains states) states
@@ -21,8 +21,8 @@ all-thinned states = by (nat_le 4 (length states))
 -- each is one of these, or the one more
 pub one-more : (states : List KeptState) (state : KeptState) → All (λ kept. Contains states kept ⊎ kept ≡ state) (with_one_more states state)
 one-more states state =
-    All-push (λ kept. Contains states kept ⊎ kept ≡ state) (thinned states) state
-    (All-weaker (Contains states) (λ kept. Contains states kept ⊎ kept ≡ state) (λ kept there. inl there) (thinned states) (all-thinned states))
+    All-push (λ kept. Contains states kept ⊎ kept ≡ state) (without_second states) state
+    (All-weaker (Contains states) (λ kept. Contains states kept ⊎ kept ≡ state) (λ kept there. inl there) (without_second states) (all-thinned states))
     (inr refl)
 
 -- ---- the last one before a sheet

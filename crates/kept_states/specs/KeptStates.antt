@@ -20,8 +20,8 @@ last_before sheet states =
     fold (λ (found : Option KeptState) (kept : KeptState). if nat_lt kept.sheet sheet then Some kept else found) None states
 
 -- four at most are kept: the first one, and the last ones
-abbrev pub thinned : List KeptState → List KeptState
-thinned states = if nat_le 4 (length states) then take 1 states ++ drop 2 states else states
+abbrev pub without_second : List KeptState → List KeptState
+without_second states = if nat_le 4 (length states) then take 1 states ++ drop 2 states else states
 
 abbrev pub with_one_more : List KeptState → KeptState → List KeptState
-with_one_more states state = thinned states ++ state ∷ []
+with_one_more states state = without_second states ++ state ∷ []

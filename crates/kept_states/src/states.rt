@@ -1,6 +1,6 @@
 //! The states that are kept of each household.
 ghost use Rattle.std.specs.Prelude.{◌≡◌, ◌<◌, ◌≤◌, ◌+◌, ◌⊎◌, ℕ, [], All, Contains, IfOk, IfSome, OnErr, OnOk, false, filter, nat_eq, nat_le, nat_lt};
-ghost use Rattle.kept_states.specs.KeptStates.{is_due, last_before, states_in, thinned, with_one_more};
+ghost use Rattle.kept_states.specs.KeptStates.{is_due, last_before, states_in, without_second, with_one_more};
 ghost use Rattle.std.specs.Option.{option_copied};
 
 use household_fold::HouseholdState;
@@ -169,7 +169,7 @@ fn put(
 
 // These states, without the second one where there is no place for one more.
 fn thinned(states: Vec<KeptState>) -> Vec<KeptState>
-    ensures { result.items ≡ thinned states.items }
+    ensures { result.items ≡ without_second states.items }
 {
     let mut states = states;
     if MOST_STATES <= states.len() {

@@ -17,7 +17,7 @@ use Rattle.checkpoint_replay.specs.declared.change.HouseholdMove.{HouseholdMove}
 use Rattle.checkpoint_replay.specs.declared.part.HouseholdPart.{HouseholdPart}
 use Rattle.gain_loss_book.proofs.FlowFacts.{flow-same}
 use Rattle.gain_loss_book.proofs.PostedFacts.{flow-in, flow-out}
-use Rattle.gain_loss_book.specs.Flows.{net, no_flow, turned, with_flow}
+use Rattle.gain_loss_book.specs.Flows.{net, no_flow, reverse_flow, with_flow}
 use Rattle.gain_loss_book.specs.Movements.{mils_brought, mils_taken, trades_mils}
 use Rattle.gain_loss_book.specs.declared.flows.Flow.{Flow}
 use Rattle.register_machine.specs.corrections.Cash.{cents_paid_in, cents_received_in, movements_in, movements_of}
@@ -83,7 +83,7 @@ one-moved flow p q moved others (h ∷ hs) distinct met = by_first (nat_eq moved
 -- what a move brings, and what it takes back
 abbrev pub with_move : (List Trade → Flow) → List (ℕ × HouseholdPart) → Flow → HouseholdMove → Flow
 with_move flow parts before change =
-    with_flow (with_flow before (flow change.trades)) (turned (flow (dropped_trades parts change)))
+    with_flow (with_flow before (flow change.trades)) (reverse_flow (flow (dropped_trades parts change)))
 
 -- moves behind what was before
 moves-net : (flow : List Trade → Flow) (parts : List (ℕ × HouseholdPart)) (moves : List HouseholdMove) (before : Flow) → net (fold (with_move flow parts) before moves) ≡ net before +ℤ net (fold (with_move flow parts) no_flow moves)

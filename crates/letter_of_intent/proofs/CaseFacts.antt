@@ -5,7 +5,7 @@ use Rattle.std.proofs.lemmas.Bool.Decides.{nat_tests}
 use Rattle.std.specs.List.{list_any}
 use Rattle.class_terms.specs.declared.lists.Bracket.{Bracket}
 use Rattle.letter_of_intent.specs.declared.letter.Letter.{Letter}
-use Rattle.letter_of_intent.specs.Letters.{IsLetter, begun, is_reached, has_expired}
+use Rattle.letter_of_intent.specs.Letters.{IsLetter, new_letter, is_reached, has_expired}
 use Rattle.letter_of_intent.specs.Purchases.{Purchase, after, after_all, gross_total}
 use Rattle.letter_of_intent.specs.Cases.{Event, Bought, Priced, Fate, Stands, Reached, Expired, when_priced, happens, fate, purchases_of, is_past}
 use Rattle.letter_of_intent.proofs.LetterFacts.{bought-begun, stays-after}
@@ -44,9 +44,9 @@ stands-fate letter (Priced day ∷ es) now h =
     stands-fate letter es now (stands-priced letter now es (has_expired letter day) h)
 
 pub stands-begun : (amount day start : ℕ) (front : List Bracket) (events : List Event) (now : Letter)
-    → fate (begun amount day start front) events ≡ Stands now → now.bought ≡ gross_total (purchases_of events)
+    → fate (new_letter amount day start front) events ≡ Stands now → now.bought ≡ gross_total (purchases_of events)
 stands-begun amount day start front events now h =
-    ap (λ (letter : Letter). letter.bought) (stands-fate (begun amount day start front) events now h)
+    ap (λ (letter : Letter). letter.bought) (stands-fate (new_letter amount day start front) events now h)
     ∙ bought-begun amount day start front (purchases_of events)
 
 -- a purchase that doesn't reach the amount leaves it within its limits

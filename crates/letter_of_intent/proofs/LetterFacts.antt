@@ -8,7 +8,7 @@ use Rattle.class_terms.specs.Tables.{front_fault}
 use Rattle.offering_price.specs.Accumulation.{bracket}
 use Rattle.offering_price.proofs.RateFacts.{bracket-ceiling, bracket-falls}
 use Rattle.letter_of_intent.specs.declared.letter.Letter.{Letter}
-use Rattle.letter_of_intent.specs.Letters.{IsLetter, begun, rate_earned, load_due, mils_to_pay}
+use Rattle.letter_of_intent.specs.Letters.{IsLetter, new_letter, rate_earned, load_due, mils_to_pay}
 use Rattle.letter_of_intent.specs.Purchases.{Purchase, after, after_all, gross_total, mils_total, held_total}
 
 -- one purchase after another
@@ -22,10 +22,10 @@ bought-after_all letter (p ∷ ps) =
     omega arith
 
 pub bought-begun : (amount day start : ℕ) (front : List Bracket) (purchases : List Purchase)
-    → (after_all (begun amount day start front) purchases).bought ≡ gross_total purchases
+    → (after_all (new_letter amount day start front) purchases).bought ≡ gross_total purchases
 bought-begun amount day start front purchases =
-    let since : (after_all (begun amount day start front) purchases).bought ≡ 0 + gross_total purchases =
-    bought-after_all (begun amount day start front) purchases in
+    let since : (after_all (new_letter amount day start front) purchases).bought ≡ 0 + gross_total purchases =
+    bought-after_all (new_letter amount day start front) purchases in
     omega arith
 
 pub rest-after_all : (letter : Letter) (purchases : List Purchase) → (after_all letter purchases).rest ≤ letter.rest

@@ -25,8 +25,8 @@ pub record IsLetter (letter : Letter) : Type 0 where
 
 -- The letter begins. Its rate is that of its amount; `start` is the household's credit on that day; `rest` is the money
 -- for which shares are still to be held, at first a twentieth of the amount, rounded up.
-abbrev pub begun : ℕ → ℕ → ℕ → List Bracket → Letter
-begun amount day start front = record {
+abbrev pub new_letter : ℕ → ℕ → ℕ → List Bracket → Letter
+new_letter amount day start front = record {
   amount = amount;
   day = day;
   start = start;
@@ -55,8 +55,8 @@ abbrev pub is_reached : Letter → Bool
 is_reached letter = nat_le letter.amount letter.bought
 
 -- what a purchase says of its lot and of the letter
-abbrev pub noted : Letter → ℕ → ℕ → ℕ → Noted
-noted letter gross price mils = record {
+abbrev pub note_of_purchase : Letter → ℕ → ℕ → ℕ → Noted
+note_of_purchase letter gross price mils = record {
   hold = mils_to_hold letter price mils;
   reached = is_reached (after_purchase letter gross price mils);
 }
@@ -87,8 +87,8 @@ abbrev pub cash_paid : ℕ → ℕ → ℕ → ℕ
 cash_paid due nav paid = min due (half (paid * nav) 1000)
 
 -- the load is paid as far as the held mils go, and waived beyond; the other held mils become loose
-abbrev pub settled : ℕ → ℕ → ℕ → Settlement
-settled due nav paid = record {
+abbrev pub settlement_of : ℕ → ℕ → ℕ → Settlement
+settlement_of due nav paid = record {
   due = due;
   paid = paid;
   cash = cash_paid due nav paid;
@@ -96,4 +96,4 @@ settled due nav paid = record {
 }
 
 abbrev pub settlement : List Bracket → Letter → ℕ → ℕ → Settlement
-settlement front letter nav held = settled (load_due front letter) nav (mils_to_pay (load_due front letter) nav held)
+settlement front letter nav held = settlement_of (load_due front letter) nav (mils_to_pay (load_due front letter) nav held)

@@ -4,7 +4,7 @@ ghost use Rattle.class_terms.specs.Tables.{front_fault};
 ghost use Rattle.class_terms.specs.declared.lists.Bracket.{Bracket};
 ghost use Rattle.money_units.specs.Rounding.{half};
 ghost use Rattle.offering_price.specs.Accumulation.{bracket};
-ghost use Rattle.letter_of_intent.specs.Letters.{IsLetter, begun, mils_to_hold, after_purchase, has_expired, rate_earned, load_due, settlement};
+ghost use Rattle.letter_of_intent.specs.Letters.{IsLetter, new_letter, mils_to_hold, after_purchase, has_expired, rate_earned, load_due, settlement};
 ghost use Rattle.letter_of_intent.specs.Purchases.{Purchase, after_all, gross_total, mils_total, held_total};
 ghost use Rattle.letter_of_intent.specs.Cases.{Event, Stands, Reached, Expired, fate, purchases_of, is_past};
 ghost use Rattle.std.specs.List.{list_any};
@@ -20,7 +20,7 @@ use money_units::{Cents, Mils, Nav};
 pub fn a_letter_counts_its_purchases()
     ensures from_its_beginning { (amount day start : ℕ) (front : List Bracket)
         (purchases : List Purchase)
-        → (after_all (begun amount day start front) purchases).bought ≡ gross_total purchases }
+        → (after_all (new_letter amount day start front) purchases).bought ≡ gross_total purchases }
     ensures bought { (letter : Letter) (purchases : List Purchase)
         → (after_all letter purchases).bought ≡ letter.bought + gross_total purchases }
     ensures stays { (letter : Letter) (purchases : List Purchase)
@@ -45,7 +45,7 @@ pub fn a_letter_counts_its_purchases()
 pub fn what_becomes_of_a_letter()
     ensures bought { (amount day start : ℕ) (front : List Bracket) (events : List Event)
         (now : Letter)
-        → fate (begun amount day start front) events ≡ Stands now
+        → fate (new_letter amount day start front) events ≡ Stands now
         → now.bought ≡ gross_total (purchases_of events) }
     ensures stands { (letter : Letter) (events : List Event) (now : Letter)
         → fate letter events ≡ Stands now
@@ -82,8 +82,8 @@ pub fn a_letter_ends_by_its_amount()
 
 /// Shares are to be held for a twentieth of the amount, and for less than a cent more.
 pub fn the_escrow_is_a_twentieth(amount: Cents, day: Day, start: u128, rows: &[Bracket])
-    ensures covers { amount ≤ 20 * (begun amount day start rows.now).rest }
-    ensures least { 20 * (begun amount day start rows.now).rest < amount + 20 }
+    ensures covers { amount ≤ 20 * (new_letter amount day start rows.now).rest }
+    ensures least { 20 * (new_letter amount day start rows.now).rest < amount + 20 }
 {}
 
 /// No more mils are held than were bought. What is left to hold never grows, and falls by no more than the held mils

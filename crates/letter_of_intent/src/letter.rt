@@ -48,7 +48,7 @@ impl Letter {
     /// The letter that begins on a day, for an amount in cents, when the household's credit is `start` cents. Shares
     /// for a twentieth of the amount are to be held.
     pub fn begin(amount: Cents, day: Day, start: u128, terms: &Terms) -> Letter
-        ensures letter { result ≡ spec.begun amount day start terms.now.front }
+        ensures letter { result ≡ spec.new_letter amount day start terms.now.front }
         ensures limits { 1 ≤ amount → amount ≤ 1000000000000 → start ≤ 10 ^ 21
             → spec.IsLetter result }
     {
@@ -67,7 +67,7 @@ impl Letter {
         requires limits { spec.IsLetter self.old }
         requires gross_within { (1 ≤ gross) × (gross ≤ 1000000000000) }
         requires price { 1 ≤ price }
-        ensures noted { result ≡ spec.noted self.old gross price mils }
+        ensures noted { result ≡ spec.note_of_purchase self.old gross price mils }
         ensures letter { self.new ≡ spec.after_purchase self.old gross price mils }
         ensures case { becomes self.old
             (Bought (record { gross = gross; price = price; mils = mils }))

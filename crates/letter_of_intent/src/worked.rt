@@ -1,19 +1,19 @@
 //! Worked letters of intent, as laws: the checker computes each.
 ghost use Rattle.std.specs.Prelude.{◌≡◌, ◌-◌, [], ◌∷◌, true, false, Some, None};
 ghost use Rattle.class_terms.specs.Tables.{row_of};
-ghost use Rattle.letter_of_intent.specs.Letters.{begun, noted, after_purchase, has_expired, last_day, rate_earned, load_due, settlement};
+ghost use Rattle.letter_of_intent.specs.Letters.{new_letter, note_of_purchase, after_purchase, has_expired, last_day, rate_earned, load_due, settlement};
 ghost use Rattle.offering_price.specs.Purchase.{offering_price, mils_bought};
 
 /// A letter of $50,000.00 begins on 2024-07-01, and $10,000.00 are bought at 10.00: by the letter's rate of 4.50% the
 /// price is 10.47, and of 955.110 shares 238.778 are held, which cover the twentieth of $2,500.00.
 pub fn a_purchase_under_a_letter()
-    ensures letter { begun 5000000 19905 0
+    ensures letter { new_letter 5000000 19905 0
         (row_of 0 575 ∷ row_of 2500000 500 ∷ row_of 5000000 450 ∷ row_of 10000000 350
         ∷ row_of 25000000 250 ∷ row_of 50000000 200 ∷ row_of 100000000 0 ∷ [])
         ≡ record { amount = 5000000; day = 19905; start = 0; rate = 450; rest = 250000; bought = 0 } }
     ensures price { offering_price 1000 450 ≡ 1047 }
     ensures mils { mils_bought 1000000 1047 ≡ 955110 }
-    ensures noted { noted
+    ensures noted { note_of_purchase
         (record {
           amount = 5000000;
           day = 19905;
@@ -46,7 +46,7 @@ pub fn a_purchase_under_a_letter()
 /// amount the letter stays open, and with that cent it is reached. A mil at 10.47 leaves a cent less to hold, and a
 /// letter of $0.21 holds shares for $0.02.
 pub fn steps_of_an_escrow()
-    ensures small { noted
+    ensures small { note_of_purchase
         (record {
           amount = 5000000;
           day = 19905;
@@ -73,7 +73,7 @@ pub fn steps_of_an_escrow()
           rest = 145300;
           bought = 104700;
         } }
-    ensures short { noted
+    ensures short { note_of_purchase
         (record {
           amount = 5000000;
           day = 19905;
@@ -83,7 +83,7 @@ pub fn steps_of_an_escrow()
           bought = 1000000;
         }) 3999999 1047 3820439
         ≡ record { hold = 0; reached = false } }
-    ensures reached { noted
+    ensures reached { note_of_purchase
         (record {
           amount = 5000000;
           day = 19905;
@@ -103,7 +103,7 @@ pub fn steps_of_an_escrow()
           bought = 0;
         }) 1 1047 1).rest
         ≡ 249999 }
-    ensures rounded_up { (begun 21 19905 0 (row_of 0 0 ∷ [])).rest ≡ 2 }
+    ensures rounded_up { (new_letter 21 19905 0 (row_of 0 0 ∷ [])).rest ≡ 2 }
 {}
 
 /// At its end the purchases have earned 5.75%, so that 1.25% of $10,000.00 are due. At 11.00 these are 11.364 of the

@@ -3,7 +3,7 @@ use Rattle.std.proofs.Common.{List, [], ap, append-nil, append_assoc, arith, fla
 use Rattle.std.specs.Prelude.{codes}
 use Rattle.agent_events.specs.declared.reply_lists.ClassBooks.{ClassBooks}
 use Rattle.load_requests.specs.Summaries.{Summary, class_line, summary_text}
-use Rattle.load_runs.specs.Seen.{count_lines, ended}
+use Rattle.load_runs.specs.Seen.{count_lines, with_line_feed}
 use Rattle.money_units.specs.Texts.{number_text, shares_text, signed_text}
 
 -- ---- one line
@@ -21,7 +21,7 @@ pub class_line_more : (old first second third last : List ℕ) (books : ClassBoo
     → second ≡ first ++ (codes " shares " ++ shares_text books.outstanding)
     → third ≡ second ++ (codes " cash " ++ signed_text books.cash)
     → last ≡ third ++ 10 ∷ []
-    → last ≡ old ++ ended (class_line books)
+    → last ≡ old ++ with_line_feed (class_line books)
 class_line_more old first second third last books one two three four =
     four
     ∙ (ap (λ (line : List ℕ). line ++ 10 ∷ [])
@@ -33,25 +33,25 @@ class_line_more old first second third last books one two three four =
 -- ---- many lines
 
 abbrev lines-of : List ClassBooks → List ℕ
-lines-of classes = flat_map ended (map class_line classes)
+lines-of classes = flat_map with_line_feed (map class_line classes)
 
-pub class_lines_more : (classes : List ClassBooks) (place : ℕ) (d : ClassBooks) → place < length classes → flat_map ended (map class_line (take (place + 1) classes)) ≡ flat_map ended (map class_line (take place classes)) ++ ended (class_line (get_or classes place d))
+pub class_lines_more : (classes : List ClassBooks) (place : ℕ) (d : ClassBooks) → place < length classes → flat_map with_line_feed (map class_line (take (place + 1) classes)) ≡ flat_map with_line_feed (map class_line (take place classes)) ++ with_line_feed (class_line (get_or classes place d))
 class_lines_more [] place d short = absurd (omega (arith, short))
-class_lines_more (books ∷ classes) zero d short = append-nil (ended (class_line books))
+class_lines_more (books ∷ classes) zero d short = append-nil (with_line_feed (class_line books))
 class_lines_more (books ∷ classes) (suc place) d short =
     ap (λ (n : ℕ). lines-of (take n (books ∷ classes))) next
-    ∙ (ap (λ (lines : List ℕ). ended (class_line books) ++ lines) (class_lines_more classes place d (omega (arith, short)))
-    ∙ sym (append_assoc (ended (class_line books)) (lines-of (take place classes)) (ended (class_line (get_or classes place d)))))
+    ∙ (ap (λ (lines : List ℕ). with_line_feed (class_line books) ++ lines) (class_lines_more classes place d (omega (arith, short)))
+    ∙ sym (append_assoc (with_line_feed (class_line books)) (lines-of (take place classes)) (with_line_feed (class_line (get_or classes place d)))))
   where
     next : suc place + 1 ≡ suc (place + 1)
     next = omega arith
 
-lines-append : (lines more : List (List ℕ)) → flat_map ended (lines ++ more) ≡ flat_map ended lines ++ flat_map ended more
+lines-append : (lines more : List (List ℕ)) → flat_map with_line_feed (lines ++ more) ≡ flat_map with_line_feed lines ++ flat_map with_line_feed more
 lines-append [] more = refl
 lines-append (line ∷ lines) more =
-    ap (λ (rest : List ℕ). ended line ++ rest) (lines-append lines more)
-    ∙ sym (append_assoc (ended line) (flat_map ended lines) (flat_map ended more))
+    ap (λ (rest : List ℕ). with_line_feed line ++ rest) (lines-append lines more)
+    ∙ sym (append_assoc (with_line_feed line) (flat_map with_line_feed lines) (flat_map with_line_feed more))
 
 -- the counts, and behind them the classes
-pub whole_text : (summary : Summary) → summary_text summary ≡ flat_map ended (count_lines summary) ++ flat_map ended (map class_line summary.classes)
+pub whole_text : (summary : Summary) → summary_text summary ≡ flat_map with_line_feed (count_lines summary) ++ flat_map with_line_feed (map class_line summary.classes)
 whole_text summary = lines-append (count_lines summary) (map class_line summary.classes)

@@ -14,8 +14,8 @@ summary_seen held = record {
 }
 
 -- a line with its line feed
-abbrev pub ended : List ℕ → List ℕ
-ended line = line ++ 10 ∷ []
+abbrev pub with_line_feed : List ℕ → List ℕ
+with_line_feed line = line ++ 10 ∷ []
 
 -- the lines of the counts
 abbrev pub count_lines : Summary → List (List ℕ)

@@ -2,7 +2,7 @@
 ghost use Rattle.std.specs.Prelude.{◌≡◌, ◌++◌, codes, flat_map, map, IfOk, OnOk};
 ghost use Rattle.load_requests.specs.Summaries.{class_line, count_line, summary_text};
 ghost use Rattle.money_units.specs.Texts.{number_text, shares_text, signed_text};
-ghost use Rattle.load_runs.specs.Seen.{count_lines, ended, summary_seen};
+ghost use Rattle.load_runs.specs.Seen.{count_lines, with_line_feed, summary_seen};
 
 use crate::summary::Summary;
 use agent_events::{ClassBooks, Identifier};
@@ -12,7 +12,7 @@ use std::alloc::Global;
 /// Appends a line with a count.
 fn put_count(name: &[u8], count: u64, text: &mut Vec<u8>) -> Result<(), NoMemory>
     ensures { OnOk result (text.new.items
-        ≡ text.old.items ++ ended (count_line name.now count)) }
+        ≡ text.old.items ++ with_line_feed (count_line name.now count)) }
 {
     text.extend_from_slice(name)?;
     text.push(b' ')?;
@@ -50,7 +50,7 @@ fn put_class_cash(books: &ClassBooks, text: &mut Vec<u8>) -> Result<(), NoMemory
 
 /// Appends the line of a class.
 fn put_class(books: &ClassBooks, text: &mut Vec<u8>) -> Result<(), NoMemory>
-    ensures { OnOk result (text.new.items ≡ text.old.items ++ ended (class_line books.now)) }
+    ensures { OnOk result (text.new.items ≡ text.old.items ++ with_line_feed (class_line books.now)) }
 {
     put_class_number(books.class, text)?;
     put_class_shares(books.outstanding, text)?;
@@ -63,7 +63,7 @@ fn put_class(books: &ClassBooks, text: &mut Vec<u8>) -> Result<(), NoMemory>
 #[tactic(auto, using(crate::proofs::LinesPut::class_lines_more))]
 fn put_classes(classes: &[ClassBooks], text: &mut Vec<u8>) -> Result<(), NoMemory>
     ensures { OnOk result (text.new.items
-        ≡ text.old.items ++ flat_map ended (map class_line classes.now)) }
+        ≡ text.old.items ++ flat_map with_line_feed (map class_line classes.now)) }
 {
     for books in classes {
         put_class(books, text)?;
@@ -74,7 +74,7 @@ fn put_classes(classes: &[ClassBooks], text: &mut Vec<u8>) -> Result<(), NoMemor
 /// Appends the lines of the counts.
 fn put_counts(summary: &Summary, text: &mut Vec<u8>) -> Result<(), NoMemory>
     ensures { OnOk result (text.new.items
-        ≡ text.old.items ++ flat_map ended (count_lines (summary_seen summary.now))) }
+        ≡ text.old.items ++ flat_map with_line_feed (count_lines (summary_seen summary.now))) }
 {
     put_count(b"events", summary.events, text)?;
     put_count(b"sheets", summary.sheets, text)?;

@@ -5,7 +5,7 @@ use Rattle.std.proofs.lemmas.Bool.{cases_lt}
 use Rattle.money_units.specs.Rounding.{half}
 use Rattle.money_units.proofs.RoundingFacts.{half-least, half-most, half-falls, half-positive}
 use Rattle.offering_price.specs.declared.purchase.Split.{Split}
-use Rattle.offering_price.specs.Purchase.{offering_price, mils_bought, proceeds_of, split_of, divided}
+use Rattle.offering_price.specs.Purchase.{offering_price, mils_bought, proceeds_of, split_of, split_at_price}
 
 -- what is left of a whole after the load
 abbrev rest : ℕ → ℕ
@@ -51,9 +51,9 @@ when-some true x split h = cc
 when-some false x split h = cc
 
 pub divided-split_of : (gross nav rate : ℕ) (split : Split) → split_of gross nav rate ≡ Some split
-    → divided gross nav rate (offering_price nav rate) ≡ split
+    → split_at_price gross nav rate (offering_price nav rate) ≡ split
 divided-split_of gross nav rate split h =
-    when-some (mils_bought gross (offering_price nav rate) == 0) (divided gross nav rate (offering_price nav rate)) split h
+    when-some (mils_bought gross (offering_price nav rate) == 0) (split_at_price gross nav rate (offering_price nav rate)) split h
 
 no-charge : (price charge bound : ℕ) → charge ≡ 0 → 10000 * (price * charge) ≤ bound
 no-charge price charge bound none = rw none (omega arith)

@@ -5,11 +5,11 @@ use Rattle.std.proofs.lemmas.Bool.Decides.{nat_tests}
 use Rattle.class_terms.specs.declared.lists.Bracket.{Bracket}
 use Rattle.class_terms.specs.Tables.{first_broken, breaks_table, front_fault}
 use Rattle.class_terms.proofs.TableFacts.{first-follows, others-follow, Follows, table-order, table-ceiling, HasRows, rows-lawful}
-use Rattle.offering_price.specs.Accumulation.{last_or, reached, bracket}
+use Rattle.offering_price.specs.Accumulation.{last_or, rows_reached, bracket}
 
 -- the rate of the last row that an amount reaches, or d where it reaches none
 abbrev pub rate_from : ℕ → List Bracket → ℕ → ℕ
-rate_from d rows amount = last_or d (map (λ (row : Bracket). row.rate) (reached rows amount))
+rate_from d rows amount = last_or d (map (λ (row : Bracket). row.rate) (rows_reached rows amount))
 
 rate-reached : (d : ℕ) (row : Bracket) (rows : List Bracket) (amount : ℕ) → row.floor ≤ amount
     → rate_from d (row ∷ rows) amount ≡ rate_from row.rate rows amount

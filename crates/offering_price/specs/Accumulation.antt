@@ -12,12 +12,12 @@ last_or d [] = d
 last_or d (x ∷ xs) = last_or x xs
 
 -- the rows of a table whose breakpoint an amount reaches
-abbrev pub reached : List Bracket → ℕ → List Bracket
-reached rows amount = filter (λ (row : Bracket). nat_le row.floor amount) rows
+abbrev pub rows_reached : List Bracket → ℕ → List Bracket
+rows_reached rows amount = filter (λ (row : Bracket). nat_le row.floor amount) rows
 
 -- the rate of an amount: that of the last row that it reaches
 abbrev pub bracket : List Bracket → ℕ → ℕ
-bracket rows amount = last_or 0 (map (λ (row : Bracket). row.rate) (reached rows amount))
+bracket rows amount = last_or 0 (map (λ (row : Bracket). row.rate) (rows_reached rows amount))
 
 -- what a position is worth to its household's breakpoints: the greater of its cost and its value at the last NAV, or its
 -- cost where there is no NAV yet

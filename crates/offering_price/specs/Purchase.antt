@@ -17,8 +17,8 @@ abbrev pub proceeds_of : ℕ → ℕ → ℕ → ℕ → ℕ
 proceeds_of gross nav rate mils = if rate == 0 then gross else min gross (half (mils * nav) 1000)
 
 -- a gross divided at a price into shares, proceeds and charge
-abbrev pub divided : ℕ → ℕ → ℕ → ℕ → Split
-divided gross nav rate price = record {
+abbrev pub split_at_price : ℕ → ℕ → ℕ → ℕ → Split
+split_at_price gross nav rate price = record {
   rate = rate;
   price = price;
   mils = mils_bought gross price;
@@ -30,4 +30,4 @@ divided gross nav rate price = record {
 abbrev pub split_of : ℕ → ℕ → ℕ → Option Split
 split_of gross nav rate =
     if mils_bought gross (offering_price nav rate) == 0 then None
-    else Some (divided gross nav rate (offering_price nav rate))
+    else Some (split_at_price gross nav rate (offering_price nav rate))

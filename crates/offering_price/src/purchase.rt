@@ -1,6 +1,6 @@
 //! The offering price and the split of a purchase.
 ghost use Rattle.std.specs.Prelude.{◌≡◌, ◌+◌, ◌≤◌, IfSome};
-ghost use Rattle.offering_price.specs.Purchase.{offering_price, mils_bought, proceeds_of, divided, split_of};
+ghost use Rattle.offering_price.specs.Purchase.{offering_price, mils_bought, proceeds_of, split_at_price, split_of};
 
 use money_units::{Bps, Cents, Mils, Nav, half};
 

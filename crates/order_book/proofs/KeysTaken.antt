@@ -15,7 +15,7 @@ use Rattle.agent_events.specs.declared.request.DealerForm.{DealerForm}
 use Rattle.agent_events.specs.declared.request.HouseholdForm.{HouseholdForm}
 use Rattle.order_book.proofs.Places.{or-none, position-more}
 use Rattle.order_book.specs.Brought.{brings_key, dealer_key_in, household_key_in}
-use Rattle.order_book.specs.Indexes.{padded, same_text}
+use Rattle.order_book.specs.Indexes.{key_text, same_text}
 use Rattle.order_book.specs.Kept.{KeepsKeys}
 use Rattle.order_book.specs.declared.keys.KeyText.{KeyText}
 use Rattle.order_book.specs.declared.keys.Keys.{Keys}
@@ -33,32 +33,32 @@ front a pad = take-append-le (length a) a pad ≤-self ∙ take-whole a
     take-whole (x ∷ xs) = ap (λ later. x ∷ later) (take-whole xs)
 
 -- two keys are the same as they are kept exactly where their bytes are
-pub same-padded : (a b : List ℕ) → same_text (padded a) (padded b) ≡ bytes_eq a b
-same-padded a b = same_from_decides (same_text (padded a) (padded b)) (bytes_eq a b) (one, alike) (bytes_eq-Decides a b)
+pub same-padded : (a b : List ℕ) → same_text (key_text a) (key_text b) ≡ bytes_eq a b
+same-padded a b = same_from_decides (same_text (key_text a) (key_text b)) (bytes_eq a b) (one, alike) (bytes_eq-Decides a b)
   where
-    one : same_text (padded a) (padded b) ≡ true → a ≡ b
+    one : same_text (key_text a) (key_text b) ≡ true → a ≡ b
     one same =
-        let both = and_parts (bytes_eq (padded a).bytes (padded b).bytes) (length a == length b) same in
+        let both = and_parts (bytes_eq (key_text a).bytes (key_text b).bytes) (length a == length b) same in
         sym (front a (drop (length a) (replicate 64 0)))
-        ∙ (ap (take (length a)) ((bytes_eq-Decides (padded a).bytes (padded b).bytes).0 both.0)
-        ∙ (ap (λ n. take n (padded b).bytes) (eqb-true (length a) (length b) both.1)
+        ∙ (ap (take (length a)) ((bytes_eq-Decides (key_text a).bytes (key_text b).bytes).0 both.0)
+        ∙ (ap (λ n. take n (key_text b).bytes) (eqb-true (length a) (length b) both.1)
         ∙ front b (drop (length b) (replicate 64 0))))
 
-    alike : a ≡ b → same_text (padded a) (padded b) ≡ true
+    alike : a ≡ b → same_text (key_text a) (key_text b) ≡ true
     alike same =
-        and_from (bytes_eq (padded a).bytes (padded b).bytes) (length a == length b)
-        ((bytes_eq-Decides (padded a).bytes (padded b).bytes).1 (ap (λ key. (padded key).bytes) same))
+        and_from (bytes_eq (key_text a).bytes (key_text b).bytes) (length a == length b)
+        ((bytes_eq-Decides (key_text a).bytes (key_text b).bytes).1 (ap (λ key. (key_text key).bytes) same))
         (eq-eqb (length a) (length b) (ap length same))
 
 key-put : (chosen : EventKind → Option (List ℕ)) (old new : KeyText → Option ℕ) (journal : Journal) (event : Event) (own : List ℕ) (text : KeyText) (place : ℕ)
-    → place ≡ length journal → chosen event.kind ≡ Some own → text ≡ padded own
+    → place ≡ length journal → chosen event.kind ≡ Some own → text ≡ key_text own
     → ((q : KeyText) → new q ≡ option_or (old q) (cond (same_text text q) (Some place) None))
-    → ((key : List ℕ) → length key ≤ 64 → old (padded key) ≡ position (brings_key chosen key) journal)
-    → (key : List ℕ) → length key ≤ 64 → new (padded key) ≡ position (brings_key chosen key) (with_event journal event)
+    → ((key : List ℕ) → length key ≤ 64 → old (key_text key) ≡ position (brings_key chosen key) journal)
+    → (key : List ℕ) → length key ≤ 64 → new (key_text key) ≡ position (brings_key chosen key) (with_event journal event)
 key-put chosen old new journal event own text place at key_is text_is put kept key short =
-    put (padded key)
-    ∙ (ap (λ (found : Option ℕ). option_or found (cond (same_text text (padded key)) (Some place) None)) (kept key short)
-    ∙ (ap (λ (t : KeyText). option_or (position (brings_key chosen key) journal) (cond (same_text t (padded key)) (Some place) None)) text_is
+    put (key_text key)
+    ∙ (ap (λ (found : Option ℕ). option_or found (cond (same_text text (key_text key)) (Some place) None)) (kept key short)
+    ∙ (ap (λ (t : KeyText). option_or (position (brings_key chosen key) journal) (cond (same_text t (key_text key)) (Some place) None)) text_is
     ∙ (ap (λ is. option_or (position (brings_key chosen key) journal) (cond is (Some place) None)) (same-padded own key ∙ ap (λ found. option_map_or (λ k. bytes_eq k key) found false) (sym key_is))
     ∙ (ap (λ n. option_or (position (brings_key chosen key) journal) (cond (brings_key chosen key event) (Some n) None)) at
     ∙ sym (position-more (brings_key chosen key) journal event)))))
@@ -74,7 +74,7 @@ pub short-dealer : (key : List ℕ) → is_dealer_key key ≡ true → length ke
 short-dealer key e = omega (arith, leb-true (length key) 58 (and_parts _ _ (and_parts _ _ (and_parts _ _ e).1).1).0)
 
 pub key-taken : (chosen : EventKind → Option (List ℕ)) (old new : Keys) (journal : Journal) (moment place : ℕ) (kind by : EventKind) (own : List ℕ) (text : KeyText)
-    → kind ≡ by → chosen by ≡ Some own → length own ≤ 64 → place ≡ length journal → text ≡ padded own
+    → kind ≡ by → chosen by ≡ Some own → length own ≤ 64 → place ≡ length journal → text ≡ key_text own
     → ((q : KeyText) → get same_text new.places q ≡ option_or (get same_text old.places q) (cond (same_text text q) (Some place) None))
     → KeepsKeys chosen old journal → KeepsKeys chosen new (with_event journal (record { moment = moment; kind = kind }))
 key-taken chosen old new journal moment place kind by own text kind_is key_is short at text_is put kept = record {

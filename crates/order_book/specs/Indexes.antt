@@ -17,15 +17,15 @@ abbrev pub HasRoom : Identities → ℕ → Type 0
 HasRoom identities events = 2 * events ≤ spare identities.places
 
 -- a key as it is kept: 64 bytes, the key in front, and its length
-abbrev pub padded : List ℕ → KeyText
-padded key = record { bytes = key ++ drop (length key) (replicate 64 0); len = length key }
+abbrev pub key_text : List ℕ → KeyText
+key_text key = record { bytes = key ++ drop (length key) (replicate 64 0); len = length key }
 
 abbrev pub same_text : KeyText → KeyText → Bool
 same_text a b = bytes_eq a.bytes b.bytes && a.len == b.len
 
 -- the place that is kept of a key
 abbrev pub place_of_key : Keys → List ℕ → Option ℕ
-place_of_key keys key = get same_text keys.places (padded key)
+place_of_key keys key = get same_text keys.places (key_text key)
 
 abbrev pub HasKeyRoom : Keys → ℕ → Type 0
 HasKeyRoom keys events = events ≤ spare keys.places

@@ -3,7 +3,7 @@ ghost use Rattle.std.specs.Prelude.{◌≡◌, ◌≤◌, ◌+◌, ◌++◌, ℕ
 ghost use Rattle.std.specs.HashMap.{get, spare};
 ghost use Rattle.std.specs.Option.{option_or};
 ghost use Rattle.order_book.specs.Brought.{dealer_key_in, household_key_in};
-ghost use Rattle.order_book.specs.Indexes.{padded, place_of_key, same_text, HasKeyRoom};
+ghost use Rattle.order_book.specs.Indexes.{key_text, place_of_key, same_text, HasKeyRoom};
 ghost use Rattle.order_book.specs.Kept.{KeepsKeys};
 ghost use Rattle.order_book.specs.declared.keys.KeyText.{KeyText as Text};
 ghost use Rattle.register_machine.specs.journal.Journals.{Journal, with_event};
@@ -29,7 +29,7 @@ pub struct Keys {
 // The key as it is kept.
 fn key_text(key: &[u8]) -> KeyText
     requires { length key.now ≤ 64 }
-    ensures { result ≡ padded key.now }
+    ensures { result ≡ key_text key.now }
 {
     let mut bytes = [0; 64];
     bytes[..key.len()].copy_from_slice(key);

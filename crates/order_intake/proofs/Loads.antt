@@ -3,7 +3,7 @@
 use Rattle.std.proofs.Common.{List, None, Option, Some, [], refl, ℕ, ◌∙◌, ◌≡◌, option_map}
 use Rattle.std.specs.Option.{option_or}
 use Rattle.agent_events.specs.declared.request.ClassForm.{ClassForm}
-use Rattle.class_terms.specs.Checking.{checked, family_fault, term_fault, unless}
+use Rattle.class_terms.specs.Checking.{form_or_fault, family_fault, term_fault, unless}
 use Rattle.class_terms.specs.Tables.{deferred_fault, front_fault}
 use Rattle.class_terms.specs.declared.faults.TermFault.{TermFault}
 use Rattle.class_terms.specs.declared.form.TermsForm.{TermsForm}
@@ -22,7 +22,7 @@ by-fault : (why : Option TermFault) (terms : TermsForm) → place_checked (unles
 by-fault None terms = refl
 by-fault (Some why) terms = refl
 
-pub loads_checked : (terms : TermsForm) → place_checked (checked terms []) ≡ terms_place (option_or (option_map fault.BadFront (front_fault terms.front)) (option_map fault.BadDeferred (deferred_fault terms.deferred)))
+pub loads_checked : (terms : TermsForm) → place_checked (form_or_fault terms []) ≡ terms_place (option_or (option_map fault.BadFront (front_fault terms.front)) (option_map fault.BadDeferred (deferred_fault terms.deferred)))
 loads_checked terms =
     by-fault (term_fault terms []) terms ∙ by-tables (front_fault terms.front) (deferred_fault terms.deferred) (family_fault terms [])
 

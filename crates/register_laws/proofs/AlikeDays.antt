@@ -10,13 +10,13 @@ use Rattle.agent_events.specs.declared.trade.Trade.{Trade}
 use Rattle.agent_events.specs.declared.trade.TradeKind.{TradeKind}
 use Rattle.agent_events.specs.declared.trade.Why.{Why}
 use Rattle.class_terms.specs.declared.lists.Bracket.{Bracket}
-use Rattle.contingent_charge.specs.DeferredCharge.{charged}
+use Rattle.contingent_charge.specs.DeferredCharge.{charge_of_pieces}
 use Rattle.dividend_reinvest.specs.declared.payment.Payment.{Payment}
 use Rattle.forward_price.specs.PriceTables.{with_prices}
 use Rattle.forward_price.specs.declared.price_sheet.Sheet.{Sheet}
-use Rattle.fund_exchange.specs.Exchange.{carried}
+use Rattle.fund_exchange.specs.Exchange.{transfer_of}
 use Rattle.fund_exchange.specs.declared.carrying.Carried.{Carried}
-use Rattle.letter_of_intent.specs.Letters.{begun, noted, settlement}
+use Rattle.letter_of_intent.specs.Letters.{new_letter, note_of_purchase, settlement}
 use Rattle.letter_of_intent.specs.declared.letter.Letter.{Letter}
 use Rattle.money_units.specs.Rounding.{half}
 use Rattle.offering_price.specs.Accumulation.{bracket}
@@ -34,7 +34,7 @@ use Rattle.register_machine.specs.replay.Positions.{Position, PositionKey, has_r
 use Rattle.register_machine.specs.replay.Purchase.{amount_rated, credit_of, day_after_purchase, day_at_split, day_if_reached, day_with_lot, position_after_note, purchase_rate, purchase_trade}
 use Rattle.register_machine.specs.replay.Redemption.{day_after_redemption, day_after_redemption_for, day_after_sale, loose_of, position_less, redemption_trade, short_of}
 use Rattle.register_machine.specs.replay.Trades.{Day, day_after_trade, day_unless, day_unless_any, nav_of, order_trade, plain_trade, with_position, with_trade}
-use Rattle.share_lots.specs.Lots.{Added, added, held_total, loose_total, release_all}
+use Rattle.share_lots.specs.Lots.{Added, shares_added, held_total, loose_total, release_all}
 use Rattle.share_lots.specs.Taking.{after_paying, pieces}
 use Rattle.dividend_reinvest.specs.declared.payment.Payment.TheVariants as pays
 
@@ -92,7 +92,7 @@ module _ (book other : Book) (sheet : Sheet) (prices : List (ℕ × ℕ)) (accou
   after-lot d e p lot (Some letter) gross split trade mine counts by is =
       let kept = position_after_note p lot letter gross split in
       let noted_is = after-trade d e kept trade mine counts by is in
-      elim (noted letter gross split.price split.mils).reached as (λ b. R (day_if_reached b sheet kept (day_after_trade d kept trade)) (day_if_reached b (with_prices sheet prices) kept (day_after_trade e kept trade))) [
+      elim (note_of_purchase letter gross split.price split.mils).reached as (λ b. R (day_if_reached b sheet kept (day_after_trade d kept trade)) (day_if_reached b (with_prices sheet prices) kept (day_after_trade e kept trade))) [
         | true ↦ after-trade (day_after_trade d kept trade) (day_after_trade e kept trade) (record kept { holding = release_all kept.holding; letter = None }) (plain_trade sheet kept.account kept.class TradeKind.LetterReached) mine counts mine noted_is
         | false ↦ noted_is
       ]
@@ -102,10 +102,10 @@ module _ (book other : Book) (sheet : Sheet) (prices : List (ℕ × ℕ)) (accou
       unless-why (Some Why.TooSmall) d e d e trade by is is
   after-split d e p gross (Some split) trade mine counts by is =
       unless-why (first_some (when (not (has_room p.holding split.mils gross)) Why.Ceiling ∷ [])) d e
-      (day_with_lot sheet d p (added p.holding sheet.day split.mils gross false) p.letter gross split (purchase_trade trade gross split))
-      (day_with_lot (with_prices sheet prices) e p (added p.holding sheet.day split.mils gross false) p.letter gross split (purchase_trade trade gross split))
+      (day_with_lot sheet d p (shares_added p.holding sheet.day split.mils gross false) p.letter gross split (purchase_trade trade gross split))
+      (day_with_lot (with_prices sheet prices) e p (shares_added p.holding sheet.day split.mils gross false) p.letter gross split (purchase_trade trade gross split))
       trade by is
-      (after-lot d e p (added p.holding sheet.day split.mils gross false) p.letter gross split (purchase_trade trade gross split) mine counts by is)
+      (after-lot d e p (shares_added p.holding sheet.day split.mils gross false) p.letter gross split (purchase_trade trade gross split) mine counts by is)
 
   rates-alike : (d e : Day) (p : Position) (gross : ℕ) → p.account ≡ account → C p.class → R d e → purchase_rate book sheet d.register p gross ≡ purchase_rate other (with_prices sheet prices) e.register p gross
   rates-alike d e p gross mine counts is =
@@ -130,9 +130,9 @@ module _ (book other : Book) (sheet : Sheet) (prices : List (ℕ × ℕ)) (accou
   after-sale : (d e : Day) (p : Position) (asked : ℕ) (trade : Trade) → p.account ≡ account → C p.class → trade.account ≡ account → R d e → R (day_after_sale book sheet d p asked trade) (day_after_sale other (with_prices sheet prices) e p asked trade)
   after-sale d e p asked trade mine counts by is =
       let left = day_after_sale book sheet d p asked trade in
-      let base = after-trade d e (position_less p asked) (redemption_trade trade (nav_of sheet p.class) asked (charged (pieces asked p.holding.lots) (nav_of sheet p.class) sheet.day (schedule_of book p.class))) mine counts by is in
-      let at_nav = subst (λ nav. R left (day_after_trade e (position_less p asked) (redemption_trade trade nav asked (charged (pieces asked p.holding.lots) nav sheet.day (schedule_of book p.class))))) (alike.nav p.class counts) base in
-      subst (λ schedule. R left (day_after_trade e (position_less p asked) (redemption_trade trade (nav_of (with_prices sheet prices) p.class) asked (charged (pieces asked p.holding.lots) (nav_of (with_prices sheet prices) p.class) sheet.day schedule))))
+      let base = after-trade d e (position_less p asked) (redemption_trade trade (nav_of sheet p.class) asked (charge_of_pieces (pieces asked p.holding.lots) (nav_of sheet p.class) sheet.day (schedule_of book p.class))) mine counts by is in
+      let at_nav = subst (λ nav. R left (day_after_trade e (position_less p asked) (redemption_trade trade nav asked (charge_of_pieces (pieces asked p.holding.lots) nav sheet.day (schedule_of book p.class))))) (alike.nav p.class counts) base in
+      subst (λ schedule. R left (day_after_trade e (position_less p asked) (redemption_trade trade (nav_of (with_prices sheet prices) p.class) asked (charge_of_pieces (pieces asked p.holding.lots) (nav_of (with_prices sheet prices) p.class) sheet.day schedule))))
       (alike.schedule p.class counts) at_nav
 
   after-redemption : (d e : Day) (order : Order) (asked : ℕ) → order.account ≡ account → C (class_of order.body) → R d e → R (day_after_redemption book sheet d order asked) (day_after_redemption other (with_prices sheet prices) e order asked)
@@ -178,12 +178,12 @@ module _ (book other : Book) (sheet : Sheet) (prices : List (ℕ × ℕ)) (accou
       let fine = found-counts d order.account (class_of order.body) counts in
       let trade = order_trade sheet order TradeKind.Exchange in
       let left = day_after_exchange sheet d order to asked in
-      let base = after-moved d e p t asked trade (nav_of sheet p.class) (carried (nav_of sheet p.class) (nav_of sheet to) (pieces asked p.holding.lots)) (found-account d order.account (class_of order.body) by) fine (found-account d order.account to by) (found-counts d order.account to target) by is in
-      let at_nav = subst (λ nav. R left (exchanged_on e p t asked trade nav (carried nav (nav_of sheet to) (pieces asked p.holding.lots)))) (alike.nav p.class fine) base in
-      let at_both = subst (λ nav. R left (exchanged_on e p t asked trade (nav_of shown p.class) (carried (nav_of shown p.class) nav (pieces asked p.holding.lots)))) (alike.nav to target) at_nav in
-      let from = subst (λ (q : Position). R left (exchanged_on e q t asked trade (nav_of shown q.class) (carried (nav_of shown q.class) (nav_of shown to) (pieces asked q.holding.lots)))) (found-as d e order.account (class_of order.body) by counts is) at_both in
+      let base = after-moved d e p t asked trade (nav_of sheet p.class) (transfer_of (nav_of sheet p.class) (nav_of sheet to) (pieces asked p.holding.lots)) (found-account d order.account (class_of order.body) by) fine (found-account d order.account to by) (found-counts d order.account to target) by is in
+      let at_nav = subst (λ nav. R left (exchanged_on e p t asked trade nav (transfer_of nav (nav_of sheet to) (pieces asked p.holding.lots)))) (alike.nav p.class fine) base in
+      let at_both = subst (λ nav. R left (exchanged_on e p t asked trade (nav_of shown p.class) (transfer_of (nav_of shown p.class) nav (pieces asked p.holding.lots)))) (alike.nav to target) at_nav in
+      let from = subst (λ (q : Position). R left (exchanged_on e q t asked trade (nav_of shown q.class) (transfer_of (nav_of shown q.class) (nav_of shown to) (pieces asked q.holding.lots)))) (found-as d e order.account (class_of order.body) by counts is) at_both in
       let last = position_of e.register order.account (class_of order.body) in
-      subst (λ (u : Position). R left (exchanged_on e last u asked trade (nav_of shown last.class) (carried (nav_of shown last.class) (nav_of shown to) (pieces asked last.holding.lots))))
+      subst (λ (u : Position). R left (exchanged_on e last u asked trade (nav_of shown last.class) (transfer_of (nav_of shown last.class) (nav_of shown to) (pieces asked last.holding.lots))))
       (found-as d e order.account to by target is) from
 
   after-letter : (d e : Day) (order : Order) (amount : ℕ) → order.account ≡ account → C (class_of order.body) → R d e → R (day_after_letter book sheet d order amount) (day_after_letter other (with_prices sheet prices) e order amount)
@@ -194,7 +194,7 @@ module _ (book other : Book) (sheet : Sheet) (prices : List (ℕ × ℕ)) (accou
       let trade = order_trade sheet order TradeKind.Letter in
       let left = day_after_letter book sheet d order amount in
       let start = credit_of book sheet d.register order.account in
-      let begins = λ (q : Position) (credit : ℕ) (front : List Bracket). record q { letter = Some (begun amount sheet.day credit front) } in
+      let begins = λ (q : Position) (credit : ℕ) (front : List Bracket). record q { letter = Some (new_letter amount sheet.day credit front) } in
       let base = unless-why (first_some (when (is_some p.letter) Why.LetterOpen ∷ [])) d e (day_after_trade d (begins p start (front_of book p.class)) (record trade { cash = amount })) (day_after_trade e (begins p start (front_of book p.class)) (record trade { cash = amount })) trade by is
       (after-trade d e (begins p start (front_of book p.class)) (record trade { cash = amount }) (found-account d order.account (class_of order.body) by) fine by is) in
       let at_front = subst (λ front. R left (day_unless_any (when (is_some p.letter) Why.LetterOpen ∷ []) e trade (day_after_trade e (begins p start front) (record trade { cash = amount })))) (alike.front p.class fine) base in
@@ -238,7 +238,7 @@ module _ (book other : Book) (sheet : Sheet) (prices : List (ℕ × ℕ)) (accou
   after-payment d e p pays.Nothing mine counts is = is
   after-payment d e p (pays.Cash cash) mine counts is = alike.traded d e (cash_dividend_trade sheet p cash) mine is
   after-payment d e p (pays.Shares cash mils) mine counts is =
-      let paid = with_holding p (added p.holding sheet.day mils cash true).holding in
+      let paid = with_holding p (shares_added p.holding sheet.day mils cash true).holding in
       subst (λ nav. R (day_after_payment sheet d p (pays.Shares cash mils)) (day_after_trade e paid (record (dividend_trade sheet p cash mils) { price = nav })))
       (alike.nav p.class counts) (after-trade d e paid (dividend_trade sheet p cash mils) mine counts mine is)
 

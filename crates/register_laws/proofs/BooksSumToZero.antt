@@ -24,7 +24,7 @@ use Rattle.fund_calendar.proofs.LookUpLemmas.{list_any-find}
 use Rattle.letter_of_intent.specs.Purchases.{after}
 use Rattle.money_units.specs.Texts.{number}
 use Rattle.share_lots.proofs.LotLemmas.{All-head, All-tail}
-use Rattle.share_lots.specs.Lots.{placed}
+use Rattle.share_lots.specs.Lots.{lots_with}
 use Rattle.register_laws.proofs.BookOrders.{SaidAs, SaysAs, order_said, orders-as}
 use Rattle.register_laws.proofs.CashBalances.{balances_to_zero}
 use Rattle.register_laws.proofs.Choosing.{some_none}
@@ -162,8 +162,8 @@ placed-known journal now caller Source.Direct receipt order there = known-order 
 placed-known journal now caller Source.Dealer receipt order there = known-order journal now caller 3 order there
 
 new-known : (journal : Journal) (now : ℕ) (caller : Caller) (moment : ℕ) (kind : EventKind) → AllThere (things_named (own_at journal now caller) (request_of kind)) → KnownEvent (Known journal) (record { moment = moment; kind = kind })
-new-known journal now caller moment (EventKind.Order placed) there = record {
-  order = placed-known journal now caller placed.source placed.receipt placed.order there;
+new-known journal now caller moment (EventKind.Order lots_with) there = record {
+  order = placed-known journal now caller lots_with.source lots_with.receipt lots_with.order there;
   bearer = tt;
 }
 new-known journal now caller moment (EventKind.Enter form) there = record {
@@ -228,7 +228,7 @@ placed-all P n ns own all =
     (All-filter (λ other. nat_lt other n) P ns all)
     (All-cons P n (filter (λ other. nat_lt n other) ns) own (All-filter (λ other. nat_lt n other) P ns all))
 
-rising-all : (P : ℕ → Type 0) (ordered ns : List ℕ) → All P ordered → All P ns → All P (fold (λ placed n. in_its_place n placed) ordered ns)
+rising-all : (P : ℕ → Type 0) (ordered ns : List ℕ) → All P ordered → All P ns → All P (fold (λ lots_with n. in_its_place n lots_with) ordered ns)
 rising-all P ordered [] done all = done
 rising-all P ordered (n ∷ ns) done all =
     rising-all P (in_its_place n ordered) ns (placed-all P n ordered (All-head P n ns all) done) (All-tail P n ns all)
@@ -327,7 +327,7 @@ no_books table journal event (EventKind.Class form) books e = cc
 no_books table journal event (EventKind.Dealer form) books e = cc
 no_books table journal event (EventKind.Household form) books e = cc
 no_books table journal event (EventKind.Account form) books e = cc
-no_books table journal event (EventKind.Order placed) books e = cc
+no_books table journal event (EventKind.Order lots_with) books e = cc
 no_books table journal event (EventKind.Cancel form) books e = cc
 no_books table journal event (EventKind.Sheet form) books e = cc
 no_books table journal event (EventKind.Dividend form) books e = cc

@@ -10,7 +10,7 @@ use Rattle.agent_events.specs.declared.reply.Reply.{Reply}
 use Rattle.agent_events.specs.declared.request.FixPriceForm.{FixPriceForm}
 use Rattle.forward_price.specs.PriceTables.{Table, with_prices, with_sheets}
 use Rattle.forward_price.specs.declared.price_sheet.Sheet.{Sheet}
-use Rattle.share_lots.specs.Lots.{placed}
+use Rattle.share_lots.specs.Lots.{lots_with}
 use Rattle.register_machine.specs.corrections.Gains.{class_numbers_of, gains_at, gains_between}
 use Rattle.register_machine.specs.journal.Choices.{last_of}
 use Rattle.register_machine.specs.journal.Journals.{Journal, with_event}
@@ -96,7 +96,7 @@ reply-again table journal event = by_kind event.kind
     by_kind (EventKind.Dealer form) = refl
     by_kind (EventKind.Household form) = refl
     by_kind (EventKind.Account form) = refl
-    by_kind (EventKind.Order placed) = refl
+    by_kind (EventKind.Order lots_with) = refl
     by_kind (EventKind.Cancel form) = refl
     by_kind (EventKind.Sheet form) = refl
     by_kind (EventKind.Dividend form) = refl

@@ -13,7 +13,7 @@ use Rattle.agent_events.specs.declared.order.OrderRow.{OrderRow}
 use Rattle.agent_events.specs.declared.request.FixPriceForm.{FixPriceForm}
 use Rattle.agent_events.specs.declared.request.FixRateForm.{FixRateForm}
 use Rattle.forward_price.proofs.PatchFacts.{best-kept}
-use Rattle.forward_price.specs.Choices.{considered, preferred}
+use Rattle.forward_price.specs.Choices.{best_so_far, found_or_better}
 use Rattle.forward_price.specs.PriceTables.{is_before, is_earlier, is_later, price_before, prices_order, sheet_before, with_prices}
 use Rattle.forward_price.specs.Sheets.{lists_all, lists_class, nav_on}
 use Rattle.forward_price.specs.declared.price_sheet.Sheet.{Sheet}
@@ -200,16 +200,16 @@ PassesThere P p None = Unit {0}
 PassesThere P p (Some x) = P x × (p x ≡ true)
 
 -- the best one is one of those that pass
-best-passes : {X : Type 0} (P : X → Type 0) (p : X → Bool) (better : X → X → Bool) (found : Option X) (xs : List X) → All P xs → PassesThere P p found → PassesThere P p (fold (considered p better) found xs)
+best-passes : {X : Type 0} (P : X → Type 0) (p : X → Bool) (better : X → X → Bool) (found : Option X) (xs : List X) → All P xs → PassesThere P p found → PassesThere P p (fold (best_so_far p better) found xs)
 best-passes P p better found [] all fine = fine
 best-passes {X = X} P p better found (x ∷ xs) all fine =
-    best-passes P p better (considered p better found x) xs (All-tail P x xs all) (by (p x) refl found fine)
+    best-passes P p better (best_so_far p better found x) xs (All-tail P x xs all) (by (p x) refl found fine)
   where
     prefer : p x ≡ true → (b : Bool) (y : X) → P y × (p y ≡ true) → PassesThere P p (cond b (Some x) (Some y))
     prefer is true y fine = (All-head P x xs all, is)
     prefer is false y fine = fine
 
-    by : (b : Bool) → p x ≡ b → (found : Option X) → PassesThere P p found → PassesThere P p (cond b (preferred better found x) found)
+    by : (b : Bool) → p x ≡ b → (found : Option X) → PassesThere P p found → PassesThere P p (cond b (found_or_better better found x) found)
     by true is None fine = (All-head P x xs all, is)
     by true is (Some y) fine = prefer is (better x y) y fine
     by false is found fine = fine

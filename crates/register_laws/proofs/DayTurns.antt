@@ -8,17 +8,17 @@ use Rattle.std.specs.Option.{option_map_or}
 use Rattle.std.specs.Prelude.{if◌then◌else◌}
 use Rattle.agent_events.specs.declared.order.Body.{Body}
 use Rattle.agent_events.specs.declared.order.OrderRow.{OrderRow}
-use Rattle.contingent_charge.specs.DeferredCharge.{charged}
-use Rattle.dividend_reinvest.specs.Dividend.{cash_of as cents_paid, mils_of as mils_paid, paid, passes_ceiling, payment}
+use Rattle.contingent_charge.specs.DeferredCharge.{charge_of_pieces}
+use Rattle.dividend_reinvest.specs.Dividend.{cash_of as cents_paid, mils_of as mils_paid, payment_of_cash, passes_ceiling, payment}
 use Rattle.dividend_reinvest.specs.declared.payment.Payment.{Payment}
 use Rattle.forward_price.specs.declared.price_sheet.Sheet.{Sheet}
-use Rattle.fund_exchange.specs.Exchange.{carried}
+use Rattle.fund_exchange.specs.Exchange.{transfer_of}
 use Rattle.fund_exchange.specs.declared.carrying.Carried.{Carried}
-use Rattle.letter_of_intent.specs.Letters.{begun, noted, settlement}
+use Rattle.letter_of_intent.specs.Letters.{new_letter, note_of_purchase, settlement}
 use Rattle.letter_of_intent.specs.declared.letter.Letter.{Letter}
 use Rattle.letter_of_intent.specs.declared.letter.Settlement.{Settlement}
 use Rattle.money_units.specs.Rounding.{half}
-use Rattle.offering_price.specs.Purchase.{divided, mils_bought, offering_price, split_of}
+use Rattle.offering_price.specs.Purchase.{split_at_price, mils_bought, offering_price, split_of}
 use Rattle.offering_price.specs.declared.purchase.Split.{Split}
 use Rattle.register_laws.proofs.Comparisons.{eq-yes, not-zero}
 use Rattle.register_laws.proofs.PositionsInOrder.{put-again}
@@ -38,7 +38,7 @@ use Rattle.agent_events.specs.declared.trade.Trade.{Trade}
 use Rattle.agent_events.specs.declared.trade.TradeKind.{TradeKind}
 use Rattle.agent_events.specs.declared.trade.Why.{Why}
 use Rattle.register_machine.specs.replay.Trades.{Day, day_after_trade, day_unless, day_unless_any, nav_of, order_trade, plain_trade, with_position, with_trade}
-use Rattle.share_lots.specs.Lots.{Holding, added, cost_total, held_total, loose_total, mils, most_cost, most_mils, release_all}
+use Rattle.share_lots.specs.Lots.{Holding, shares_added, cost_total, held_total, loose_total, mils, most_cost, most_mils, release_all}
 use Rattle.share_lots.specs.Taking.{after_paying, pieces}
 use Rattle.dividend_reinvest.specs.declared.payment.Payment.TheVariants as pays
 
@@ -76,7 +76,7 @@ pub record IsSold (register : Register) (row : OrderRow) (asked : ℕ) : Type 0 
 -- what an exchange carries over
 abbrev pub moved_by : Sheet → Register → OrderRow → ℕ → ℕ → Carried
 moved_by sheet register row to asked =
-    let x = position_asked register row in carried (nav_of sheet x.class) (nav_of sheet to) (pieces asked x.holding.lots)
+    let x = position_asked register row in transfer_of (nav_of sheet x.class) (nav_of sheet to) (pieces asked x.holding.lots)
 
 pub record IsExchanged (sheet : Sheet) (register : Register) (row : OrderRow) (to asked : ℕ) : Type 0 where
   pub body : kind_of row.order.body ≡ TradeKind.Exchange
@@ -91,7 +91,7 @@ pub record IsBegun (register : Register) (row : OrderRow) (amount : ℕ) : Type 
 -- the letter is open, and this purchase brings it to its amount or not
 pub record IsNoted (x : Position) (gross : ℕ) (split : Split) (letter : Letter) (reached : Bool) : Type 0 where
   pub open_letter : x.letter ≡ Some letter
-  pub reaches : (noted letter gross split.price split.mils).reached ≡ reached
+  pub reaches : (note_of_purchase letter gross split.price split.mils).reached ≡ reached
 
 -- ---- the turns
 
@@ -112,11 +112,11 @@ pub data Turn (book : Book) (sheet : Sheet) (register : Register) : Type 0 where
 -- ---- the positions that a turn leaves
 
 abbrev pub with_lot_of : Sheet → Position → ℕ → Split → Position
-with_lot_of sheet x gross split = with_holding x (added x.holding sheet.day split.mils gross false).holding
+with_lot_of sheet x gross split = with_holding x (shares_added x.holding sheet.day split.mils gross false).holding
 
 abbrev pub with_note_of : Sheet → Position → ℕ → Split → Letter → Position
 with_note_of sheet x gross split letter =
-    position_after_note x (added x.holding sheet.day split.mils gross false) letter gross split
+    position_after_note x (shares_added x.holding sheet.day split.mils gross false) letter gross split
 
 -- held mils become loose, and there is no letter
 abbrev pub released : Position → Position
@@ -125,7 +125,7 @@ released x = record x { holding = release_all x.holding; letter = None }
 abbrev pub with_letter_begun : Book → Sheet → Register → OrderRow → ℕ → Position
 with_letter_begun book sheet register row amount =
     let x = position_asked register row in
-    record x { letter = Some (begun amount sheet.day (credit_of book sheet register row.order.account) (front_of book x.class)) }
+    record x { letter = Some (new_letter amount sheet.day (credit_of book sheet register row.order.account) (front_of book x.class)) }
 
 abbrev pub settled_by : Book → Sheet → Position → Letter → Settlement
 settled_by book sheet x letter =
@@ -136,7 +136,7 @@ with_letter_ended book sheet x letter =
     record x { holding = release_all (after_paying x.holding (settled_by book sheet x letter).paid); letter = None }
 
 abbrev pub reinvested : Sheet → Position → ℕ → ℕ → Position
-reinvested sheet x cash mils = with_holding x (added x.holding sheet.day mils cash true).holding
+reinvested sheet x cash mils = with_holding x (shares_added x.holding sheet.day mils cash true).holding
 
 abbrev pub with_pieces_of : Sheet → Register → OrderRow → ℕ → ℕ → Position
 with_pieces_of sheet register row to asked =
@@ -175,7 +175,7 @@ abbrev pub sold_by : Book → Sheet → Register → OrderRow → ℕ → Trade
 sold_by book sheet register row asked =
     let x = position_asked register row in
     redemption_trade (order_trade sheet row.order TradeKind.Sell) (nav_of sheet x.class) asked
-    (charged (pieces asked x.holding.lots) (nav_of sheet x.class) sheet.day (schedule_of book x.class))
+    (charge_of_pieces (pieces asked x.holding.lots) (nav_of sheet x.class) sheet.day (schedule_of book x.class))
 
 abbrev pub exchanged_by : Sheet → Register → OrderRow → ℕ → ℕ → Trade
 exchanged_by sheet register row to asked =
@@ -310,7 +310,7 @@ unfilled-turns book sheet day row kind kind_is reasons done filled =
 
 some-mils : (gross nav rate : ℕ) (split : Split) → split_of gross nav rate ≡ Some split → 1 ≤ split.mils
 some-mils gross nav rate split e =
-    elim (mils_bought gross (offering_price nav rate) == 0) as (λ b. (mils_bought gross (offering_price nav rate) == 0) ≡ b → cond b None (Some (divided gross nav rate (offering_price nav rate))) ≡ Some split → 1 ≤ split.mils) [
+    elim (mils_bought gross (offering_price nav rate) == 0) as (λ b. (mils_bought gross (offering_price nav rate) == 0) ≡ b → cond b None (Some (split_at_price gross nav rate (offering_price nav rate))) ≡ Some split → 1 ≤ split.mils) [
       | true ↦ λ t h. absurd (none_some h)
       | false ↦ λ t h. let same = ap (λ o. option_map_or (λ (s : Split). s.mils) o 0) h in omega (arith, same, not-zero (mils_bought gross (offering_price nav rate)) t)
     ] refl e
@@ -318,13 +318,13 @@ some-mils gross nav rate split e =
     none_some : None ≡ Some split → ⊥
     none_some h = cc
 
-lot-turns : (book : Book) (sheet : Sheet) (day : Day) (row : OrderRow) (gross : ℕ) (split : Split) → IsBought book sheet day.register row gross split → (letter : Option Letter) → (position_asked day.register row).letter ≡ letter → OrderTurns book sheet day row (day_with_lot sheet day (position_asked day.register row) (added (position_asked day.register row).holding sheet.day split.mils gross false) letter gross split (bought_by sheet row gross split))
+lot-turns : (book : Book) (sheet : Sheet) (day : Day) (row : OrderRow) (gross : ℕ) (split : Split) → IsBought book sheet day.register row gross split → (letter : Option Letter) → (position_asked day.register row).letter ≡ letter → OrderTurns book sheet day row (day_with_lot sheet day (position_asked day.register row) (shares_added (position_asked day.register row).holding sheet.day split.mils gross false) letter gross split (bought_by sheet row gross split))
 lot-turns book sheet day row gross split is None none_open =
     record { turn = Turn.Bought row gross split is none_open; rows = refl; keys = refl; is = refl }
 lot-turns book sheet day row gross split is (Some letter) opened =
-    by (noted letter gross split.price split.mils).reached refl
+    by (note_of_purchase letter gross split.price split.mils).reached refl
   where
-    by : (reached : Bool) → (noted letter gross split.price split.mils).reached ≡ reached → OrderTurns book sheet day row (day_if_reached reached sheet (with_note_of sheet (position_asked day.register row) gross split letter) (day_after_trade day (with_note_of sheet (position_asked day.register row) gross split letter) (bought_by sheet row gross split)))
+    by : (reached : Bool) → (note_of_purchase letter gross split.price split.mils).reached ≡ reached → OrderTurns book sheet day row (day_if_reached reached sheet (with_note_of sheet (position_asked day.register row) gross split letter) (day_after_trade day (with_note_of sheet (position_asked day.register row) gross split letter) (bought_by sheet row gross split)))
     by false so =
         record { turn = Turn.Noted row gross split letter is (record { open_letter = opened; reaches = so }); rows = refl; keys = refl; is = refl }
     by true so = record {
@@ -349,7 +349,7 @@ split-turns book sheet day row gross body (Some split) divided =
     let x = position_asked day.register row in
     let full = not (has_room x.holding split.mils gross) in
     unfilled-turns book sheet day row TradeKind.Buy (ap kind_of body) (when full Why.Ceiling ∷ [])
-    (day_with_lot sheet day x (added x.holding sheet.day split.mils gross false) x.letter gross split (bought_by sheet row gross split))
+    (day_with_lot sheet day x (shares_added x.holding sheet.day split.mils gross false) x.letter gross split (bought_by sheet row gross split))
     (λ e. let fits = fits-parts x.holding split.mils gross (clear-when full Why.Ceiling (clear-first (when full Why.Ceiling) [] e).0) in
     lot-turns book sheet day row gross split
     (record {
@@ -471,7 +471,7 @@ unfolding FitsRoom
 fits-room quantity rate nav in_cash room cost_room =
     let cash = cents_paid quantity rate in
     let bought_mils = mils_paid cash nav in
-    elim (cash == 0) as (λ b. (cash == 0) ≡ b → FitsRoom room cost_room (cond b pays.Nothing (paid in_cash cash bought_mils room cost_room))) [
+    elim (cash == 0) as (λ b. (cash == 0) ≡ b → FitsRoom room cost_room (cond b pays.Nothing (payment_of_cash in_cash cash bought_mils room cost_room))) [
       | true ↦ λ t. tt
       | false ↦ λ t. elim (in_cash || bought_mils == 0 || passes_ceiling bought_mils cash room cost_room) as (λ b. (in_cash || bought_mils == 0 || passes_ceiling bought_mils cash room cost_room) ≡ b → FitsRoom room cost_room (cond b (pays.Cash cash) (pays.Shares cash bought_mils))) [
         | true ↦ λ e. tt

@@ -8,7 +8,7 @@ use Rattle.std.proofs.lemmas.List.Sums.{length-filter, sum_by-cons, sum_by-le, s
 use Rattle.std.specs.Option.{option_map_or}
 use Rattle.agent_events.specs.declared.request.AccountForm.{AccountForm}
 use Rattle.agent_events.specs.declared.request.ClassForm.{ClassForm}
-use Rattle.forward_price.specs.Choices.{considered, preferred}
+use Rattle.forward_price.specs.Choices.{best_so_far, found_or_better}
 use Rattle.forward_price.specs.PriceTables.{is_before, is_later, price_before, sheet_before}
 use Rattle.forward_price.specs.Sheets.{nav_on}
 use Rattle.forward_price.specs.declared.price_sheet.Sheet.{Sheet}
@@ -64,14 +64,14 @@ found-summed {X = X} f p (x ∷ xs) =
     more (Some y) is = omega (arith, is, sum_by-cons f x xs)
 
 -- the best of a list is one of it
-pub best-as : {X : Type 0} (P : X → Type 0) (passes : X → Bool) (better : X → X → Bool) (found : Option X) (xs : List X) → FoundAs P found → All P xs → FoundAs P (fold (considered passes better) found xs)
+pub best-as : {X : Type 0} (P : X → Type 0) (passes : X → Bool) (better : X → X → Bool) (found : Option X) (xs : List X) → FoundAs P found → All P xs → FoundAs P (fold (best_so_far passes better) found xs)
 best-as P passes better found [] is all = is
 best-as {X = X} P passes better found (x ∷ xs) is all =
-    best-as P passes better (considered passes better found x) xs
-    (elim (passes x) as (λ b. FoundAs P (cond b (preferred better found x) found)) [ true ↦ either found is | false ↦ is ])
+    best-as P passes better (best_so_far passes better found x) xs
+    (elim (passes x) as (λ b. FoundAs P (cond b (found_or_better better found x) found)) [ true ↦ either found is | false ↦ is ])
     (All-tail P x xs all)
   where
-    either : (found : Option X) → FoundAs P found → FoundAs P (preferred better found x)
+    either : (found : Option X) → FoundAs P found → FoundAs P (found_or_better better found x)
     either None is = All-head P x xs all
     either (Some y) is = elim (better x y) as (λ b. FoundAs P (cond b (Some x) (Some y))) [
       | true ↦ All-head P x xs all

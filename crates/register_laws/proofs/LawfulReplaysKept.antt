@@ -8,7 +8,7 @@ use Rattle.agent_events.specs.declared.event.EventKind.{EventKind}
 use Rattle.agent_events.specs.declared.request.ClassForm.{ClassForm}
 use Rattle.agent_events.specs.declared.request.FixPriceForm.{FixPriceForm}
 use Rattle.class_terms.specs.Tables.{deferred_fault, front_fault}
-use Rattle.forward_price.specs.PriceTables.{Table, published}
+use Rattle.forward_price.specs.PriceTables.{Table, sheet_published}
 use Rattle.forward_price.specs.declared.price_sheet.Sheet.{Sheet}
 use Rattle.register_laws.proofs.BookOrders.{SaidAs, SaysAs, order_said, orders-as}
 use Rattle.register_laws.proofs.FitsRows.{classes_have_good_loads}
@@ -69,7 +69,7 @@ FixInRange form = form.nav ≤ most_nav
 -- the sheets of a table
 table-ranges : (table : Table) (moment : ℕ) (kind : EventKind) → SaysInRange kind → All SheetInRange table.sheets → All SheetInRange (table_by table moment kind).sheets
 table-ranges table moment (EventKind.Sheet form) says all =
-    All-push SheetInRange table.sheets (published table form.calendar (pos form.moment) form.prices) all says
+    All-push SheetInRange table.sheets (sheet_published table form.calendar (pos form.moment) form.prices) all says
 table-ranges table moment kind says all = all
 
 tables-range : (table : Table) (events : Journal) → All EventInRange events → All SheetInRange table.sheets → All SheetInRange (fold table_after table events).sheets

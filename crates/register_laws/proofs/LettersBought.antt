@@ -25,7 +25,7 @@ use Rattle.agent_events.specs.declared.trade.Outcome.{Outcome}
 use Rattle.agent_events.specs.declared.trade.Trade.{Trade}
 use Rattle.agent_events.specs.declared.trade.TradeKind.{TradeKind}
 use Rattle.register_machine.specs.replay.Trades.{Day, order_trade}
-use Rattle.share_lots.specs.Lots.{added, mils}
+use Rattle.share_lots.specs.Lots.{shares_added, mils}
 
 -- the trades of a turn are quiet for a place: no gross of it, and no letter of it begins or ends
 record IsQuiet (account class : ℕ) (trade : Trade) : Type 0 where
@@ -33,20 +33,20 @@ record IsQuiet (account class : ℕ) (trade : Trade) : Type 0 where
   pub no_turn : turns_letter_in account class trade ≡ false
 
 -- where trades are quiet, what was bought stays so
-bought-more : (trades added : List Trade) (account class : ℕ) (letter : Option Letter) → All (IsQuiet account class) added → IsBoughtWhereOpen trades account class letter → IsBoughtWhereOpen (trades ++ added) account class letter
-bought-more trades added account class None quiet is = tt
-bought-more trades added account class (Some letter) quiet is = record {
+bought-more : (trades shares_added : List Trade) (account class : ℕ) (letter : Option Letter) → All (IsQuiet account class) shares_added → IsBoughtWhereOpen trades account class letter → IsBoughtWhereOpen (trades ++ shares_added) account class letter
+bought-more trades shares_added account class None quiet is = tt
+bought-more trades shares_added account class (Some letter) quiet is = record {
   earlier = is.earlier;
   begun = is.begun;
-  later = is.later ++ added;
-  all = ap (λ ts. ts ++ added) is.all ∙ append_assoc is.earlier (is.begun ∷ is.later) added;
+  later = is.later ++ shares_added;
+  all = ap (λ ts. ts ++ shares_added) is.all ∙ append_assoc is.earlier (is.begun ∷ is.later) shares_added;
   of_place = is.of_place;
   kind = is.kind;
   filled = is.filled;
   amount = is.amount;
   day = is.day;
-  open_since = All-append (λ trade. turns_letter_in account class trade ≡ false) is.later added is.open_since (λ k d short. (quiet k d short).no_turn);
-  bought = omega (arith, is.bought, sum_by-append (gross_in account class) is.later added, none added quiet);
+  open_since = All-append (λ trade. turns_letter_in account class trade ≡ false) is.later shares_added is.open_since (λ k d short. (quiet k d short).no_turn);
+  bought = omega (arith, is.bought, sum_by-append (gross_in account class) is.later shares_added, none shares_added quiet);
 }
   where
     none : (ts : List Trade) → All (IsQuiet account class) ts → sum_by (gross_in account class) ts ≡ 0
@@ -123,11 +123,11 @@ put-others P Q p register others here all =
     ] refl
 
 -- one position with trades in its place
-one-bought : (trades added : List Trade) (p : Position) (register : Register) → All (IsThere p) added → IsBoughtIn (trades ++ added) p → All (IsBoughtIn trades) register → All (IsBoughtIn (trades ++ added)) (put p register)
-one-bought trades added p register there here all =
-    put-others (IsBoughtIn trades) (IsBoughtIn (trades ++ added)) p register
-    (λ x away is. bought-more trades added x.account x.class x.letter
-    (λ k d short. quiet-elsewhere x.account x.class (get_or added k d) (not-there p x (get_or added k d) (there k d short) away)) is)
+one-bought : (trades shares_added : List Trade) (p : Position) (register : Register) → All (IsThere p) shares_added → IsBoughtIn (trades ++ shares_added) p → All (IsBoughtIn trades) register → All (IsBoughtIn (trades ++ shares_added)) (put p register)
+one-bought trades shares_added p register there here all =
+    put-others (IsBoughtIn trades) (IsBoughtIn (trades ++ shares_added)) p register
+    (λ x away is. bought-more trades shares_added x.account x.class x.letter
+    (λ k d short. quiet-elsewhere x.account x.class (get_or shares_added k d) (not-there p x (get_or shares_added k d) (there k d short) away)) is)
     here all
 
 -- a position whose letter stays, with a trade that is quiet everywhere

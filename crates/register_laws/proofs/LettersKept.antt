@@ -7,9 +7,9 @@ use Rattle.std.specs.Option.{option_map_or}
 use Rattle.agent_events.specs.declared.order.Body.{Body}
 use Rattle.agent_events.specs.declared.order.OrderRow.{OrderRow}
 use Rattle.agent_events.specs.declared.request.ClassForm.{ClassForm}
-use Rattle.forward_price.specs.PriceTables.{published}
+use Rattle.forward_price.specs.PriceTables.{sheet_published}
 use Rattle.forward_price.specs.declared.price_sheet.Sheet.{Sheet}
-use Rattle.letter_of_intent.specs.Letters.{IsLetter, after_purchase, begun, noted}
+use Rattle.letter_of_intent.specs.Letters.{IsLetter, after_purchase, new_letter, note_of_purchase}
 use Rattle.letter_of_intent.specs.declared.letter.Letter.{Letter}
 use Rattle.money_units.proofs.RoundingFacts.{ceil-le}
 use Rattle.offering_price.proofs.RateFacts.{bracket-ceiling}
@@ -39,7 +39,7 @@ looked_up-letter : (register : Register) (a c : ℕ) → All LetterOf register �
 looked_up-letter register a c all = found-of LetterOf (is_position a c) (fresh_position a c) tt register all
 
 -- a noted purchase that doesn't reach the amount
-noted-letter : (letter : Letter) (gross price mils : ℕ) → (noted letter gross price mils).reached ≡ false → IsLetter letter → IsLetter (after_purchase letter gross price mils)
+noted-letter : (letter : Letter) (gross price mils : ℕ) → (note_of_purchase letter gross price mils).reached ≡ false → IsLetter letter → IsLetter (after_purchase letter gross price mils)
 noted-letter letter gross price mils short is = record {
   some_amount = is.some_amount;
   amount = is.amount;
@@ -67,7 +67,7 @@ rate-low book class amount terms =
 abbrev Limits : Book → Type 0
 Limits book = IsWithinLimits book × All SheetInRange book.table.sheets
 
-begun-letter : (book : Book) (sheet : Sheet) (register : Register) (row : OrderRow) (amount : ℕ) → row.order.body ≡ Body.Letter (class_of row.order.body) amount → Limits book → RowInRange row → RegisterStands register → IsLetter (begun amount sheet.day (credit_of book sheet register row.order.account) (front_of book (position_asked register row).class))
+begun-letter : (book : Book) (sheet : Sheet) (register : Register) (row : OrderRow) (amount : ℕ) → row.order.body ≡ Body.Letter (class_of row.order.body) amount → Limits book → RowInRange row → RegisterStands register → IsLetter (new_letter amount sheet.day (credit_of book sheet register row.order.account) (front_of book (position_asked register row).class))
 begun-letter book sheet register row amount body within asks stand =
     let limits : AsksInRange (Body.Letter (class_of row.order.body) amount) = subst AsksInRange body asks in
     record {
@@ -107,7 +107,7 @@ letters-of book sheet register (Turn.Ended key letter is) within asks stand kept
     All-one LetterOf (with_letter_ended book sheet (position_at register key) letter) tt
 
 letters-kept : (book : Book) → Limits book → KeptBeside book (λ sheet. RowInRange) (λ done day. All LetterOf day.register)
-letters-kept book within sheet done day turn published asks stand kept =
+letters-kept book within sheet done day turn sheet_published asks stand kept =
     all_put-all LetterOf (positions_put book sheet day.register turn) day.register (letters-of book sheet day.register turn within asks stand kept) kept
 
 pub keeps_letters : (book : Book) → OrderlyKeepsLetters book

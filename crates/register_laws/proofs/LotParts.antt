@@ -4,12 +4,12 @@ use Rattle.std.proofs.Common.{All, Bool, List, None, Some, [], arith, cond, coun
 use Rattle.std.proofs.lemmas.Bool.{cases_lt, eqb-true}
 use Rattle.std.proofs.lemmas.List.Elements.{All-head, All-tail}
 use Rattle.std.proofs.lemmas.List.Sums.{sum_by-append, sum_by-cons}
-use Rattle.fund_exchange.specs.Exchange.{carried, has_mils as carries_mils, renewed, renewed_all, renewed_behind}
+use Rattle.fund_exchange.specs.Exchange.{transfer_of, has_mils as carries_mils, with_new_mils, renewed_all, renewed_behind}
 use Rattle.register_laws.proofs.Comparisons.{lt-yes}
 use Rattle.register_laws.proofs.LotTotals.{free_of, frees, join-frees}
 use Rattle.register_machine.specs.replay.Exchange.{holding_with_piece}
 use Rattle.share_lots.proofs.LotLemmas.{sum-placed, sum_by-filter-le}
-use Rattle.share_lots.specs.Lots.{Holding, added, added_to, hold_in, hold_mils, join_free, mils, new_lot, release_all, release_lot, with_lot}
+use Rattle.share_lots.specs.Lots.{Holding, shares_added, added_to, hold_in, hold_mils, join_free, mils, new_lot, release_all, release_lot, with_lot}
 use Rattle.share_lots.specs.Taking.{after_paying, after_taking, has_mils, lot_less, lot_paying, lots_less, piece_of, pieces, pieces_of}
 use Rattle.share_lots.specs.declared.lot.Lot.{Lot}
 use Rattle.share_lots.specs.declared.lot.Piece.{Piece}
@@ -98,9 +98,9 @@ taken-parts h asked =
 renewed-owned : (from to before : ℕ) (given : List Piece) → owned (renewed_behind from to before given) ≡ owned given
 renewed-owned from to before [] = refl
 renewed-owned from to before (piece ∷ given) =
-    omega (arith, renewed-owned from to (before + piece.mils) given, sum_by-cons owned_of piece given, sum_by-cons owned_of (renewed from to before piece) (renewed_behind from to (before + piece.mils) given))
+    omega (arith, renewed-owned from to (before + piece.mils) given, sum_by-cons owned_of piece given, sum_by-cons owned_of (with_new_mils from to before piece) (renewed_behind from to (before + piece.mils) given))
 
-pub carried-owned : (from to : ℕ) (given : List Piece) → owned (carried from to given).pieces ≤ owned given
+pub carried-owned : (from to : ℕ) (given : List Piece) → owned (transfer_of from to given).pieces ≤ owned given
 carried-owned from to given =
     omega (arith, sum_by-filter-le owned_of carries_mils (renewed_all from to given), renewed-owned from to 0 given)
 
@@ -122,7 +122,7 @@ join-parts quantity cents (x ∷ xs) =
       | false ↦ λ e. refl
     ] refl
 
-pub added-grows : (h : Holding) (day quantity cents : ℕ) (free : Bool) → Grows h (added h day quantity cents free).holding (cond free 0 1)
+pub added-grows : (h : Holding) (day quantity cents : ℕ) (free : Bool) → Grows h (shares_added h day quantity cents free).holding (cond free 0 1)
 added-grows h day quantity cents false =
     let lot = new_lot h day quantity cents false in
     record {
@@ -179,7 +179,7 @@ none-numbered next (x ∷ xs) all =
     ] refl
 
 -- of a new lot some mils are held back
-pub bought-parts : (h : Holding) (day quantity cents hold : ℕ) → All (λ (lot : Lot). lot.number < h.next_lot) h.lots → parts (hold_mils (added h day quantity cents false).holding (added h day quantity cents false).number hold).lots ≤ parts h.lots + 2
+pub bought-parts : (h : Holding) (day quantity cents hold : ℕ) → All (λ (lot : Lot). lot.number < h.next_lot) h.lots → parts (hold_mils (shares_added h day quantity cents false).holding (shares_added h day quantity cents false).number hold).lots ≤ parts h.lots + 2
 bought-parts h day quantity cents hold below =
     let lot = new_lot h day quantity cents false in
     omega (arith, hold-parts h.next_lot hold (with_lot h lot).lots, sum-placed (with_number h.next_lot) lot h.lots, with_number-le h.next_lot lot, none-numbered h.next_lot h.lots below, (added-grows h day quantity cents false).parts_le)

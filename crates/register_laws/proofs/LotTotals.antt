@@ -10,7 +10,7 @@ use Rattle.share_lots.proofs.KeptLemmas.{hold-keeps_mils, pieces-whole, release-
 use Rattle.share_lots.proofs.LotLemmas.{All-placed, IsHolding-joined, IsHolding-release, IsHolding-with_lot, lone_free, owned_behind, sum-mils, sum-placed, sum_by-filter-le}
 use Rattle.share_lots.proofs.PaidLemmas.{paying-keeps_loose, paying-whole}
 use Rattle.share_lots.proofs.PayingLemmas.{IsHolding-paying}
-use Rattle.share_lots.specs.Lots.{AreRanked, HasLoose, Holding, IsHolding, added, added_to, cost_total, held_total, hold_in, hold_mils, join_free, loose_total, most_cost, most_mils, new_lot, release_all, release_lot, with_lot}
+use Rattle.share_lots.specs.Lots.{AreRanked, HasLoose, Holding, IsHolding, shares_added, added_to, cost_total, held_total, hold_in, hold_mils, join_free, loose_total, most_cost, most_mils, new_lot, release_all, release_lot, with_lot}
 use Rattle.share_lots.specs.Taking.{after_paying, after_taking, has_mils, lot_less, lots_less}
 use Rattle.share_lots.specs.declared.lot.Lot.{Lot}
 use Rattle.share_lots.specs.declared.lot.Piece.{Piece}
@@ -104,7 +104,7 @@ pub record Grown (before after : Holding) (quantity cents : ℕ) : Type 0 where
   pub dear : cost_total after ≤ cost_total before + cents
   pub held : held_total after ≡ held_total before
 
-pub added-grown : (h : Holding) (day quantity cents : ℕ) (free : Bool) → IsHolding h → 1 ≤ quantity → mils_of h + quantity ≤ most_mils → cost_total h + cents ≤ most_cost → Grown h (added h day quantity cents free).holding quantity cents
+pub added-grown : (h : Holding) (day quantity cents : ℕ) (free : Bool) → IsHolding h → 1 ≤ quantity → mils_of h + quantity ≤ most_mils → cost_total h + cents ≤ most_cost → Grown h (shares_added h day quantity cents free).holding quantity cents
 added-grown h day quantity cents false is some fits cost =
     let lot = new_lot h day quantity cents false in
     record {
@@ -171,7 +171,7 @@ hold-mils h number quantity has =
     omega (arith, sum-mils h.lots, sum-mils (map (hold_in number quantity) h.lots), hold-keeps_mils number quantity h.lots has)
 
 -- the new lot of a purchase has its mils loose
-pub new-loose : (h : Holding) (day quantity cents hold : ℕ) → IsHolding h → hold ≤ quantity → HasLoose (added h day quantity cents false).holding.lots (added h day quantity cents false).number hold
+pub new-loose : (h : Holding) (day quantity cents hold : ℕ) → IsHolding h → hold ≤ quantity → HasLoose (shares_added h day quantity cents false).holding.lots (shares_added h day quantity cents false).number hold
 new-loose h day quantity cents hold is le =
     All-placed (λ l. l.number ≡ h.next_lot → hold ≤ l.loose) (new_lot h day quantity cents false) h.lots (λ e. le)
     (λ k d short e. let below = is.below_next k d short in absurd (omega (arith, below, e)))

@@ -3,10 +3,10 @@ use Rattle.std.proofs.Common.{All, Bool, List, Some, [], ap, arith, cond, count_
 use Rattle.std.proofs.lemmas.List.Elements.{All-head, All-nil}
 use Rattle.std.proofs.lemmas.List.Sums.{sum_by-append, sum_by-cons, sum_by-take-le}
 use Rattle.agent_events.specs.declared.order.OrderRow.{OrderRow}
-use Rattle.forward_price.specs.PriceTables.{published}
+use Rattle.forward_price.specs.PriceTables.{sheet_published}
 use Rattle.forward_price.specs.declared.price_sheet.Sheet.{Sheet}
-use Rattle.fund_exchange.specs.Exchange.{carried}
-use Rattle.letter_of_intent.specs.Letters.{noted}
+use Rattle.fund_exchange.specs.Exchange.{transfer_of}
+use Rattle.letter_of_intent.specs.Letters.{note_of_purchase}
 use Rattle.letter_of_intent.specs.declared.letter.Letter.{Letter}
 use Rattle.offering_price.specs.declared.purchase.Split.{Split}
 use Rattle.register_laws.proofs.AccountParts.{Costs, Counted, Passes, Rises, Within, counted-more, lettered, looked_up-owns, looked_up-within, put-both, put-more, put-same}
@@ -31,7 +31,7 @@ use Rattle.register_machine.specs.replay.Redemption.{position_less}
 use Rattle.register_machine.specs.replay.Replay.{Priced, orders_on, priced_in, priced_orders, replay_to}
 use Rattle.register_machine.specs.replay.Trades.{nav_of}
 use Rattle.register_machine.specs.rules.Limits.{most_orders}
-use Rattle.share_lots.specs.Lots.{added, mils}
+use Rattle.share_lots.specs.Lots.{shares_added, mils}
 use Rattle.share_lots.specs.Taking.{pieces}
 
 -- so many orders an account has had
@@ -60,10 +60,10 @@ key-counted n register key p costs stand counted =
     put-same n register (position_at register key) p costs (looked_up-owns register key.account key.class stand.in_order)
     (looked_up-within n register key.account key.class counted.within) counted
 
-noted-costs : (x : Position) (day gross : ℕ) (split : Split) (letter : Letter) → x.letter ≡ Some letter → Stands x → Costs x (position_after_note x (added x.holding day split.mils gross false) letter gross split) 1 2
+noted-costs : (x : Position) (day gross : ℕ) (split : Split) (letter : Letter) → x.letter ≡ Some letter → Stands x → Costs x (position_after_note x (shares_added x.holding day split.mils gross false) letter gross split) 1 2
 noted-costs x day gross split letter is stand =
-    let lot = added x.holding day split.mils gross false in
-    let hold = (noted letter gross split.price split.mils).hold in
+    let lot = shares_added x.holding day split.mils gross false in
+    let hold = (note_of_purchase letter gross split.price split.mils).hold in
     let grows = added-grows x.holding day split.mils gross false in
     let open_letter : lettered x.letter ≡ 1 = ap lettered is in
     record {
@@ -82,10 +82,10 @@ taken-costs x asked stand = record {
 }
 
 -- an exchange moves parts from one position to another of the account
-exchange-passes : (x t : Position) (asked from to : ℕ) → Stands x → t.account ≡ x.account → (x.class ≡ t.class → ⊥) → Passes x (position_less x asked) t (position_with_pieces t (carried from to (pieces asked x.holding.lots)).pieces)
+exchange-passes : (x t : Position) (asked from to : ℕ) → Stands x → t.account ≡ x.account → (x.class ≡ t.class → ⊥) → Passes x (position_less x asked) t (position_with_pieces t (transfer_of from to (pieces asked x.holding.lots)).pieces)
 exchange-passes x t asked from to stand same apart =
     let given = pieces asked x.holding.lots in
-    let grows = pieces-grows (carried from to given).pieces t.holding in
+    let grows = pieces-grows (transfer_of from to given).pieces t.holding in
     let less = taken-parts x.holding asked in
     let brought = carried-owned from to given in
     record {
@@ -172,7 +172,7 @@ turn-counted book sheet register done (Turn.Ended key letter is) leave stand cou
     }) stand counted
 
 counted-kept : (book : Book) → KeptBeside book (λ sheet. LeavesItsClass) (λ done day. Counted (had done) day.register)
-counted-kept book sheet done day turn published leave stand counted =
+counted-kept book sheet done day turn sheet_published leave stand counted =
     turn-counted book sheet day.register done turn leave stand counted
 
 -- ---- the orders that sheets execute

@@ -17,7 +17,7 @@ use Rattle.agent_events.specs.declared.request.CloseForm.{CloseForm}
 use Rattle.agent_events.specs.declared.request.FixPriceForm.{FixPriceForm}
 use Rattle.agent_events.specs.declared.request.Request.{Request}
 use Rattle.forward_price.proofs.TurnFacts.{expected_best}
-use Rattle.forward_price.specs.PriceTables.{Table, calendar_numbered, closed_in, is_priced_day, is_sheet_at, published, without_day_of}
+use Rattle.forward_price.specs.PriceTables.{Table, calendar_numbered, closed_in, is_priced_day, is_sheet_at, sheet_published, without_day_of}
 use Rattle.forward_price.specs.Turns.{expected_of, fault_of, is_offered_at, is_pair, list_fault, wrong_class}
 use Rattle.forward_price.specs.declared.price_sheet.Sheet.{Sheet}
 use Rattle.fund_calendar.proofs.LookUpLemmas.{list_any-find}
@@ -158,7 +158,7 @@ equal-signed a b =
 
 sheet-step : (calendar at : ℕ) (table : Table) (moment : ℕ) (kind : EventKind) → sees_sheet calendar at (table_by table moment kind) ≡ (sees_sheet calendar at table || option_map_or (publishes calendar at) (sheet_in kind) false)
 sheet-step calendar at table moment (EventKind.Sheet form) =
-    any-more (is_sheet_at calendar (pos at)) table.sheets (published table form.calendar (pos form.moment) form.prices)
+    any-more (is_sheet_at calendar (pos at)) table.sheets (sheet_published table form.calendar (pos form.moment) form.prices)
     ∙ ap (λ b. sees_sheet calendar at table || (form.calendar == calendar && b)) (equal-signed form.moment at)
 sheet-step calendar at table moment _ = sym (or-false (sees_sheet calendar at table))
 

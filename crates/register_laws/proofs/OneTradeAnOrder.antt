@@ -14,18 +14,18 @@ use Rattle.agent_events.specs.declared.event.Source.{Source}
 use Rattle.agent_events.specs.declared.order.Order.{Order}
 use Rattle.agent_events.specs.declared.order.OrderRow.{OrderRow}
 use Rattle.agent_events.specs.declared.request.EntryForm.{EntryForm}
-use Rattle.contingent_charge.specs.DeferredCharge.{charged}
+use Rattle.contingent_charge.specs.DeferredCharge.{charge_of_pieces}
 use Rattle.dividend_reinvest.specs.declared.payment.Payment.{Payment}
 use Rattle.forward_price.proofs.PricingFacts.{next_sheet-next}
 use Rattle.forward_price.specs.PriceTables.{AreNumbered}
 use Rattle.forward_price.specs.declared.price_sheet.Sheet.{Sheet}
-use Rattle.fund_exchange.specs.Exchange.{carried}
-use Rattle.letter_of_intent.specs.Letters.{begun, noted, settlement}
+use Rattle.fund_exchange.specs.Exchange.{transfer_of}
+use Rattle.letter_of_intent.specs.Letters.{new_letter, note_of_purchase, settlement}
 use Rattle.letter_of_intent.specs.declared.letter.Letter.{Letter}
 use Rattle.money_units.specs.Rounding.{half}
 use Rattle.offering_price.specs.Purchase.{split_of}
 use Rattle.offering_price.specs.declared.purchase.Split.{Split}
-use Rattle.share_lots.specs.Lots.{Added, added, held_total}
+use Rattle.share_lots.specs.Lots.{Added, shares_added, held_total}
 use Rattle.share_lots.specs.Taking.{pieces}
 use Rattle.register_laws.proofs.NoIdentityTwice.{no_reference_twice}
 use Rattle.register_laws.proofs.TablesAreOrderly.{numbered}
@@ -167,7 +167,7 @@ lot-marks : (p : Trade → Bool) (q : ℕ → ℕ → Bool) → Tells p q → (s
 lot-marks p q tells sheet order day position more None gross split trade is =
     its-mark p q tells sheet order day.trades trade is
 lot-marks p q tells sheet order day position more (Some letter) gross split trade is =
-    by_reached (noted letter gross split.price split.mils).reached
+    by_reached (note_of_purchase letter gross split.price split.mils).reached
   where
     kept : Position
     kept = position_after_note position more letter gross split
@@ -184,7 +184,7 @@ split-marks p q tells sheet order day position gross None trade is =
     (record { register = []; trades = day.trades ++ trade ∷ [] }) is
     (its-mark p q tells sheet order day.trades trade is)
 split-marks p q tells sheet order day position gross (Some split) trade is =
-    let more = added position.holding sheet.day split.mils gross false in
+    let more = shares_added position.holding sheet.day split.mils gross false in
     let bought = purchase_trade trade gross split in
     unless-marks p q tells sheet order (first_some (when (not (has_room position.holding split.mils gross)) Why.Ceiling ∷ [])) day trade
     (day_with_lot sheet day position more position.letter gross split bought) is
@@ -198,7 +198,7 @@ redemption-marks p q tells book sheet day order e asked =
     let sold = day_after_sale book sheet day position asked trade in
     unless-marks p q tells sheet order (first_some (short_of position.holding asked ∷ [])) day trade sold
     (order-trade-is sheet order TradeKind.Sell e)
-    (its-mark p q tells sheet order day.trades (redemption_trade trade (nav_of sheet position.class) asked (charged (pieces asked position.holding.lots) (nav_of sheet position.class) sheet.day (schedule_of book position.class)))
+    (its-mark p q tells sheet order day.trades (redemption_trade trade (nav_of sheet position.class) asked (charge_of_pieces (pieces asked position.holding.lots) (nav_of sheet position.class) sheet.day (schedule_of book position.class)))
     (let is = order-trade-is sheet order TradeKind.Sell e in record { kind = is.kind; says = is.says }))
 
 redemption_for-marks : (p : Trade → Bool) (q : ℕ → ℕ → Bool) → Tells p q → (book : Book) (sheet : Sheet) (day : Day) (order : Order) → TradeKind.Sell ≡ kind_of order.body → (amount : ℕ) → Marks p q sheet order day (day_after_redemption_for book sheet day order amount)
@@ -209,7 +209,7 @@ redemption_for-marks p q tells book sheet day order e amount =
     let sold = day_after_sale book sheet day position asked trade in
     unless-marks p q tells sheet order (first_some (when (asked == 0) Why.TooSmall ∷ short_of position.holding asked ∷ [])) day trade sold
     (order-trade-is sheet order TradeKind.Sell e)
-    (its-mark p q tells sheet order day.trades (redemption_trade trade (nav_of sheet position.class) asked (charged (pieces asked position.holding.lots) (nav_of sheet position.class) sheet.day (schedule_of book position.class)))
+    (its-mark p q tells sheet order day.trades (redemption_trade trade (nav_of sheet position.class) asked (charge_of_pieces (pieces asked position.holding.lots) (nav_of sheet position.class) sheet.day (schedule_of book position.class)))
     (let is = order-trade-is sheet order TradeKind.Sell e in record { kind = is.kind; says = is.says }))
 
 exchange-marks : (p : Trade → Bool) (q : ℕ → ℕ → Bool) → Tells p q → (sheet : Sheet) (day : Day) (order : Order) → TradeKind.Exchange ≡ kind_of order.body → (to asked : ℕ) → Marks p q sheet order day (day_after_exchange sheet day order to asked)
@@ -217,7 +217,7 @@ exchange-marks p q tells sheet day order e to asked =
     let position = position_of day.register order.account (class_of order.body) in
     let target = position_of day.register order.account to in
     let nav = nav_of sheet position.class in
-    let moved = carried nav (nav_of sheet to) (pieces asked position.holding.lots) in
+    let moved = transfer_of nav (nav_of sheet to) (pieces asked position.holding.lots) in
     let trade = order_trade sheet order TradeKind.Exchange in
     unless-marks p q tells sheet order (first_some (exchange_reasons position target asked moved)) day trade
     (day_after_trade (with_position day (position_less position asked)) (position_with_pieces target moved.pieces) (exchange_trade trade nav asked moved))
@@ -231,7 +231,7 @@ letter-marks p q tells book sheet day order e amount =
     let trade = order_trade sheet order TradeKind.Letter in
     let start = credit_of book sheet day.register order.account in
     unless-marks p q tells sheet order (first_some (when (is_some position.letter) Why.LetterOpen ∷ [])) day trade
-    (day_after_trade day (record position { letter = Some (begun amount sheet.day start (front_of book position.class)) }) (record trade { cash = amount }))
+    (day_after_trade day (record position { letter = Some (new_letter amount sheet.day start (front_of book position.class)) }) (record trade { cash = amount }))
     (order-trade-is sheet order TradeKind.Letter e)
     (its-mark p q tells sheet order day.trades (record trade { cash = amount })
     (let is = order-trade-is sheet order TradeKind.Letter e in record { kind = is.kind; says = is.says }))

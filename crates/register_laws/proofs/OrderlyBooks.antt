@@ -13,10 +13,10 @@ use Rattle.agent_events.specs.declared.order.OrderRow.{OrderRow}
 use Rattle.agent_events.specs.declared.reply.Refusal.{Refusal}
 use Rattle.agent_events.specs.declared.request.EntryForm.{EntryForm}
 use Rattle.forward_price.proofs.NumberFacts.{none_numbered, numbered_more}
-use Rattle.forward_price.specs.PriceTables.{AreNumbered, Table, published}
+use Rattle.forward_price.specs.PriceTables.{AreNumbered, Table, sheet_published}
 use Rattle.forward_price.specs.declared.price_sheet.Sheet.{Sheet}
 use Rattle.share_lots.proofs.LotLemmas.{sum_by-filter-le}
-use Rattle.share_lots.specs.Lots.{placed}
+use Rattle.share_lots.specs.Lots.{lots_with}
 use Rattle.register_laws.proofs.Choosing.{not_when}
 use Rattle.register_laws.proofs.Sums.{sum-same}
 use Rattle.register_laws.proofs.LawfulJournals.{brought, lawful-keeps}
@@ -87,8 +87,8 @@ abbrev order_one : ℕ → OrderRow → ℕ
 order_one account row = cond (is_order_of account row) 1 0
 
 begun-one : (account place : ℕ) (kind : EventKind) → sum_by (order_one account) (option_to_list (order_begun place kind)) ≤ cond (is_to account (reference_of (request_of kind))) 1 0
-begun-one account place (EventKind.Order placed) =
-    omega (arith, ordered-one placed.source account placed.receipt placed.order, sum_by-cons (order_one account) (record { place = place; receipt = placed.receipt; struck = false; order = placed.order }) [])
+begun-one account place (EventKind.Order lots_with) =
+    omega (arith, ordered-one lots_with.source account lots_with.receipt lots_with.order, sum_by-cons (order_one account) (record { place = place; receipt = lots_with.receipt; struck = false; order = lots_with.order }) [])
 begun-one account place (EventKind.Enter form) =
     omega (arith, sum_by-cons (order_one account) (record { place = place; receipt = form.receipt; struck = false; order = form.order }) [])
 begun-one account place kind = omega arith
@@ -130,7 +130,7 @@ orders-few account journal =
 -- ---- the sheets of a table
 
 event-numbered : (table : Table) (moment : ℕ) (kind : EventKind) → AreNumbered table.sheets → AreNumbered (table_by table moment kind).sheets
-event-numbered table moment (EventKind.Sheet form) are = numbered_more table.sheets (published table form.calendar _ form.prices) are refl
+event-numbered table moment (EventKind.Sheet form) are = numbered_more table.sheets (sheet_published table form.calendar _ form.prices) are refl
 event-numbered table moment kind are = are
 
 pub events-numbered : (table : Table) (events : Journal) → AreNumbered table.sheets → AreNumbered (fold table_after table events).sheets

@@ -13,7 +13,7 @@ use Rattle.agent_events.specs.declared.order.OrderRow.{OrderRow}
 use Rattle.agent_events.specs.declared.reply.Refusal.{Refusal}
 use Rattle.agent_events.specs.declared.request.EntryForm.{EntryForm}
 use Rattle.agent_events.specs.declared.request.Request.{Request}
-use Rattle.share_lots.specs.Lots.{placed}
+use Rattle.share_lots.specs.Lots.{lots_with}
 use Rattle.register_laws.proofs.BookOrders.{SaidAs, SaysAs, order_said, orders-as}
 use Rattle.register_laws.proofs.Choosing.{not_when}
 use Rattle.register_laws.proofs.LawfulJournals.{lawful-keeps}
@@ -31,7 +31,7 @@ use Rattle.register_machine.specs.rules.Situations.{Situation}
 use Rattle.register_machine.specs.run.Verdicts.{due_now}
 
 abbrev stays_in : EventKind → Bool
-stays_in (EventKind.Order placed) = stays_in_class placed.order.body
+stays_in (EventKind.Order lots_with) = stays_in_class lots_with.order.body
 stays_in (EventKind.Enter form) = stays_in_class form.order.body
 stays_in (EventKind.Replace form) = stays_in_class form.order.body
 stays_in _ = false
@@ -128,7 +128,7 @@ abbrev LeavesClass : Order → Type 0
 LeavesClass order = stays_in_class order.body ≡ false
 
 said-leaves : (kind : EventKind) → stays_in kind ≡ false → SaidAs LeavesClass (order_said kind)
-said-leaves (EventKind.Order placed) e = e
+said-leaves (EventKind.Order lots_with) e = e
 said-leaves (EventKind.Enter form) e = e
 said-leaves (EventKind.Replace form) e = e
 said-leaves _ e = tt

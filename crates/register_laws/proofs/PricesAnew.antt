@@ -15,7 +15,7 @@ use Rattle.agent_events.specs.declared.request.FixPriceForm.{FixPriceForm}
 use Rattle.agent_events.specs.declared.request.Request.{Request}
 use Rattle.agent_events.specs.declared.request.SheetForm.{SheetForm}
 use Rattle.forward_price.proofs.CompleteFacts.{none_wrong}
-use Rattle.forward_price.specs.PriceTables.{Table, published}
+use Rattle.forward_price.specs.PriceTables.{Table, sheet_published}
 use Rattle.forward_price.specs.Sheets.{lists_class}
 use Rattle.forward_price.specs.Turns.{class_numbers, expected_of, fault_of, is_offered_at, is_pair, is_wrong, list_fault, must_list, price_numbers, wrong_class}
 use Rattle.forward_price.specs.declared.price_sheet.Opening.{Opening}
@@ -72,7 +72,7 @@ prices_class class moment form = form.moment == moment && lists_class form.price
 
 sheet-step : (class at : ℕ) (table : Table) (moment : ℕ) (kind : EventKind) → list_any (lists_at class at) (table_by table moment kind).sheets ≡ (list_any (lists_at class at) table.sheets || option_map_or (prices_class class at) (sheet_in kind) false)
 sheet-step class at table moment (EventKind.Sheet form) =
-    list_any-append (lists_at class at) table.sheets (published table form.calendar (pos form.moment) form.prices ∷ [])
+    list_any-append (lists_at class at) table.sheets (sheet_published table form.calendar (pos form.moment) form.prices ∷ [])
     ∙ ap (λ b. list_any (lists_at class at) table.sheets || b) (or-false (form.moment == at && lists_class form.prices class))
 sheet-step class at table moment (EventKind.Calendar form) = sym (or-false (list_any (lists_at class at) table.sheets))
 sheet-step class at table moment _ = sym (or-false (list_any (lists_at class at) table.sheets))

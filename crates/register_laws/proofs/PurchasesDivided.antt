@@ -6,12 +6,11 @@ use Rattle.std.specs.Option.{option_map_or}
 use Rattle.std.specs.Prelude.{Contains}
 use Rattle.agent_events.specs.declared.order.Body.{Body}
 use Rattle.agent_events.specs.declared.order.OrderRow.{OrderRow}
-use Rattle.forward_price.specs.PriceTables.{published}
 use Rattle.forward_price.specs.declared.price_sheet.Sheet.{Sheet}
 use Rattle.letter_of_intent.specs.declared.letter.Letter.{Letter}
 use Rattle.money_units.specs.Rounding.{half}
 use Rattle.offering_price.specs.Accumulation.{bracket}
-use Rattle.offering_price.specs.Purchase.{divided, mils_bought, offering_price, proceeds_of, split_of}
+use Rattle.offering_price.specs.Purchase.{split_at_price, mils_bought, offering_price, proceeds_of, split_of}
 use Rattle.offering_price.specs.declared.purchase.Split.{Split}
 use Rattle.register_laws.proofs.DayTurns.{IsBought, Turn, bought_by, elected_by, exchanged_by, kind_of, position_asked, reached_by, rows_done, settled_by, sold_by, trade_of, trades_added}
 use Rattle.register_laws.proofs.OrdersInTurn.{rows-on}
@@ -77,7 +76,7 @@ proceeds_within gross nav rate mils =
 
 pub parts_make : (gross nav rate : ℕ) (split : Split) → split_of gross nav rate ≡ Some split → gross ≡ split.proceeds + split.charge
 parts_make gross nav rate split e =
-    elim (mils_bought gross (offering_price nav rate) == 0) as (λ b. cond b None (Some (divided gross nav rate (offering_price nav rate))) ≡ Some split → gross ≡ split.proceeds + split.charge) [
+    elim (mils_bought gross (offering_price nav rate) == 0) as (λ b. cond b None (Some (split_at_price gross nav rate (offering_price nav rate))) ≡ Some split → gross ≡ split.proceeds + split.charge) [
       | true ↦ λ h. absurd (none_some h)
       | false ↦ λ h.
           let proceeds = ap (λ o. option_map_or (λ (s : Split). s.proceeds) o 0) h in

@@ -5,7 +5,7 @@ use Rattle.std.proofs.lemmas.List.Elements.{All-append, All-cons, All-head, All-
 use Rattle.std.proofs.lemmas.List.Sums.{fold-append}
 use Rattle.std.specs.Prelude.{Contains}
 use Rattle.agent_events.specs.declared.order.OrderRow.{OrderRow}
-use Rattle.forward_price.specs.PriceTables.{published}
+use Rattle.forward_price.specs.PriceTables.{sheet_published}
 use Rattle.forward_price.specs.declared.price_sheet.Sheet.{Sheet}
 use Rattle.offering_price.specs.Accumulation.{bracket}
 use Rattle.offering_price.specs.Purchase.{split_of}
@@ -155,7 +155,7 @@ Rated book day = All (IsRatedPurchase book) day.trades
 keys-keep : (book : Book) → TurnsKeep book NoRow AnyKey (λ done day. Rated book day)
 keys-keep book = record {
   keys = λ done day kept. any-all day.register;
-  turn = λ sheet done day turn published rows keys kept.
+  turn = λ sheet done day turn sheet_published rows keys kept.
       All-append (IsRatedPurchase book) day.trades (trades_added book sheet day.register turn) kept (keys-rated book sheet day.register turn rows);
 }
 
@@ -170,10 +170,10 @@ row-rated book before sheet rows row turn kept =
 
 sheet-rated : (book : Book) (before : List Sheet) (sheet : Sheet) (behind : List Sheet) → book.table.sheets ≡ before ++ sheet ∷ behind → Contains book.table.sheets sheet → Rated book (replay_over book before) → Rated book (day_after_sheet book (priced_orders book) (replay_over book before) sheet)
 unfolding day_step
-sheet-rated book before sheet behind split published kept =
+sheet-rated book before sheet behind split sheet_published kept =
     let start = day_after_letter_ends book sheet (day_after_dividends book sheet (replay_over book before)) in
     let rows = orders_on (priced_orders book) sheet in
-    let begun : Rated book start = phases-kept book NoRow AnyKey (λ done day. Rated book day) (keys-keep book) sheet published [] (replay_over book before) kept in
+    let begun : Rated book start = phases-kept book NoRow AnyKey (λ done day. Rated book day) (keys-keep book) sheet sheet_published [] (replay_over book before) kept in
     fold-splits (Rated book) (day_after_order book sheet) start rows
     (λ earlier row later is so_far. row-rated book before sheet earlier row (behind, later, split, is) so_far) begun
 

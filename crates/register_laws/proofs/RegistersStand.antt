@@ -6,7 +6,7 @@ use Rattle.std.specs.Prelude.{Contains}
 use Rattle.agent_events.specs.declared.order.OrderRow.{OrderRow}
 use Rattle.forward_price.specs.declared.price_sheet.Sheet.{Sheet}
 use Rattle.fund_exchange.specs.Exchange.{has_mils as carries_mils, renewed_all}
-use Rattle.letter_of_intent.specs.Letters.{after_purchase, begun, mils_to_hold, noted}
+use Rattle.letter_of_intent.specs.Letters.{after_purchase, new_letter, mils_to_hold, note_of_purchase}
 use Rattle.letter_of_intent.specs.declared.letter.Letter.{Letter}
 use Rattle.offering_price.specs.declared.purchase.Split.{Split}
 use Rattle.register_laws.proofs.DayTurns.{HasRoom, Turn, day_after_turn, moved_by, position_asked, positions_put, reinvested, released, rows_done, settled_by, with_all_put, with_letter_begun, with_letter_ended, with_lot_of, with_note_of, with_pieces_of}
@@ -23,7 +23,7 @@ use Rattle.register_machine.specs.replay.Redemption.{position_less}
 use Rattle.register_machine.specs.replay.Replay.{first_day}
 use Rattle.register_machine.specs.replay.Trades.{Day, nav_of}
 use Rattle.share_lots.proofs.LotLemmas.{IsHolding-hold, IsHolding-release, IsHolding-taking}
-use Rattle.share_lots.specs.Lots.{HasLoose, IsHolding, added, held_total, mils}
+use Rattle.share_lots.specs.Lots.{HasLoose, IsHolding, shares_added, held_total, mils}
 use Rattle.share_lots.specs.Taking.{after_paying, pieces}
 use Rattle.share_lots.specs.declared.lot.Piece.{Piece}
 
@@ -44,22 +44,22 @@ looked_up-stands register a c stand =
 
 -- ---- what becomes of a position
 
-pub lot-grown : (sheet : Sheet) (x : Position) (mils cents : ℕ) (free : Bool) → HasRoom x mils cents → Stands x → Grown x.holding (added x.holding sheet.day mils cents free).holding mils cents
+pub lot-grown : (sheet : Sheet) (x : Position) (mils cents : ℕ) (free : Bool) → HasRoom x mils cents → Stands x → Grown x.holding (shares_added x.holding sheet.day mils cents free).holding mils cents
 lot-grown sheet x mils cents free room stand =
     added-grown x.holding sheet.day mils cents free stand.holding room.some room.mils_fit room.cost_fits
 
 -- a new lot has the mils that a letter holds of it
-pub lot-loose : (sheet : Sheet) (x : Position) (gross : ℕ) (split : Split) (letter : Letter) → Stands x → HasLoose (added x.holding sheet.day split.mils gross false).holding.lots (added x.holding sheet.day split.mils gross false).number (noted letter gross split.price split.mils).hold
+pub lot-loose : (sheet : Sheet) (x : Position) (gross : ℕ) (split : Split) (letter : Letter) → Stands x → HasLoose (shares_added x.holding sheet.day split.mils gross false).holding.lots (shares_added x.holding sheet.day split.mils gross false).number (note_of_purchase letter gross split.price split.mils).hold
 lot-loose sheet x gross split letter stand =
     let within : mils_to_hold letter split.price split.mils ≤ split.mils = omega arith in
     new-loose x.holding sheet.day split.mils gross (mils_to_hold letter split.price split.mils) stand.holding within
 
 note-stands : (sheet : Sheet) (x : Position) (gross : ℕ) (split : Split) (letter : Letter) → HasRoom x split.mils gross → Stands x → Stands (with_note_of sheet x gross split letter)
 note-stands sheet x gross split letter room stand =
-    let lot = added x.holding sheet.day split.mils gross false in
+    let lot = shares_added x.holding sheet.day split.mils gross false in
     let grown = lot-grown sheet x split.mils gross false room stand in
     record {
-      holding = IsHolding-hold lot.holding lot.number (noted letter gross split.price split.mils).hold grown.holding (lot-loose sheet x gross split letter stand);
+      holding = IsHolding-hold lot.holding lot.number (note_of_purchase letter gross split.price split.mils).hold grown.holding (lot-loose sheet x gross split letter stand);
       held = λ e. absurd (some_none e);
     }
   where
@@ -135,7 +135,7 @@ positions-stand book sheet register (Turn.Begun row amount is) stand =
     let here = looked_up-stands register row.order.account (class_of row.order.body) stand in
     All-one Stands (with_letter_begun book sheet register row amount) (record { holding = here.holding; held = λ e. absurd (some_none e) })
   where
-    some_none : (Some (begun amount sheet.day (credit_of book sheet register row.order.account) (front_of book (position_asked register row).class)) ≡ None) → ⊥
+    some_none : (Some (new_letter amount sheet.day (credit_of book sheet register row.order.account) (front_of book (position_asked register row).class)) ≡ None) → ⊥
     some_none h = cc
 positions-stand book sheet register (Turn.Paid key cash) stand = All-nil Stands
 positions-stand book sheet register (Turn.Reinvested key cash mils room) stand =

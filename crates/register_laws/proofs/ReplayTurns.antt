@@ -4,7 +4,7 @@ use Rattle.std.proofs.lemmas.List.{get_or_append_left}
 use Rattle.std.proofs.lemmas.List.Elements.{All-cons, All-contains_itself, All-filter, All-head, All-map, All-nil, All-tail, All-take, All-weaker, Contains-append_right}
 use Rattle.std.specs.Prelude.{Contains}
 use Rattle.agent_events.specs.declared.order.OrderRow.{OrderRow}
-use Rattle.forward_price.specs.PriceTables.{published}
+use Rattle.forward_price.specs.PriceTables.{sheet_published}
 use Rattle.forward_price.specs.declared.price_sheet.Sheet.{Sheet}
 use Rattle.register_laws.proofs.DayTurns.{KeyTurns, Turn, day_after_turn, dividend-turns, keys_done, letter_end-turns, order-turns, rows_done}
 use Rattle.register_laws.specs.OrderTurns.{OrderTurn, day_at, day_before_orders}
@@ -38,14 +38,14 @@ pub All-one : {X : Type 0} (P : X → Type 0) (x : X) → P x → All P (x ∷ [
 All-one P x is = All-cons P x [] is (All-nil P)
 
 keys-kept : (book : Book) (R : Sheet → OrderRow → Type 0) (P : PositionKey → Type 0) (K : List OrderRow → Day → Type 0) → TurnsKeep book R P K → (sheet : Sheet) → Contains book.table.sheets sheet → (step : Day → PositionKey → Day) → ((day : Day) (key : PositionKey) → KeyTurns book sheet day key (step day key)) → (done : List OrderRow) (day : Day) (keys : List PositionKey) → All P keys → K done day → K done (fold step day keys)
-keys-kept book R P K keeps sheet published step turns done day [] those kept = kept
-keys-kept book R P K keeps sheet published step turns done day (key ∷ keys) those kept =
+keys-kept book R P K keeps sheet sheet_published step turns done day [] those kept = kept
+keys-kept book R P K keeps sheet sheet_published step turns done day (key ∷ keys) those kept =
     let here = turns day key in
     let own = All-head P key keys those in
-    let after = keeps.turn sheet done day here.turn published
+    let after = keeps.turn sheet done day here.turn sheet_published
     (subst (All (R sheet)) (sym here.rows) (All-nil (R sheet)))
     (All-weaker (λ other. other ≡ key) P (λ other same. subst P (sym same) own) (keys_done book sheet day.register here.turn) here.keys) kept in
-    keys-kept book R P K keeps sheet published step turns done (step day key) keys (All-tail P key keys those)
+    keys-kept book R P K keeps sheet sheet_published step turns done (step day key) keys (All-tail P key keys those)
     (subst (K done) here.is (subst (λ rows. K (rows ++ done) (day_after_turn book sheet day here.turn)) here.rows after))
 
 -- the keys of the positions that pass
@@ -54,14 +54,14 @@ chosen-keys P p register those =
     All-map P key_of (filter p register) (All-filter p (λ x. P (key_of x)) register those)
 
 classes-kept : (book : Book) (R : Sheet → OrderRow → Type 0) (P : PositionKey → Type 0) (K : List OrderRow → Day → Type 0) → TurnsKeep book R P K → (sheet : Sheet) → Contains book.table.sheets sheet → (done : List OrderRow) (day : Day) (prices : List (ℕ × ℕ)) → K done day → K done (fold (day_after_class book.rates sheet) day prices)
-classes-kept book R P K keeps sheet published done day [] kept = kept
-classes-kept book R P K keeps sheet published done day (price ∷ prices) kept =
-    classes-kept book R P K keeps sheet published done (day_after_class book.rates sheet day price) prices
+classes-kept book R P K keeps sheet sheet_published done day [] kept = kept
+classes-kept book R P K keeps sheet sheet_published done day (price ∷ prices) kept =
+    classes-kept book R P K keeps sheet sheet_published done (day_after_class book.rates sheet day price) prices
     (elim (rate_at book.rates price.0 (moment_of sheet) == 0) as (λ b. K done (cond b day (day_after_rate sheet (rate_at book.rates price.0 (moment_of sheet)) price day))) [
       | true ↦ kept
       | false ↦
           let rate = rate_at book.rates price.0 (moment_of sheet) in
-          keys-kept book R P K keeps sheet published (day_after_dividend sheet rate price.1) (dividend-turns book sheet rate price.1) done day (keys_of_class price.0 day.register)
+          keys-kept book R P K keeps sheet sheet_published (day_after_dividend sheet rate price.1) (dividend-turns book sheet rate price.1) done day (keys_of_class price.0 day.register)
           (chosen-keys P (is_of_class price.0) day.register (keeps.keys done day kept)) kept
     ])
 
@@ -71,29 +71,29 @@ done_with [] done = done
 done_with (row ∷ rows) done = done_with rows (row ∷ done)
 
 orders-kept : (book : Book) (R : Sheet → OrderRow → Type 0) (P : PositionKey → Type 0) (K : List OrderRow → Day → Type 0) → TurnsKeep book R P K → (sheet : Sheet) → Contains book.table.sheets sheet → (done : List OrderRow) (day : Day) (rows : List OrderRow) → All (R sheet) rows → K done day → K (done_with rows done) (day_after_orders book sheet rows day)
-orders-kept book R P K keeps sheet published done day [] those kept = kept
-orders-kept book R P K keeps sheet published done day (row ∷ rows) those kept =
+orders-kept book R P K keeps sheet sheet_published done day [] those kept = kept
+orders-kept book R P K keeps sheet sheet_published done day (row ∷ rows) those kept =
     let here = order-turns book sheet day row in
     let own = All-cons (R sheet) row [] (All-head (R sheet) row rows those) (All-nil (R sheet)) in
-    let after = keeps.turn sheet done day here.turn published
+    let after = keeps.turn sheet done day here.turn sheet_published
     (subst (All (R sheet)) (sym here.rows) own) (subst (All P) (sym here.keys) (All-nil P)) kept in
-    orders-kept book R P K keeps sheet published (row ∷ done) (day_after_order book sheet day row) rows
+    orders-kept book R P K keeps sheet sheet_published (row ∷ done) (day_after_order book sheet day row) rows
     (All-tail (R sheet) row rows those)
     (subst (K (row ∷ done)) here.is (subst (λ some. K (some ++ done) (day_after_turn book sheet day here.turn)) here.rows after))
 
 -- the dividends of a sheet and the letters that end on it
 pub phases-kept : (book : Book) (R : Sheet → OrderRow → Type 0) (P : PositionKey → Type 0) (K : List OrderRow → Day → Type 0) → TurnsKeep book R P K → (sheet : Sheet) → Contains book.table.sheets sheet → (done : List OrderRow) (day : Day) → K done day → K done (day_after_letter_ends book sheet (day_after_dividends book sheet day))
-phases-kept book R P K keeps sheet published done day kept =
-    let paid = classes-kept book R P K keeps sheet published done day sheet.prices kept in
+phases-kept book R P K keeps sheet sheet_published done day kept =
+    let paid = classes-kept book R P K keeps sheet sheet_published done day sheet.prices kept in
     let after_dividends = day_after_dividends book sheet day in
-    keys-kept book R P K keeps sheet published (day_after_letter_end book sheet) (letter_end-turns book sheet) done after_dividends (keys_of_letters_over sheet after_dividends.register)
+    keys-kept book R P K keeps sheet sheet_published (day_after_letter_end book sheet) (letter_end-turns book sheet) done after_dividends (keys_of_letters_over sheet after_dividends.register)
     (chosen-keys P (has_letter_over sheet) after_dividends.register (keeps.keys done after_dividends paid)) paid
 
 step-kept : (book : Book) (R : Sheet → OrderRow → Type 0) (P : PositionKey → Type 0) (K : List OrderRow → Day → Type 0) → TurnsKeep book R P K → (sheet : Sheet) → Contains book.table.sheets sheet → (done : List OrderRow) (day : Day) (rows : List OrderRow) → All (R sheet) rows → K done day → K (done_with rows done) (day_step book sheet rows day)
 unfolding day_step
-step-kept book R P K keeps sheet published done day rows those kept =
-    orders-kept book R P K keeps sheet published done (day_after_letter_ends book sheet (day_after_dividends book sheet day)) rows those
-    (phases-kept book R P K keeps sheet published done day kept)
+step-kept book R P K keeps sheet sheet_published done day rows those kept =
+    orders-kept book R P K keeps sheet sheet_published done (day_after_letter_ends book sheet (day_after_dividends book sheet day)) rows those
+    (phases-kept book R P K keeps sheet sheet_published done day kept)
 
 -- the orders that sheets execute, behind others
 abbrev pub executed : Book → List Sheet → List OrderRow → List OrderRow
@@ -105,18 +105,18 @@ abbrev pub KnownOn : Book → (Sheet → OrderRow → Type 0) → Type 0
 KnownOn book R = (sheet : Sheet) → All (R sheet) (orders_on (priced_orders book) sheet)
 
 pub sheets-kept : (book : Book) (R : Sheet → OrderRow → Type 0) (P : PositionKey → Type 0) (K : List OrderRow → Day → Type 0) → TurnsKeep book R P K → KnownOn book R → (done : List OrderRow) (day : Day) (sheets : List Sheet) → All (Contains book.table.sheets) sheets → K done day → K (executed book sheets done) (fold (day_after_sheet book (priced_orders book)) day sheets)
-sheets-kept book R P K keeps known done day [] published kept = kept
-sheets-kept book R P K keeps known done day (sheet ∷ sheets) published kept =
+sheets-kept book R P K keeps known done day [] sheet_published kept = kept
+sheets-kept book R P K keeps known done day (sheet ∷ sheets) sheet_published kept =
     let rows = orders_on (priced_orders book) sheet in
     sheets-kept book R P K keeps known (done_with rows done) (day_after_sheet book (priced_orders book) day sheet) sheets
-    (All-tail (Contains book.table.sheets) sheet sheets published)
-    (step-kept book R P K keeps sheet (All-head (Contains book.table.sheets) sheet sheets published) done day rows
+    (All-tail (Contains book.table.sheets) sheet sheets sheet_published)
+    (step-kept book R P K keeps sheet (All-head (Contains book.table.sheets) sheet sheets sheet_published) done day rows
     (known sheet) kept)
 
 -- and so for the replay over some of the book's sheets, and over all
 pub over-kept : (book : Book) (R : Sheet → OrderRow → Type 0) (P : PositionKey → Type 0) (K : List OrderRow → Day → Type 0) → TurnsKeep book R P K → KnownOn book R → K [] first_day → (sheets : List Sheet) → All (Contains book.table.sheets) sheets → K (executed book sheets []) (replay_over book sheets)
-over-kept book R P K keeps known first sheets published =
-    sheets-kept book R P K keeps known [] first_day sheets published first
+over-kept book R P K keeps known first sheets sheet_published =
+    sheets-kept book R P K keeps known [] first_day sheets sheet_published first
 
 pub replay-kept : (book : Book) (R : Sheet → OrderRow → Type 0) (P : PositionKey → Type 0) (K : List OrderRow → Day → Type 0) → TurnsKeep book R P K → KnownOn book R → K [] first_day → K (executed book book.table.sheets []) (replay book)
 unfolding replay
@@ -143,9 +143,9 @@ first-of P xs ys zs is all k d short =
 pub at_turn-kept : (book : Book) (R : Sheet → OrderRow → Type 0) (P : PositionKey → Type 0) (K : List OrderRow → Day → Type 0) → TurnsKeep book R P K → KnownOn book R → K [] first_day → (turn : OrderTurn book) → K (done_at book turn) (day_at book turn.sheets_before turn.sheet turn.rows_before)
 at_turn-kept book R P K keeps known first turn =
     let among = first-of (Contains book.table.sheets) turn.sheets_before (turn.sheet ∷ turn.sheets_behind) book.table.sheets turn.sheets (All-contains_itself book.table.sheets) in
-    let published : Contains book.table.sheets turn.sheet = subst (λ sheets. Contains sheets turn.sheet) (sym turn.sheets) (Contains-append_right turn.sheets_before (turn.sheet ∷ turn.sheets_behind) turn.sheet (0, omega arith, refl)) in
+    let sheet_published : Contains book.table.sheets turn.sheet = subst (λ sheets. Contains sheets turn.sheet) (sym turn.sheets) (Contains-append_right turn.sheets_before (turn.sheet ∷ turn.sheets_behind) turn.sheet (0, omega arith, refl)) in
     let before = over-kept book R P K keeps known first turn.sheets_before among in
     let done = executed book turn.sheets_before [] in
-    orders-kept book R P K keeps turn.sheet published done (day_before_orders book turn.sheets_before turn.sheet) turn.rows_before
+    orders-kept book R P K keeps turn.sheet sheet_published done (day_before_orders book turn.sheets_before turn.sheet) turn.rows_before
     (first-of (R turn.sheet) turn.rows_before (turn.row ∷ turn.rows_behind) (orders_on (priced_orders book) turn.sheet) turn.rows (known turn.sheet))
-    (phases-kept book R P K keeps turn.sheet published done (replay_over book turn.sheets_before) before)
+    (phases-kept book R P K keeps turn.sheet sheet_published done (replay_over book turn.sheets_before) before)

@@ -15,7 +15,7 @@ use Rattle.agent_events.specs.declared.request.LineForm.{LineForm}
 use Rattle.agent_events.specs.declared.request.Request.{Request}
 use Rattle.forward_price.specs.PriceTables.{Table}
 use Rattle.money_units.specs.Texts.{number}
-use Rattle.share_lots.specs.Lots.{placed}
+use Rattle.share_lots.specs.Lots.{lots_with}
 use Rattle.register_laws.proofs.AnswersByCases.{asks, each-new}
 use Rattle.register_laws.proofs.Choosing.{not_when}
 use Rattle.register_laws.proofs.LawfulJournals.{all-follow}
@@ -147,19 +147,19 @@ asked-line journal Caller.Stranger line once among e = absurd (true≢false (sym
 
 -- so what the operator may not was asked by the event's asker
 asked-by-dealer : (journal : Journal) (caller : Caller) (kind : EventKind) → NoAccountTwice journal → IsAmong (dealers_of journal) caller → may (accounts_of journal) caller (request_of kind) ≡ true → operator_may (request_of kind) ≡ false → caller ≡ asker_of journal kind
-asked-by-dealer journal caller (EventKind.Order placed) once among right denied = by_source placed.source right denied
+asked-by-dealer journal caller (EventKind.Order lots_with) once among right denied = by_source lots_with.source right denied
   where
-    by_source : (from : Source) → may (accounts_of journal) caller (order_request from placed.receipt placed.order) ≡ true → operator_may (order_request from placed.receipt placed.order) ≡ false → caller ≡ asker_by journal placed from
+    by_source : (from : Source) → may (accounts_of journal) caller (order_request from lots_with.receipt lots_with.order) ≡ true → operator_may (order_request from lots_with.receipt lots_with.order) ≡ false → caller ≡ asker_by journal lots_with from
     by_source Source.Direct allowed other = absurd (true≢false other)
     by_source Source.Dealer allowed other =
-        asked-line journal caller (record { receipt = placed.receipt; order = placed.order }) once among allowed
+        asked-line journal caller (record { receipt = lots_with.receipt; order = lots_with.order }) once among allowed
 asked-by-dealer journal caller _ once among right denied = absurd (true≢false denied)
 
 -- and what the operator may has the operator as its asker
 asked-by-operator : (journal : Journal) (kind : EventKind) → operator_may (request_of kind) ≡ true → asker_of journal kind ≡ Caller.Operator
-asked-by-operator journal (EventKind.Order placed) granted = by_source placed.source granted
+asked-by-operator journal (EventKind.Order lots_with) granted = by_source lots_with.source granted
   where
-    by_source : (from : Source) → operator_may (order_request from placed.receipt placed.order) ≡ true → asker_by journal placed from ≡ Caller.Operator
+    by_source : (from : Source) → operator_may (order_request from lots_with.receipt lots_with.order) ≡ true → asker_by journal lots_with from ≡ Caller.Operator
     by_source Source.Direct allowed = refl
     by_source Source.Dealer allowed = absurd (true≢false (sym allowed))
 asked-by-operator journal _ granted = refl

@@ -3,9 +3,9 @@ use Rattle.std.proofs.Common.{All, Bool, List, [], ap, arith, cond, false, filte
 use Rattle.std.proofs.lemmas.List.Elements.{All-head}
 use Rattle.std.proofs.lemmas.List.Sums.{sum_by-append, sum_by-cons}
 use Rattle.agent_events.specs.declared.order.OrderRow.{OrderRow}
-use Rattle.forward_price.specs.PriceTables.{published}
+use Rattle.forward_price.specs.PriceTables.{sheet_published}
 use Rattle.forward_price.specs.declared.price_sheet.Sheet.{Sheet}
-use Rattle.letter_of_intent.specs.Letters.{noted}
+use Rattle.letter_of_intent.specs.Letters.{note_of_purchase}
 use Rattle.letter_of_intent.specs.declared.letter.Letter.{Letter}
 use Rattle.offering_price.specs.declared.purchase.Split.{Split}
 use Rattle.register_laws.proofs.Comparisons.{and-false, eq-no}
@@ -29,7 +29,7 @@ use Rattle.agent_events.specs.declared.trade.Outcome.{Outcome}
 use Rattle.agent_events.specs.declared.trade.Trade.{Trade}
 use Rattle.agent_events.specs.declared.trade.TradeKind.{TradeKind}
 use Rattle.register_machine.specs.replay.Trades.{order_trade}
-use Rattle.share_lots.specs.Lots.{added, held_total, mils}
+use Rattle.share_lots.specs.Lots.{shares_added, held_total, mils}
 
 -- of a class, a position brings its own mils in the stead of those in its place
 pub put-outstanding : (class : ℕ) (p : Position) (register : Register) → outstanding (put p register) class + cond (p.class == class) (mass its_mils p.account p.class register) 0 ≡ outstanding register class + cond (p.class == class) (mils_of p.holding) 0
@@ -109,9 +109,9 @@ none-in class false sheet row = refl
 -- a noted purchase brings its mils, of which the letter holds some
 note-mils : (sheet : Sheet) (x : Position) (gross : ℕ) (split : Split) (letter : Letter) → HasRoom x split.mils gross → Stands x → mils_of (with_note_of sheet x gross split letter).holding ≡ mils_of x.holding + split.mils
 note-mils sheet x gross split letter room stand =
-    let lot = added x.holding sheet.day split.mils gross false in
+    let lot = shares_added x.holding sheet.day split.mils gross false in
     let grown = lot-grown sheet x split.mils gross false room stand in
-    omega (arith, grown.grown, hold-mils lot.holding lot.number (noted letter gross split.price split.mils).hold (lot-loose sheet x gross split letter stand))
+    omega (arith, grown.grown, hold-mils lot.holding lot.number (note_of_purchase letter gross split.price split.mils).hold (lot-loose sheet x gross split letter stand))
 
 turn-moves : (class : ℕ) (book : Book) (sheet : Sheet) (register : Register) (turn : Turn book sheet register) → All LeavesItsClass (rows_done book sheet register turn) → RegisterStands register → Moved class register (with_all_put (positions_put book sheet register turn) register) (trades_added book sheet register turn)
 turn-moves class book sheet register Turn.Nothing leave stand = refl
@@ -189,7 +189,7 @@ turn-moves class book sheet register (Turn.Ended key letter is) leave stand =
     (omega (arith, paying-shrinks x.holding said.paid here.holding within)) (ap (λ k. if_of class k said.paid) (own-class register key.account key.class)) (sym (if_of-none class key.class)))
 
 outstanding-kept : (class : ℕ) (book : Book) → KeptBeside book (λ sheet. LeavesItsClass) (λ done day. IsOutstandingByTrades class day)
-outstanding-kept class book sheet done day turn published leave stand kept =
+outstanding-kept class book sheet done day turn sheet_published leave stand kept =
     let trades = trades_added book sheet day.register turn in
     omega (arith, kept, turn-moves class book sheet day.register turn leave stand, sum_by-append (mils_out class) day.trades trades, sum_by-append (mils_in class) day.trades trades)
 

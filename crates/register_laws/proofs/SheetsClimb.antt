@@ -20,7 +20,7 @@ use Rattle.forward_price.proofs.OrderlyFacts.{found_in}
 use Rattle.forward_price.proofs.PricingFacts.{lt_fact}
 use Rattle.forward_price.proofs.TurnFacts.{All-left, All-right, All-unmap, Tells, awaited_before, expected_best, never, told}
 use Rattle.forward_price.specs.Choices.{IsBest}
-use Rattle.forward_price.specs.PriceTables.{Table, calendar_numbered, closed_in, is_sheet_at, published, with_calendar, with_class, with_published, without_day_of}
+use Rattle.forward_price.specs.PriceTables.{Table, calendar_numbered, closed_in, is_sheet_at, sheet_published, with_calendar, with_class, with_published, without_day_of}
 use Rattle.forward_price.specs.Turns.{expected_of, is_awaited, is_offered_at, is_sooner, pairs_of, pricing_pair, pricing_pairs, wrong_class}
 use Rattle.forward_price.specs.declared.price_sheet.Opening.{Opening}
 use Rattle.forward_price.specs.declared.price_sheet.Sheet.{Sheet}
@@ -160,7 +160,7 @@ climbs-sheet t calendar moment prices expected is = record {
 }
   where
     p : Sheet
-    p = published t calendar moment prices
+    p = sheet_published t calendar moment prices
 
     best : IsBest (is_awaited t.classes t.sheets) is_sooner (pricing_pairs t.calendars) (moment, calendar)
     best = expected_best t (moment, calendar) expected

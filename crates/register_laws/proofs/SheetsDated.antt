@@ -3,7 +3,7 @@ use Rattle.std.proofs.Common.{[], fold, refl, ◌∷◌, ◌≡◌}
 use Rattle.std.proofs.lemmas.List.Elements.{All-map, All-nil, All-push}
 use Rattle.std.specs.Prelude.{pos}
 use Rattle.agent_events.specs.declared.event.EventKind.{EventKind}
-use Rattle.forward_price.specs.PriceTables.{Table, published}
+use Rattle.forward_price.specs.PriceTables.{Table, sheet_published}
 use Rattle.forward_price.specs.declared.price_sheet.Sheet.{Sheet}
 use Rattle.register_laws.specs.CorrectionReach.{AreDated}
 use Rattle.register_laws.specs.Lawful.{book_behind}
@@ -18,7 +18,7 @@ dated-table table (event ∷ events) all = dated-table (table_after table event)
   where
     by : (kind : EventKind) → AreDated (table_by table event.moment kind).sheets
     by (EventKind.Sheet form) =
-        All-push (λ (s : Sheet). s.moment ≡ pos (moment_of s)) table.sheets (published table form.calendar (pos form.moment) form.prices) all refl
+        All-push (λ (s : Sheet). s.moment ≡ pos (moment_of s)) table.sheets (sheet_published table form.calendar (pos form.moment) form.prices) all refl
     by (EventKind.Calendar form) = all
     by (EventKind.Close form) = all
     by (EventKind.Class form) = all

@@ -23,9 +23,9 @@ use Rattle.forward_price.proofs.NumberFacts.{none_numbered}
 use Rattle.forward_price.proofs.OrderFacts.{orderly_at_first, orderly_calendar, orderly_class, orderly_closure, orderly_sheet}
 use Rattle.forward_price.proofs.OrderlyFacts.{any_from, calendar_pair, differ_rest, pair_calendar, priced_when_due}
 use Rattle.forward_price.proofs.PricingFacts.{ge_fact}
-use Rattle.forward_price.specs.Choices.{considered, preferred}
+use Rattle.forward_price.specs.Choices.{best_so_far, found_or_better}
 use Rattle.forward_price.specs.Orderly.{AreOnPricingDays, IsOrderly}
-use Rattle.forward_price.specs.PriceTables.{Table, calendar_numbered, class_opened, closed_in, is_sheet_at, number_at, published, without_day_of}
+use Rattle.forward_price.specs.PriceTables.{Table, calendar_numbered, class_opened, closed_in, is_sheet_at, number_at, sheet_published, without_day_of}
 use Rattle.forward_price.specs.Sheets.{lists_class}
 use Rattle.forward_price.specs.Turns.{expected_of, fault_of, is_awaited, is_offered_at, is_pair, is_sooner, list_fault, moment_at, moments_of, must_list, pairs_of, pricing_pair, pricing_pairs, wrong_class}
 use Rattle.forward_price.specs.declared.price_sheet.Opening.{Opening}
@@ -100,11 +100,11 @@ orderly-corrected journal t o = record {
     f = sheet_as_corrected (each_in price_fix_in journal)
 
 -- the sheet that is expected is the same, whether prices were corrected or not
-considered-same : (p q : ℤ × ℕ → Bool) → ((pair : ℤ × ℕ) → p pair ≡ q pair) → (pairs : List (ℤ × ℕ)) (found : Option (ℤ × ℕ)) → fold (considered p is_sooner) found pairs ≡ fold (considered q is_sooner) found pairs
+considered-same : (p q : ℤ × ℕ → Bool) → ((pair : ℤ × ℕ) → p pair ≡ q pair) → (pairs : List (ℤ × ℕ)) (found : Option (ℤ × ℕ)) → fold (best_so_far p is_sooner) found pairs ≡ fold (best_so_far q is_sooner) found pairs
 considered-same p q same [] found = refl
 considered-same p q same (pair ∷ pairs) found =
-    ap (λ b. fold (considered p is_sooner) (cond b (preferred is_sooner found pair) found) pairs) (same pair)
-    ∙ considered-same p q same pairs (cond (q pair) (preferred is_sooner found pair) found)
+    ap (λ b. fold (best_so_far p is_sooner) (cond b (found_or_better is_sooner found pair) found) pairs) (same pair)
+    ∙ considered-same p q same pairs (cond (q pair) (found_or_better is_sooner found pair) found)
 
 pub expected-corrected : (journal : Journal) (t : Table) → expected_of (table_as_corrected journal t) ≡ expected_of t
 expected-corrected journal t =
@@ -410,7 +410,7 @@ kept-kind journal now caller (EventKind.Sheet form) clear late kept =
       orderly = orderly_sheet t form.calendar (pos form.moment) form.prices kept.orderly (record { expected = sym (expected-corrected journal t) ∙ is.0; complete = is.1 });
       calendars = kept.calendars;
       few = kept.few;
-      past = All-push (λ (s : Sheet). s.moment ≤ℤ pos now) t.sheets (published t form.calendar (pos form.moment) form.prices) (still-past t.sheets (last_moment journal) now late kept.past) (ge_fact (pos now) (pos form.moment) is.2);
+      past = All-push (λ (s : Sheet). s.moment ≤ℤ pos now) t.sheets (sheet_published t form.calendar (pos form.moment) form.prices) (still-past t.sheets (last_moment journal) now late kept.past) (ge_fact (pos now) (pos form.moment) is.2);
     }
 kept-kind journal now caller kind clear late kept = kept-later (table_of journal) (last_moment journal) now late kept
 

@@ -8,7 +8,7 @@ use Rattle.agent_events.specs.Events.{Event}
 use Rattle.agent_events.specs.Fields.{prices}
 use Rattle.agent_events.specs.declared.event.EventKind.{EventKind}
 use Rattle.agent_events.specs.declared.request.FixPriceForm.{FixPriceForm}
-use Rattle.forward_price.specs.PriceTables.{Table, date_priced, published, with_prices, with_sheets}
+use Rattle.forward_price.specs.PriceTables.{Table, date_priced, sheet_published, with_prices, with_sheets}
 use Rattle.forward_price.specs.Sheets.{lists_class}
 use Rattle.forward_price.specs.declared.price_sheet.Sheet.{Sheet}
 use Rattle.register_laws.proofs.OneEventMore.{gathers-on}
@@ -85,9 +85,9 @@ corrected-by : (journal : Journal) (table : Table) (moment : ℕ) (kind : EventK
 corrected-by journal table moment (EventKind.FixPrice form) unfixed =
     ap (with_sheets table) (sheets-fixed (each_in price_fix_in journal) form table.sheets)
 corrected-by journal table moment (EventKind.Sheet form) unfixed =
-    ap (λ fixes. with_sheets table (map (sheet_as_corrected fixes) (table.sheets ++ published table form.calendar (pos form.moment) form.prices ∷ []))) (append-nil (each_in price_fix_in journal))
-    ∙ (ap (with_sheets table) (map-append (sheet_as_corrected (each_in price_fix_in journal)) table.sheets (published table form.calendar (pos form.moment) form.prices ∷ []))
-    ∙ (ap (λ prices. with_sheets table (map (sheet_as_corrected (each_in price_fix_in journal)) table.sheets ++ with_prices (published table form.calendar (pos form.moment) form.prices) prices ∷ [])) (prices-kept (each_in price_fix_in journal) form.moment form.prices (not-true (list_any (fixes_sheet form) (each_in price_fix_in journal)) unfixed))
+    ap (λ fixes. with_sheets table (map (sheet_as_corrected fixes) (table.sheets ++ sheet_published table form.calendar (pos form.moment) form.prices ∷ []))) (append-nil (each_in price_fix_in journal))
+    ∙ (ap (with_sheets table) (map-append (sheet_as_corrected (each_in price_fix_in journal)) table.sheets (sheet_published table form.calendar (pos form.moment) form.prices ∷ []))
+    ∙ (ap (λ prices. with_sheets table (map (sheet_as_corrected (each_in price_fix_in journal)) table.sheets ++ with_prices (sheet_published table form.calendar (pos form.moment) form.prices) prices ∷ [])) (prices-kept (each_in price_fix_in journal) form.moment form.prices (not-true (list_any (fixes_sheet form) (each_in price_fix_in journal)) unfixed))
     ∙ ap (λ (count : ℕ). with_sheets table (map (sheet_as_corrected (each_in price_fix_in journal)) table.sheets ++ record { number = count + 1; calendar = form.calendar; moment = pos form.moment; day = date_priced table.calendars form.calendar (pos form.moment); prices = form.prices } ∷ [])) (sym (length-map table.sheets (sheet_as_corrected (each_in price_fix_in journal))))))
 corrected-by journal table moment kind unfixed =
     ap (λ fixes. with_fixes fixes (table_by table moment kind)) (append-nil (each_in price_fix_in journal))

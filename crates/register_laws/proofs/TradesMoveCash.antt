@@ -8,7 +8,7 @@ use Rattle.agent_events.specs.declared.request.ClassForm.{ClassForm}
 use Rattle.class_terms.proofs.TableFacts.{rates-lawful, schedule-ceiling}
 use Rattle.class_terms.specs.Tables.{breaks_schedule, first_broken}
 use Rattle.contingent_charge.proofs.ChargeLemmas.{charge-within}
-use Rattle.contingent_charge.specs.DeferredCharge.{Valued, charge_of, valued}
+use Rattle.contingent_charge.specs.DeferredCharge.{Valued, charge_of, with_values}
 use Rattle.forward_price.specs.declared.price_sheet.Sheet.{Sheet}
 use Rattle.offering_price.specs.declared.purchase.Split.{Split}
 use Rattle.register_laws.proofs.DayTurns.{IsBought, Turn, bought_by, elected_by, exchanged_by, position_asked, reached_by, settled_by, sold_by, trade_of, trades_added}
@@ -59,7 +59,7 @@ sold-moves : (book : Book) (sheet : Sheet) (register : Register) (row : OrderRow
 sold-moves book sheet register row asked within =
     let x = position_asked register row in
     let trade = sold_by book sheet register row asked in
-    let part : trade.charge ≤ trade.cash = charges-within sheet.day (schedule_of book x.class) (valued (nav_of sheet x.class) 0 (pieces asked x.holding.lots)) (schedule-of-low book x.class within.terms) in
+    let part : trade.charge ≤ trade.cash = charges-within sheet.day (schedule_of book x.class) (with_values (nav_of sheet x.class) 0 (pieces asked x.holding.lots)) (schedule-of-low book x.class within.terms) in
     record { rest = trade.cash - trade.charge; whole = omega (arith, part); movements = refl }
 
 bought-moves : (book : Book) (sheet : Sheet) (register : Register) (row : OrderRow) (gross : ℕ) (split : Split) → IsBought book sheet register row gross split → MovesItsCash (bought_by sheet row gross split)

@@ -5,7 +5,7 @@ use Rattle.agent_events.specs.declared.event.EventKind.{EventKind}
 use Rattle.agent_events.specs.declared.reply.Refusal.{Refusal}
 use Rattle.agent_events.specs.declared.reply.Reply.{Reply}
 use Rattle.agent_events.specs.declared.request.Request.{Request}
-use Rattle.forward_price.specs.July.{priced}
+use Rattle.forward_price.specs.July.{sheets_of_july}
 use Rattle.forward_price.specs.PriceTables.{IsPricedBy}
 use Rattle.forward_price.specs.declared.price_sheet.Sheet.{Sheet}
 use Rattle.register_machine.specs.journal.Choices.{first_some}
@@ -82,5 +82,5 @@ AnswersByTheJournal operator run now key request =
 
 -- Each order that has its sheet has the first price computed after its receipt (17 CFR 270.22c-1(a)).
 abbrev pub IsForwardPriced : List Sheet → Priced → Type 0
-IsForwardPriced sheets priced =
-    IfSome priced.sheet (IsPricedBy sheets (classes_in priced.row.order.body) (pos priced.row.receipt))
+IsForwardPriced sheets sheets_of_july =
+    IfSome sheets_of_july.sheet (IsPricedBy sheets (classes_in sheets_of_july.row.order.body) (pos sheets_of_july.row.receipt))

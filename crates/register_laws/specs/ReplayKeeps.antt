@@ -71,15 +71,15 @@ pub record TermsWithinLimits (terms : ClassForm) : Type 0 where
   pub front : front_fault terms.front ≡ None
   pub deferred : deferred_fault terms.deferred ≡ None
 
-abbrev pub accounts_of_household : Book → ℕ → ℕ
-accounts_of_household book household = count_by (λ account. account.household == household) book.accounts
+abbrev pub count_of_accounts : Book → ℕ → ℕ
+count_of_accounts book household = count_by (λ account. account.household == household) book.accounts
 
 -- A book within the limits that the machine's rules keep: tables and schedules of loads without a fault, 1,000 classes and 64
 -- accounts of a household at most.
 pub record IsWithinLimits (book : Book) : Type 0 where
   pub terms : All TermsWithinLimits book.classes
   pub few_classes : length book.classes ≤ 1000
-  pub few_accounts : (household : ℕ) → accounts_of_household book household ≤ 64
+  pub few_accounts : (household : ℕ) → count_of_accounts book household ≤ 64
 
 -- a price of at most $100,000.00
 abbrev pub most_nav : ℕ

@@ -11,9 +11,9 @@ use Rattle.agent_events.specs.declared.order.Bearer.{Bearer}
 use Rattle.agent_events.specs.Fields.{is_label, is_zone_text, is_household_key, is_dealer_key}
 use Rattle.row_fields.specs.Exact.{IsBytes, IsField}
 use Rattle.row_fields.specs.Ranges.{Between, IsIdentifier, IsIdentifierOrNone, IsReference, IsMoment, IsDay, IsAmount, IsMinimum, IsNav, IsQuantity, IsDividendRate, IsCorrectedRate, IsTimeOfDay, IsWindow, IsBps, Passes, AreListed, IsBearer}
-use Rattle.row_fields.specs.Reading.{kept, number_at, is_between, ranged, bytes_at, items_at, list_at}
+use Rattle.row_fields.specs.Reading.{kept, number_at, is_between, number_between, bytes_at, items_at, list_at}
 use Rattle.row_fields.specs.Readers.{is_one, whole_of, flag_at, sixteen_at, text_at, identifier_at, identifier_or_none_at, reference_at, moment_at, day_at, amount_at, minimum_at, nav_at, quantity_at, dividend_rate_at, corrected_rate_at, time_of_day_at, window_at, rate_at, name_at, zone_at, household_key_at, dealer_key_at, bearer_behind, bearer_at}
-use Rattle.row_fields.specs.Spelling.{two_bytes, four_bytes, eight_bytes, sixteen_bytes, flag, text, listed, bearer}
+use Rattle.row_fields.specs.Spelling.{two_bytes, four_bytes, eight_bytes, sixteen_bytes, flag, text, list_bytes, bearer}
 use Rattle.row_fields.proofs.Fields.{IsBytes-rest, read_some, map_some, both, shaped, tested, in_words, byte_field, tagged, chosen, items_take, items_again}
 
 IsBytes-drop : (n : ℕ) (bytes : List ℕ) → IsBytes bytes → IsBytes (drop n bytes)
@@ -85,7 +85,7 @@ between_from low high n e = grind (arith, leb-true)
 between_to : (low high n : ℕ) → Between low high n → is_between low high n ≡ true
 between_to low high n fits = rw (le-leb low n fits.0, le-leb n high fits.1) refl
 
-pub ranged_field : (w : Width) (limit : ℕ) → IsWide w limit → (low high : ℕ) → high < limit → IsField (to_be_bytes w) (Between low high) (ranged w low high)
+pub ranged_field : (w : Width) (limit : ℕ) → IsWide w limit → (low high : ℕ) → high < limit → IsField (to_be_bytes w) (Between low high) (number_between w low high)
 ranged_field w limit wide low high small =
     in_words (λ n fits. between_from low high n fits.1) (λ n fits. (omega (arith, fits.1, small), between_to low high n fits)) (tested (is_between low high) (number_field w limit wide))
 
@@ -100,15 +100,15 @@ right_true false b e = absurd cc
 
 -- ---- numbers
 
-ranged32 : (low high : ℕ) → high < 2 ^ 32 → IsField four_bytes (Between low high) (ranged w32 low high)
+ranged32 : (low high : ℕ) → high < 2 ^ 32 → IsField four_bytes (Between low high) (number_between w32 low high)
 unfolding four_bytes
 ranged32 low high small = ranged_field w32 (2 ^ 32) wide32 low high small
 
-ranged64 : (low high : ℕ) → high < 2 ^ 64 → IsField eight_bytes (Between low high) (ranged w64 low high)
+ranged64 : (low high : ℕ) → high < 2 ^ 64 → IsField eight_bytes (Between low high) (number_between w64 low high)
 unfolding eight_bytes
 ranged64 low high small = ranged_field w64 (2 ^ 64) wide64 low high small
 
-ranged16 : (low high : ℕ) → high < 2 ^ 16 → IsField two_bytes (Between low high) (ranged w16 low high)
+ranged16 : (low high : ℕ) → high < 2 ^ 16 → IsField two_bytes (Between low high) (number_between w16 low high)
 unfolding two_bytes
 ranged16 low high small = ranged_field w16 (2 ^ 16) wide16 low high small
 
@@ -299,8 +299,8 @@ dealer_key_field = form_field is_dealer_key short_dealer
 -- ---- a list behind its count
 
 list_takes : {A : Type 0} {s : A → List ℕ} {f : A → Type 0} {r : List ℕ → Option (A × List ℕ)} → IsField s f r
-    → (bytes : List ℕ) (xs : List A) (rest : List ℕ) → IsBytes bytes → list_at r bytes ≡ Some (xs, rest) → (bytes ≡ listed s xs ++ rest) × AreListed f xs
-unfolding list_at listed
+    → (bytes : List ℕ) (xs : List A) (rest : List ℕ) → IsBytes bytes → list_at r bytes ≡ Some (xs, rest) → (bytes ≡ list_bytes s xs ++ rest) × AreListed f xs
+unfolding list_at list_bytes
 list_takes {s = s} {f = f} {r = r} field bytes xs rest fits e =
     let b = read_some (number_at w16 bytes) (λ n. items_at r n.0 n.1) (xs, rest) e in
     let one = two_field.takes bytes b.0.0 b.0.1 fits b.1 in
@@ -309,15 +309,15 @@ list_takes {s = s} {f = f} {r = r} field bytes xs rest fits e =
     (subst (λ (k : ℕ). bytes ≡ (two_bytes k ++ flat_map s xs) ++ rest) (sym two.1) whole, (omega (arith, two.1, one.1), two.2))
 
 list_again : {A : Type 0} {s : A → List ℕ} {f : A → Type 0} {r : List ℕ → Option (A × List ℕ)} → IsField s f r
-    → (xs : List A) (rest : List ℕ) → AreListed f xs → list_at r (listed s xs ++ rest) ≡ Some (xs, rest)
-unfolding list_at listed
+    → (xs : List A) (rest : List ℕ) → AreListed f xs → list_at r (list_bytes s xs ++ rest) ≡ Some (xs, rest)
+unfolding list_at list_bytes
 list_again {s = s} {r = r} field xs rest fits =
     let small : length xs < 2 ^ 16 = omega (arith, fits.0) in
     let regrouped : (two_bytes (length xs) ++ flat_map s xs) ++ rest ≡ two_bytes (length xs) ++ (flat_map s xs ++ rest) = append_assoc (two_bytes (length xs)) (flat_map s xs) rest in
     ap (λ (x : List ℕ). option_and_then (λ n. items_at r n.0 n.1) (number_at w16 x)) regrouped
     ∙ rw (two_field.again (length xs) (flat_map s xs ++ rest) small) (items_again field xs rest fits.1)
 
-pub listed_field : {A : Type 0} {s : A → List ℕ} {f : A → Type 0} {r : List ℕ → Option (A × List ℕ)} → IsField s f r → IsField (listed s) (AreListed f) (list_at r)
+pub listed_field : {A : Type 0} {s : A → List ℕ} {f : A → Type 0} {r : List ℕ → Option (A × List ℕ)} → IsField s f r → IsField (list_bytes s) (AreListed f) (list_at r)
 listed_field field = record { takes = list_takes field; again = list_again field }
 
 -- ---- who bears a loss

@@ -7,7 +7,7 @@ use Rattle.std.proofs.lemmas.Option.{some_pair_parts, same_Some}
 use Rattle.std.proofs.lemmas.List.{nil_from_length}
 use Rattle.std.proofs.lemmas.List.Concat.{flat_map-cons}
 use Rattle.row_fields.specs.Exact.{IsBytes, IsField}
-use Rattle.row_fields.specs.Reading.{◌&◌, made, kept, behind, byte_at, with_front, items_at, if_whole}
+use Rattle.row_fields.specs.Reading.{◌&◌, map_read, kept, behind, byte_at, with_front, items_at, if_whole}
 use Rattle.row_fields.specs.Spelling.{one_byte}
 
 -- what stands behind bytes is bytes
@@ -58,7 +58,7 @@ both {A = A} {B = B} {s = s} {f = f} {r = r} {t = t} {g = g} {q = q} first secon
 -- a value that is made of what is read
 pub shaped : {A B : Type 0} {s : A → List ℕ} {f : A → Type 0} {r : List ℕ → Option (A × List ℕ)} (make : A → B) (parts : B → A)
     → ((b : B) → f (parts b) → make (parts b) ≡ b) → ((a : A) → f a → parts (make a) ≡ a)
-    → IsField s f r → IsField (λ b. s (parts b)) (λ b. f (parts b)) (made make r)
+    → IsField s f r → IsField (λ b. s (parts b)) (λ b. f (parts b)) (map_read make r)
 shaped {A = A} {B = B} {s = s} {f = f} {r = r} make parts back forth field = record {
   takes = λ bytes y rest fits e.
       let a = map_some (r bytes) (λ (x : A × List ℕ). (make x.0, x.1)) (y, rest) e in

@@ -3,7 +3,7 @@ use Rattle.std.specs.Prelude.{ℕ, ◌+◌, ◌*◌, Bool, nat_le, ◌==◌, if�
 use Rattle.std.specs.Int.{w16, w32, w64}
 use Rattle.agent_events.specs.declared.order.Bearer.{Bearer}
 use Rattle.agent_events.specs.Fields.{is_label, is_zone_text, is_household_key, is_dealer_key}
-use Rattle.row_fields.specs.Reading.{◌&◌, made, kept, behind, byte_at, number_at, ranged, bytes_at}
+use Rattle.row_fields.specs.Reading.{◌&◌, map_read, kept, behind, byte_at, number_at, number_between, bytes_at}
 
 abbrev pub is_one : ℕ → Bool
 is_one n = n == 1
@@ -12,55 +12,55 @@ abbrev pub whole_of : ℕ × ℕ → ℕ
 whole_of halves = 18446744073709551616 * halves.0 + halves.1
 
 unfoldable pub flag_at : List ℕ → Option (Bool × List ℕ)
-flag_at = made is_one (kept (λ n. nat_le n 1) byte_at)
+flag_at = map_read is_one (kept (λ n. nat_le n 1) byte_at)
 
 unfoldable pub sixteen_at : List ℕ → Option (ℕ × List ℕ)
-sixteen_at = made whole_of (number_at w64 & number_at w64)
+sixteen_at = map_read whole_of (number_at w64 & number_at w64)
 
 unfoldable pub text_at : List ℕ → Option (List ℕ × List ℕ)
 text_at bytes = option_and_then (λ count. bytes_at count.0 count.1) (number_at w16 bytes)
 
 unfoldable pub identifier_at : List ℕ → Option (ℕ × List ℕ)
-identifier_at = ranged w32 1 4294967295
+identifier_at = number_between w32 1 4294967295
 
 unfoldable pub identifier_or_none_at : List ℕ → Option (ℕ × List ℕ)
-identifier_or_none_at = ranged w32 0 4294967295
+identifier_or_none_at = number_between w32 0 4294967295
 
 unfoldable pub reference_at : List ℕ → Option (ℕ × List ℕ)
-reference_at = ranged w64 1 9999999999999999999
+reference_at = number_between w64 1 9999999999999999999
 
 unfoldable pub moment_at : List ℕ → Option (ℕ × List ℕ)
-moment_at = ranged w64 0 7258118399
+moment_at = number_between w64 0 7258118399
 
 unfoldable pub day_at : List ℕ → Option (ℕ × List ℕ)
-day_at = ranged w32 0 84005
+day_at = number_between w32 0 84005
 
 unfoldable pub amount_at : List ℕ → Option (ℕ × List ℕ)
-amount_at = ranged w64 1 1000000000000
+amount_at = number_between w64 1 1000000000000
 
 unfoldable pub minimum_at : List ℕ → Option (ℕ × List ℕ)
-minimum_at = ranged w64 0 1000000000000
+minimum_at = number_between w64 0 1000000000000
 
 unfoldable pub nav_at : List ℕ → Option (ℕ × List ℕ)
-nav_at = ranged w64 1 10000000
+nav_at = number_between w64 1 10000000
 
 unfoldable pub quantity_at : List ℕ → Option (ℕ × List ℕ)
-quantity_at = ranged w64 1 1000000000000
+quantity_at = number_between w64 1 1000000000000
 
 unfoldable pub dividend_rate_at : List ℕ → Option (ℕ × List ℕ)
-dividend_rate_at = ranged w64 1 1000000000
+dividend_rate_at = number_between w64 1 1000000000
 
 unfoldable pub corrected_rate_at : List ℕ → Option (ℕ × List ℕ)
-corrected_rate_at = ranged w64 0 1000000000
+corrected_rate_at = number_between w64 0 1000000000
 
 unfoldable pub time_of_day_at : List ℕ → Option (ℕ × List ℕ)
-time_of_day_at = ranged w16 0 1439
+time_of_day_at = number_between w16 0 1439
 
 unfoldable pub window_at : List ℕ → Option (ℕ × List ℕ)
-window_at = ranged w32 0 86400
+window_at = number_between w32 0 86400
 
 unfoldable pub rate_at : List ℕ → Option (ℕ × List ℕ)
-rate_at = ranged w16 0 65535
+rate_at = number_between w16 0 65535
 
 unfoldable pub name_at : List ℕ → Option (List ℕ × List ℕ)
 name_at = kept is_label text_at
@@ -79,7 +79,7 @@ abbrev pub bearer_behind : ℕ → List ℕ → Option (Bearer × List ℕ)
 bearer_behind tag rest =
     if tag == 0 then Some (Bearer.Fund, rest)
     else if tag == 1 then Some (Bearer.Agent, rest)
-    else if tag == 2 then made Bearer.Dealer identifier_at rest
+    else if tag == 2 then map_read Bearer.Dealer identifier_at rest
     else None
 
 unfoldable pub bearer_at : List ℕ → Option (Bearer × List ℕ)

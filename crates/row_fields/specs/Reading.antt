@@ -25,8 +25,8 @@ abbrev pub ◌&◌ : {A B : Type 0} → (List ℕ → Option (A × List ℕ)) �
 (first & second) bytes = option_and_then (λ x. option_map (λ y. ((x.0, y.0), y.1)) (second x.1)) (first bytes)
 
 -- the value that is made of what was read
-abbrev pub made : {A B : Type 0} → (A → B) → (List ℕ → Option (A × List ℕ)) → List ℕ → Option (B × List ℕ)
-made make read bytes = option_map (λ x. (make x.0, x.1)) (read bytes)
+abbrev pub map_read : {A B : Type 0} → (A → B) → (List ℕ → Option (A × List ℕ)) → List ℕ → Option (B × List ℕ)
+map_read make read bytes = option_map (λ x. (make x.0, x.1)) (read bytes)
 
 -- only a value that passes the test
 abbrev pub kept : {A : Type 0} → (A → Bool) → (List ℕ → Option (A × List ℕ)) → List ℕ → Option (A × List ℕ)
@@ -50,8 +50,8 @@ number_at w bytes =
 abbrev pub is_between : ℕ → ℕ → ℕ → Bool
 is_between low high n = nat_le low n && nat_le n high
 
-abbrev pub ranged : Width → ℕ → ℕ → List ℕ → Option (ℕ × List ℕ)
-ranged w low high = kept (is_between low high) (number_at w)
+abbrev pub number_between : Width → ℕ → ℕ → List ℕ → Option (ℕ × List ℕ)
+number_between w low high = kept (is_between low high) (number_at w)
 
 -- so many bytes
 abbrev pub bytes_at : ℕ → List ℕ → Option (List ℕ × List ℕ)

@@ -33,8 +33,8 @@ unfoldable pub text : List ℕ → List ℕ
 text bytes = two_bytes (length bytes) ++ bytes
 
 -- the count of its items, and each item
-unfoldable pub listed : {A : Type 0} → (A → List ℕ) → List A → List ℕ
-listed item items = two_bytes (length items) ++ flat_map item items
+unfoldable pub list_bytes : {A : Type 0} → (A → List ℕ) → List A → List ℕ
+list_bytes item items = two_bytes (length items) ++ flat_map item items
 
 -- 00 the fund, 01 the agent, 02 and the dealer
 unfoldable pub bearer : Bearer → List ℕ

@@ -4,7 +4,7 @@ use Rattle.std.specs.Prelude.{All, AllPairs}
 use Rattle.std.proofs.lemmas.List.Elements.{All-cons}
 use Rattle.std.proofs.lemmas.List.Sums.{sum_by-cons}
 use Rattle.share_lots.specs.declared.lot.Lot.{Lot}
-use Rattle.share_lots.specs.Lots.{Holding, added, added_to, new_lot, mils, AreRanked, HasLoose, join_free, placed, lot_joined, free_number}
+use Rattle.share_lots.specs.Lots.{Holding, shares_added, added_to, new_lot, mils, AreRanked, HasLoose, join_free, lots_with, lot_joined, free_number}
 use Rattle.share_lots.proofs.LotLemmas.{All-head, All-tail, AllPairs-head, All-placed, sum-placed, sum-mils, owned_behind, map-join_none, join-free}
 
 -- where the first lot isn't free, none is
@@ -66,18 +66,18 @@ joined-cost q c number lots free ranked h = joined-sum (λ lot. lot.cost) c q c 
 
 -- a new lot
 pub placed-loose : (next q : ℕ) (lot : Lot) (lots : List Lot) → All (λ l. l.number < next) lots → lot.loose ≡ q
-    → HasLoose (placed lot lots) next q
+    → HasLoose (lots_with lot lots) next q
 placed-loose next q lot lots below has =
     All-placed (λ l. l.number ≡ next → q ≤ l.loose) lot lots (λ same. omega arith)
     (λ k d short same. let less = below k d short in absurd (omega arith))
 
 pub placed-mils : (q : ℕ) (lot : Lot) (lots : List Lot) → mils lot ≡ q
-    → sum_by (λ l. l.loose) (placed lot lots) + sum_by (λ l. l.held) (placed lot lots)
+    → sum_by (λ l. l.loose) (lots_with lot lots) + sum_by (λ l. l.held) (lots_with lot lots)
     ≡ sum_by (λ l. l.loose) lots + sum_by (λ l. l.held) lots + q
-placed-mils q lot lots has = omega (arith, sum-mils lots, sum-mils (placed lot lots), sum-placed mils lot lots)
+placed-mils q lot lots has = omega (arith, sum-mils lots, sum-mils (lots_with lot lots), sum-placed mils lot lots)
 
 pub placed-cost : (c : ℕ) (lot : Lot) (lots : List Lot) → lot.cost ≡ c
-    → sum_by (λ l. l.cost) (placed lot lots) ≡ sum_by (λ l. l.cost) lots + c
+    → sum_by (λ l. l.cost) (lots_with lot lots) ≡ sum_by (λ l. l.cost) lots + c
 placed-cost c lot lots has = omega (arith, sum-placed (λ (l : Lot). l.cost) lot lots)
 
 -- a lot with so many loose mils has fewer too
@@ -85,7 +85,7 @@ pub HasLoose-fewer : (lots : List Lot) (number fewer q : ℕ) → fewer ≤ q �
 HasLoose-fewer lots number fewer q le has k d short same = let here = has k d short same in omega arith
 
 -- the next number rises by one at most
-pub next_added : (h : Holding) (day q c : ℕ) (free : Bool) → (added h day q c free).holding.next_lot ≤ h.next_lot + 1
+pub next_added : (h : Holding) (day q c : ℕ) (free : Bool) → (shares_added h day q c free).holding.next_lot ≤ h.next_lot + 1
 next_added h day q c free = at (lot_joined h.lots free)
   where
     at : (joins : Option ℕ) → (added_to h (new_lot h day q c free) joins).holding.next_lot ≤ h.next_lot + 1
@@ -93,7 +93,7 @@ next_added h day q c free = at (lot_joined h.lots free)
     at (Some number) = omega arith
 
 -- and no lower one follows
-pub next_kept : (h : Holding) (day q c : ℕ) (free : Bool) → h.next_lot ≤ (added h day q c free).holding.next_lot
+pub next_kept : (h : Holding) (day q c : ℕ) (free : Bool) → h.next_lot ≤ (shares_added h day q c free).holding.next_lot
 next_kept h day q c free = at (lot_joined h.lots free)
   where
     at : (joins : Option ℕ) → h.next_lot ≤ (added_to h (new_lot h day q c free) joins).holding.next_lot

@@ -14,7 +14,7 @@ use Rattle.money_units.specs.Rounding.{half}
 use Rattle.money_units.proofs.RoundingFacts.{half-mul, half-rises}
 use Rattle.share_lots.specs.declared.lot.Lot.{Lot}
 use Rattle.share_lots.specs.declared.lot.Piece.{Piece}
-use Rattle.share_lots.specs.Lots.{Holding, IsHolding, IsLot, mils, AreRanked, ranks_before, most_mils, most_cost, HasLoose, hold_in, release_lot, join_free, placed, with_lot, lot_joined}
+use Rattle.share_lots.specs.Lots.{Holding, IsHolding, IsLot, mils, AreRanked, ranks_before, most_mils, most_cost, HasLoose, hold_in, release_lot, join_free, lots_with, with_lot, lot_joined}
 use Rattle.share_lots.specs.Taking.{lot_less, pieces_of, pieces, lots_less, has_mils}
 use Rattle.share_lots.proofs.OrderLemmas.{ranks-owned, ranks-next, ranks-either}
 
@@ -256,7 +256,7 @@ none_before lot (x ∷ xs) all =
     (rw behind rest.0, rw behind (ap (λ ys. x ∷ ys) rest.1))
 
 -- an insert at the place by rank
-pub inserted : (lots : List Lot) (lot : Lot) (i : ℕ) → IsPartitionPoint (λ other. ranks_before other lot ≡ true) (λ other. ranks_before other lot ≡ false) lots i → take i lots ++ lot ∷ drop i lots ≡ placed lot lots
+pub inserted : (lots : List Lot) (lot : Lot) (i : ℕ) → IsPartitionPoint (λ other. ranks_before other lot ≡ true) (λ other. ranks_before other lot ≡ false) lots i → take i lots ++ lot ∷ drop i lots ≡ lots_with lot lots
 inserted [] lot i point = rw (take_all {A = Lot} i [] (omega arith), drop_all {X = Lot} i [] (omega arith)) refl
 inserted (x ∷ xs) lot zero point =
     let none = none_before lot (x ∷ xs) (λ k d short. point.1 k d (omega arith) short) in
@@ -266,17 +266,17 @@ inserted (x ∷ xs) lot (suc i) point =
     rw first (ap (λ ys. x ∷ ys) (inserted xs lot i (λ k d lo lt. point.0 (suc k) d (omega arith) (omega arith), λ k d lo lt. point.1 (suc k) d (omega arith) (omega arith))))
 
 -- a lot placed before or behind the first
-placed-behind : (x lot : Lot) (xs : List Lot) → ranks_before x lot ≡ true → placed lot (x ∷ xs) ≡ x ∷ placed lot xs
+placed-behind : (x lot : Lot) (xs : List Lot) → ranks_before x lot ≡ true → lots_with lot (x ∷ xs) ≡ x ∷ lots_with lot xs
 placed-behind x lot xs first = rw first refl
 
-placed-first : (lot : Lot) (xs : List Lot) → All (λ other. ranks_before other lot ≡ false) xs → placed lot xs ≡ lot ∷ xs
+placed-first : (lot : Lot) (xs : List Lot) → All (λ other. ranks_before other lot ≡ false) xs → lots_with lot xs ≡ lot ∷ xs
 placed-first lot xs behind = let none = none_before lot xs behind in rw (none.0, none.1) refl
 
 All-append_lem : {X : Type 0} (P : X → Type 0) (xs ys : List X) → All P xs → All P ys → All P (xs ++ ys)
 All-append_lem P [] ys h k = k
 All-append_lem P (x ∷ xs) ys h k = All-cons P x (xs ++ ys) (All-head P x xs h) (All-append_lem P xs ys (All-tail P x xs h) k)
 
-pub All-placed : (P : Lot → Type 0) (lot : Lot) (lots : List Lot) → P lot → All P lots → All P (placed lot lots)
+pub All-placed : (P : Lot → Type 0) (lot : Lot) (lots : List Lot) → P lot → All P lots → All P (lots_with lot lots)
 All-placed P lot lots here all =
     All-append_lem P (filter (λ other. ranks_before other lot) lots) (lot ∷ filter (λ other. not (ranks_before other lot)) lots)
     (All-filter (λ other. ranks_before other lot) P lots all)
@@ -296,14 +296,14 @@ all_behind lot x xs ranked none =
     by y behind true e = absurd (let first = ranks-next x y lot behind e in let clash : true ≡ false = sym first ∙ none in cc)
     by y behind false e = e
 
-pub AllPairs-placed : (R : Lot → Lot → Type 0) (lot : Lot) (lots : List Lot) → AreRanked lots → All (Stands R lot) lots → AllPairs R lots → AllPairs R (placed lot lots)
+pub AllPairs-placed : (R : Lot → Lot → Type 0) (lot : Lot) (lots : List Lot) → AreRanked lots → All (Stands R lot) lots → AllPairs R lots → AllPairs R (lots_with lot lots)
 AllPairs-placed R lot [] ranked stands pairs = AllPairs-cons R lot [] (λ k d short. absurd (omega arith)) pairs
 AllPairs-placed R lot (x ∷ xs) ranked stands pairs =
     by (AllPairs-placed R lot xs (AllPairs-tail (λ a b. ranks_before a b ≡ true) x xs ranked) (All-tail (Stands R lot) x xs stands) (AllPairs-tail R x xs pairs)) (ranks_before x lot) refl
   where
-    by : AllPairs R (placed lot xs) → (t : Bool) → ranks_before x lot ≡ t → AllPairs R (placed lot (x ∷ xs))
+    by : AllPairs R (lots_with lot xs) → (t : Bool) → ranks_before x lot ≡ t → AllPairs R (lots_with lot (x ∷ xs))
     by later true first =
-        rw (placed-behind x lot xs first) (AllPairs-cons R x (placed lot xs)
+        rw (placed-behind x lot xs first) (AllPairs-cons R x (lots_with lot xs)
         (All-placed (R x) lot xs ((All-head (Stands R lot) x xs stands).before first) (AllPairs-head R x xs pairs))
         later)
     by later false none =
@@ -320,7 +320,7 @@ sum_by-split f p (x ∷ xs) =
       | false ↦ rw (sum_by-cons f x (filter (λ y. not (p y)) xs)) (omega (arith, sum_by-split f p xs))
     ])
 
-pub sum-placed : (f : Lot → ℕ) (lot : Lot) (lots : List Lot) → sum_by f (placed lot lots) ≡ f lot + sum_by f lots
+pub sum-placed : (f : Lot → ℕ) (lot : Lot) (lots : List Lot) → sum_by f (lots_with lot lots) ≡ f lot + sum_by f lots
 sum-placed f lot lots =
     rw (sum_by-append f (filter (λ other. ranks_before other lot) lots) (lot ∷ filter (λ other. not (ranks_before other lot)) lots), sum_by-cons f lot (filter (λ other. not (ranks_before other lot)) lots))
     (omega (arith, sum_by-split f (λ other. ranks_before other lot) lots))

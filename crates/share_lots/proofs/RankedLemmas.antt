@@ -4,7 +4,7 @@ use Rattle.std.specs.Prelude.{All, AllPairs}
 use Rattle.std.proofs.lemmas.List.{at_drop_more, at_drop_all}
 use Rattle.std.proofs.lemmas.List.Sums.{sum_by-cons}
 use Rattle.share_lots.specs.declared.lot.Lot.{Lot}
-use Rattle.share_lots.specs.Lots.{IsHolding, IsLotList, mils, AreRanked, ranks_before, placed, placed_all, ranked_lots}
+use Rattle.share_lots.specs.Lots.{IsHolding, IsLotList, mils, AreRanked, ranks_before, lots_with, placed_all, ranked_lots}
 use Rattle.share_lots.proofs.LotLemmas.{All-head, All-tail, AllPairs-head, AllPairs-tail, All-placed, AllPairs-placed, sum-placed}
 use Rattle.share_lots.proofs.OrderLemmas.{ranks-either}
 
@@ -44,7 +44,7 @@ not_both : (a b : Bool) → (a ≡ true → b ≡ false) → b ≡ true → a �
 not_both true b one e = cc (one refl)
 not_both false b one e = refl
 
-pub Placing-more : (next : ℕ) (places : List Lot) (x : Lot) (rest : List Lot) → Placing next places (x ∷ rest) → Placing next (placed x places) rest
+pub Placing-more : (next : ℕ) (places : List Lot) (x : Lot) (rest : List Lot) → Placing next places (x ∷ rest) → Placing next (lots_with x places) rest
 Placing-more next places x rest p = record {
   numbered = All-placed (λ l. 1 ≤ l.number) x places (All-head (λ l. 1 ≤ l.number) x rest p.rest_numbered) p.numbered;
   below_next = All-placed (λ l. l.number < next) x places (All-head (λ l. l.number < next) x rest p.rest_below) p.below_next;
@@ -69,10 +69,10 @@ Placing-more next places x rest p = record {
 sum-placed_all : (f : Lot → ℕ) (places lots : List Lot) → sum_by f (placed_all places lots) ≡ sum_by f places + sum_by f lots
 unfolding placed_all
 sum-placed_all f places [] = omega arith
-sum-placed_all f places (x ∷ xs) = rw (sum-placed_all f (placed x places) xs, sum-placed f x places, sum_by-cons f x xs) (omega arith)
+sum-placed_all f places (x ∷ xs) = rw (sum-placed_all f (lots_with x places) xs, sum-placed f x places, sum_by-cons f x xs) (omega arith)
 
 -- one lot more in its place
-pub placing-more : (next : ℕ) (places new lots all : List Lot) (i : ℕ) (x : Lot) → i < length lots → x ≡ get_or lots i x → new ≡ placed x places → Placing next places (drop i lots) → placed_all places (drop i lots) ≡ all → Placing next new (drop (i + 1) lots) × (placed_all new (drop (i + 1) lots) ≡ all)
+pub placing-more : (next : ℕ) (places new lots all : List Lot) (i : ℕ) (x : Lot) → i < length lots → x ≡ get_or lots i x → new ≡ lots_with x places → Placing next places (drop i lots) → placed_all places (drop i lots) ≡ all → Placing next new (drop (i + 1) lots) × (placed_all new (drop (i + 1) lots) ≡ all)
 unfolding placed_all
 placing-more next places new lots all i x h is e p done =
     let step : drop i lots ≡ x ∷ drop (i + 1) lots = at_drop_more (λ rest. rest) lots i x h ∙ ap (λ y. y ∷ drop (i + 1) lots) (sym is) in

@@ -83,17 +83,17 @@ abbrev pub join_free : ℕ → ℕ → Lot → Lot
 join_free quantity cents lot =
     if lot.free then record lot { loose = lot.loose + quantity; cost = lot.cost + cents } else lot
 
-abbrev pub joined : Holding → ℕ → ℕ → Holding
-joined h quantity cents = record { lots = map (join_free quantity cents) h.lots; next_lot = h.next_lot }
+abbrev pub holding_joined : Holding → ℕ → ℕ → Holding
+holding_joined h quantity cents = record { lots = map (join_free quantity cents) h.lots; next_lot = h.next_lot }
 
 -- a lot in its place by rank
-abbrev pub placed : Lot → List Lot → List Lot
-placed lot lots =
+abbrev pub lots_with : Lot → List Lot → List Lot
+lots_with lot lots =
     filter (λ other. ranks_before other lot) lots ++ lot ∷ filter (λ other. not (ranks_before other lot)) lots
 
 -- a new lot, with the next number
 abbrev pub with_lot : Holding → Lot → Holding
-with_lot h lot = record { lots = placed lot h.lots; next_lot = h.next_lot + 1 }
+with_lot h lot = record { lots = lots_with lot h.lots; next_lot = h.next_lot + 1 }
 
 -- the number of the free lot, where there is one
 abbrev pub free_number : List Lot → Option ℕ
@@ -111,19 +111,19 @@ new_lot h day quantity cents free =
 -- free mils join the free lot, where there is one; all else makes a new lot, with the next number
 abbrev pub added_to : Holding → Lot → Option ℕ → Added
 added_to h lot None = record { number = h.next_lot; holding = with_lot h lot }
-added_to h lot (Some number) = record { number = number; holding = joined h lot.loose lot.cost }
+added_to h lot (Some number) = record { number = number; holding = holding_joined h lot.loose lot.cost }
 
 -- the free lot that free mils join
 abbrev pub lot_joined : List Lot → Bool → Option ℕ
 lot_joined lots free = if free then free_number lots else None
 
-abbrev pub added : Holding → ℕ → ℕ → ℕ → Bool → Added
-added h day quantity cents free = added_to h (new_lot h day quantity cents free) (lot_joined h.lots free)
+abbrev pub shares_added : Holding → ℕ → ℕ → ℕ → Bool → Added
+shares_added h day quantity cents free = added_to h (new_lot h day quantity cents free) (lot_joined h.lots free)
 
 -- lots put in their places one by one
 unfoldable pub placed_all : List Lot → List Lot → List Lot
 placed_all places [] = places
-placed_all places (lot ∷ lots) = placed_all (placed lot places) lots
+placed_all places (lot ∷ lots) = placed_all (lots_with lot places) lots
 
 -- the lots of a position by rank
 abbrev pub ranked_lots : List Lot → List Lot

@@ -71,7 +71,7 @@ fn joined_lot(lot: &Lot, mils: &Mils, cost: &Cents) -> Lot
 /// Puts a lot in its place by rank.
 pub(crate) fn insert_lot(lots: &mut Vec<Lot>, lot: Lot) -> Result<(), NoMemory>
     requires { spec.AreRanked lots.old.items }
-    ensures ok { OnOk result (lots.new.items ≡ spec.placed lot lots.old.items) }
+    ensures ok { OnOk result (lots.new.items ≡ spec.lots_with lot lots.old.items) }
     ensures err { OnErr result (lots.new.items ≡ lots.old.items) }
 {
     let place = place_of(lots, &lot);
@@ -103,11 +103,11 @@ pub(crate) fn ranked_lots(alloc: Global, lots: &[Lot], next_lot: u32) -> Result<
     Ok(places)
 }
 
-/// A copy of the lots.
+/// A copy of the lots, with room for the lot that the next order brings.
 pub(crate) fn copied_lots(alloc: Global, lots: &[Lot]) -> Result<Vec<Lot>, NoMemory>
     ensures { IfOk result (λ copy. copy.items ≡ lots.now) }
 {
-    let mut copy = Vec::with_capacity(alloc, lots.len())?;
+    let mut copy = Vec::with_capacity(alloc, lots.len() + 1)?;
     copy.extend_from_slice(lots)?;
     Ok(copy)
 }

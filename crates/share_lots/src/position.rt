@@ -170,11 +170,11 @@ impl Position {
         requires few_mils { spec.loose_total self.old + spec.held_total self.old + mils
             ≤ spec.most_mils }
         requires low_cost { spec.cost_total self.old + cost ≤ spec.most_cost }
-        requires next { (spec.added self.old day mils cost free).holding.next_lot ≤ 4294967295 }
+        requires next { (spec.shares_added self.old day mils cost free).holding.next_lot ≤ 4294967295 }
         ensures added { IfOk result
             (λ number.
             record { number = number; holding = self.new }
-            ≡ spec.added self.old day mils cost free) }
+            ≡ spec.shares_added self.old day mils cost free) }
         ensures loose { IfOk result (λ number. spec.HasLoose self.new.lots number mils) }
         ensures mils_grown { OnOk result
             (spec.loose_total self.new + spec.held_total self.new

@@ -1,6 +1,6 @@
 //! Worked examples of lots, as laws: the checker computes each.
 ghost use Rattle.std.specs.Prelude.{◌≡◌, [], ◌∷◌, true, false};
-ghost use Rattle.share_lots.specs.Lots.{placed};
+ghost use Rattle.share_lots.specs.Lots.{lots_with};
 ghost use Rattle.share_lots.specs.Taking.{pieces, lots_less, after_taking, after_paying};
 
 /// 100.000 shares were bought for $1,000.00 and 5.000 free ones came from a dividend of $50.00. Of 50.000 taken the free
@@ -41,7 +41,7 @@ pub fn free_shares_go_first()
 /// Of two lots of one date the one with the smaller number is the lower in rank, and a third of $1.00 is $0.33: what a
 /// lot keeps of its cost is the rest.
 pub fn one_date_goes_by_number()
-    ensures place { placed (record {
+    ensures place { lots_with (record {
       number = 2;
       day = 7;
       loose = 3;

@@ -4,7 +4,7 @@ use Rattle.std.proofs.lemmas.Bool.{and_from, and_parts, or_parts}
 use Rattle.std.specs.List.{list_any}
 use Rattle.agent_events.specs.declared.order.Order.{Order}
 use Rattle.agent_events.specs.declared.order.OrderRow.{OrderRow}
-use Rattle.dividend_reinvest.specs.Dividend.{cash_of, mils_of as mils_bought, paid}
+use Rattle.dividend_reinvest.specs.Dividend.{cash_of, mils_of as mils_bought, payment_of_cash}
 use Rattle.dividend_reinvest.specs.declared.payment.Payment.{Payment}
 use Rattle.dividend_reinvest.specs.declared.payment.Payment.TheVariants as pays
 use Rattle.forward_price.specs.Sheets.{lists_class, nav_on}
@@ -40,7 +40,7 @@ no-rate nav position =
     let mils = mils_of position.holding in
     let zeros : mils * 0 ≡ 0 = omega arith in
     let none : cash_of mils 0 ≡ 0 = ap (λ n. half n 10000000) zeros ∙ half-zero 10000000 (omega arith) in
-    ap (λ cash. is_payment (cond (cash == 0) pays.Nothing (paid position.in_cash cash (mils_bought cash nav) (most_mils - mils) (most_cost - cost_total position.holding)))) none
+    ap (λ cash. is_payment (cond (cash == 0) pays.Nothing (payment_of_cash position.in_cash cash (mils_bought cash nav) (most_mils - mils) (most_cost - cost_total position.holding)))) none
 
 has-rate : (rate nav : ℕ) (position : Position) → is_payment (payment_on rate nav position) ≡ true → not (rate == 0) ≡ true
 has-rate rate nav position pays = by (rate == 0) refl
@@ -59,7 +59,7 @@ listed-at (price ∷ prices) class test lists passes = by (price.0 == class) ref
     by false is lists passes later = ap (λ b. test price || b) (later lists passes) ∙ late-true (test price)
 
 paid-by-book : (known : Known) (book : Book) → BooksAlike (book_of_facts known) book → (position : Position) → is_paid known position ≡ true → is_paid_on book (sheet_at_hand known) position ≡ true
-paid-by-book known book alike position paid =
+paid-by-book known book alike position payment_of_cash =
     listed-at sheet.prices position.class (is_paid_in book sheet position) both.0
     (λ price class nav. and_from (position.class == price.0) (not (rate_at book.rates price.0 (moment_of sheet) == 0) && pays_something (payment_on (rate_at book.rates price.0 (moment_of sheet)) price.1 position))
     (eq-yes position.class price.0 (sym class))
@@ -77,7 +77,7 @@ paid-by-book known book alike position paid =
     rate = rate_at (book_of_facts known).rates position.class (moment_of sheet)
 
     both : (lists_class sheet.prices position.class ≡ true) × (is_payment (payment_of known position.class position) ≡ true)
-    both = and_parts (lists_class sheet.prices position.class) (is_payment (payment_of known position.class position)) paid
+    both = and_parts (lists_class sheet.prices position.class) (is_payment (payment_of known position.class position)) payment_of_cash
 
 -- ---- quiet by the book, quiet by the facts
 

@@ -6,7 +6,7 @@ use Rattle.agent_events.specs.declared.event.EventKind.{EventKind}
 use Rattle.agent_events.specs.declared.request.SheetForm.{SheetForm}
 use Rattle.desk_books.specs.BooksOfJournals.{AreBooksOf}
 use Rattle.desk_books.specs.declared.books.DeskBooks.{DeskBooks}
-use Rattle.forward_price.specs.PriceTables.{Book, Table, published, with_published}
+use Rattle.forward_price.specs.PriceTables.{Book, Table, sheet_published, with_published}
 use Rattle.price_changes.proofs.LawfulChanges.{changes_prices}
 use Rattle.price_changes.specs.Changes.{CanChange, IsNextSheet}
 use Rattle.register_laws.specs.OneEventMore.{corrected_table, corrected_table_by}
@@ -39,7 +39,7 @@ on-trial books event form room prices number are lawful is moment same counted t
           ∙ (changes_prices journal event lawful).leaves));
       last =
           let all = ap (λ (t : Table). length t.sheets) there in
-          let more = length-append room.table.sheets (published room.table form.calendar (pos form.moment) form.prices ∷ []) in
+          let more = length-append room.table.sheets (sheet_published room.table form.calendar (pos form.moment) form.prices ∷ []) in
           omega (arith, counted, all, more);
       tables = are.tables;
       index = are.index;

@@ -9,7 +9,7 @@ use Rattle.agent_events.specs.declared.order.OrderRow.{OrderRow}
 use Rattle.forward_price.proofs.ChoiceFacts.{best-choice}
 use Rattle.forward_price.proofs.PricingFacts.{lt_fact}
 use Rattle.forward_price.proofs.TurnFacts.{earlier-order}
-use Rattle.forward_price.specs.Choices.{IsBest, IsChoice, considered, preferred}
+use Rattle.forward_price.specs.Choices.{IsBest, IsChoice, best_so_far, found_or_better}
 use Rattle.forward_price.specs.PriceTables.{is_earlier, next_sheet, prices_order}
 use Rattle.forward_price.specs.declared.price_sheet.Sheet.{Sheet}
 use Rattle.register_machine.specs.pricing.CorrectedOrders.{stands}
@@ -29,10 +29,10 @@ not-earlier a b le = by_test (is_earlier a b) refl
     by_test false e = refl
     by_test true e = let less = lt_fact a.moment b.moment e in absurd (omega (arith, ints))
 
-stays-first : (passes : Sheet → Bool) (s last : Sheet) → s.moment ≤ℤ last.moment → considered passes is_earlier (Some s) last ≡ Some s
+stays-first : (passes : Sheet → Bool) (s last : Sheet) → s.moment ≤ℤ last.moment → best_so_far passes is_earlier (Some s) last ≡ Some s
 stays-first passes s last le = by_test (passes last)
   where
-    by_test : (is : Bool) → cond is (preferred is_earlier (Some s) last) (Some s) ≡ Some s
+    by_test : (is : Bool) → cond is (found_or_better is_earlier (Some s) last) (Some s) ≡ Some s
     by_test false = refl
     by_test true = ap (λ earlier. cond earlier (Some last) (Some s)) (not-earlier last s le)
 
@@ -45,13 +45,13 @@ priced_after_waiting sheets last row comes priced = by_before (next_sheet sheets
     before : Option Sheet
     before = next_sheet sheets (classes_in row.order.body) (pos row.receipt)
 
-    goes-on : next_sheet (sheets ++ last ∷ []) (classes_in row.order.body) (pos row.receipt) ≡ considered passes is_earlier before last
-    goes-on = fold-append (considered passes is_earlier) None sheets (last ∷ [])
+    goes-on : next_sheet (sheets ++ last ∷ []) (classes_in row.order.body) (pos row.receipt) ≡ best_so_far passes is_earlier before last
+    goes-on = fold-append (best_so_far passes is_earlier) None sheets (last ∷ [])
 
     parts : (stands row ≡ true) × (option_map_or (λ (n : ℕ). n == last.number) (sheet_number (sheets ++ last ∷ []) row) false ≡ true)
     parts = and_parts (stands row) (option_map_or (λ (n : ℕ). n == last.number) (sheet_number (sheets ++ last ∷ []) row) false) priced
 
-    on : option_map_or (λ (n : ℕ). n == last.number) (option_map (λ (sheet : Sheet). sheet.number) (considered passes is_earlier before last)) false ≡ true
+    on : option_map_or (λ (n : ℕ). n == last.number) (option_map (λ (sheet : Sheet). sheet.number) (best_so_far passes is_earlier before last)) false ≡ true
     on = sym (ap (λ (found : Option Sheet). option_map_or (λ (n : ℕ). n == last.number) (option_map (λ (sheet : Sheet). sheet.number) found) false) goes-on) ∙ parts.1
 
     never : (s : Sheet) → before ≡ Some s → ⊥
@@ -60,7 +60,7 @@ priced_after_waiting sheets last row comes priced = by_before (next_sheet sheets
         let facts = All-contains (λ (sheet : Sheet). passes sheet ≡ true → (sheet.number ≢ last.number) × (sheet.moment ≤ℤ last.moment)) sheets s comes chosen.among chosen.here in
         let same : option_map_or (λ (n : ℕ). n == last.number) (option_map (λ (sheet : Sheet). sheet.number) (Some s)) false ≡ true =
         sym (ap (λ (found : Option Sheet). option_map_or (λ (n : ℕ). n == last.number) (option_map (λ (sheet : Sheet). sheet.number) found) false)
-        (ap (λ (found : Option Sheet). considered passes is_earlier found last) e ∙ stays-first passes s last facts.1)) ∙ on in
+        (ap (λ (found : Option Sheet). best_so_far passes is_earlier found last) e ∙ stays-first passes s last facts.1)) ∙ on in
         facts.0 (eqb-true s.number last.number same)
 
     by_before : (found : Option Sheet) → before ≡ found → waits sheets row ≡ true
@@ -74,18 +74,18 @@ priced_after_waiting sheets last row comes priced = by_before (next_sheet sheets
 -- a sheet that isn't earlier than any before it leaves each order its sheet
 number-stays : (sheets : List Sheet) (last : Sheet) (row : OrderRow) (n : ℕ) → All (λ (s : Sheet). s.moment ≤ℤ last.moment) sheets → sheet_number sheets row ≡ Some n → sheet_number (sheets ++ last ∷ []) row ≡ Some n
 number-stays sheets last row n earlier has =
-    ap (option_map (λ (sheet : Sheet). sheet.number)) (fold-append (considered passes is_earlier) None sheets (last ∷ []))
+    ap (option_map (λ (sheet : Sheet). sheet.number)) (fold-append (best_so_far passes is_earlier) None sheets (last ∷ []))
     ∙ by (next_sheet sheets (classes_in row.order.body) (pos row.receipt)) refl has
   where
     passes : Sheet → Bool
     passes = prices_order (classes_in row.order.body) (pos row.receipt)
 
-    by : (found : Option Sheet) → next_sheet sheets (classes_in row.order.body) (pos row.receipt) ≡ found → option_map (λ (sheet : Sheet). sheet.number) found ≡ Some n → option_map (λ (sheet : Sheet). sheet.number) (considered passes is_earlier (next_sheet sheets (classes_in row.order.body) (pos row.receipt)) last) ≡ Some n
+    by : (found : Option Sheet) → next_sheet sheets (classes_in row.order.body) (pos row.receipt) ≡ found → option_map (λ (sheet : Sheet). sheet.number) found ≡ Some n → option_map (λ (sheet : Sheet). sheet.number) (best_so_far passes is_earlier (next_sheet sheets (classes_in row.order.body) (pos row.receipt)) last) ≡ Some n
     by None e is = cc
     by (Some s) e is =
         let chosen : IsBest passes is_earlier sheets s = subst (IsChoice passes is_earlier sheets) e (best-choice passes is_earlier earlier-order sheets) in
         ap (option_map (λ (sheet : Sheet). sheet.number))
-        (ap (λ (found : Option Sheet). considered passes is_earlier found last) e
+        (ap (λ (found : Option Sheet). best_so_far passes is_earlier found last) e
         ∙ stays-first passes s last (All-contains (λ (sheet : Sheet). sheet.moment ≤ℤ last.moment) sheets s earlier chosen.among))
         ∙ is
 
@@ -109,8 +109,8 @@ none-found sheets row waiting = by_found (next_sheet sheets (classes_in row.orde
 alone-next : (sheets : List Sheet) (last : Sheet) (row : OrderRow) → waits sheets row ≡ true → next_sheet (sheets ++ last ∷ []) (classes_in row.order.body) (pos row.receipt) ≡ cond (could_price last row) (Some last) None
 alone-next sheets last row waiting =
     let passes = prices_order (classes_in row.order.body) (pos row.receipt) in
-    fold-append (considered passes is_earlier) None sheets (last ∷ [])
-    ∙ ap (λ (found : Option Sheet). considered passes is_earlier found last) (none-found sheets row waiting)
+    fold-append (best_so_far passes is_earlier) None sheets (last ∷ [])
+    ∙ ap (λ (found : Option Sheet). best_so_far passes is_earlier found last) (none-found sheets row waiting)
 
 within-last : (sheets : List Sheet) (last : Sheet) (row : OrderRow) → IsNumbered sheets last → is_within last.number (sheets ++ last ∷ []) row ≡ could_price last row
 within-last sheets last row numbered = ap (λ (found : Option Sheet). option_map_or (λ (sheet : Sheet). could_price sheet row) found false) numbered

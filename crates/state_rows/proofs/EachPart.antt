@@ -10,7 +10,7 @@ use Rattle.agent_events.specs.declared.checkpoint.PositionRow.{PositionRow}
 use Rattle.agent_events.specs.declared.checkpoint.StateRow.{StateRow}
 use Rattle.row_fields.specs.Exact.{IsBytes, IsField}
 use Rattle.row_fields.specs.Reading.{byte_at}
-use Rattle.row_fields.specs.Spelling.{four_bytes, listed}
+use Rattle.row_fields.specs.Spelling.{four_bytes, list_bytes}
 use Rattle.row_fields.proofs.Fields.{IsBytes-rest, read_some, map_some, both, shaped, tested, byte_takes, whole_some, tagged, chosen}
 use Rattle.row_fields.proofs.EachField.{respelled, four_field, eight_field, sixteen_field, flag_field, day_field, rate_field, listed_field}
 use Rattle.state_rows.specs.InForm.{IsLotRow, IsLetterRow, IsOpenLetter, IsPositionRow, IsKept, fits_lots, fits_lists}
@@ -80,7 +80,7 @@ position_field = shaped position_of (λ row. (row.account, (row.class, (row.in_c
     (both four_field (both four_field (both flag_field (both four_field (both open_letter_field (listed_field lot_field))))))
 
 state_spelling : StateRow → List ℕ
-state_spelling state = four_bytes state.household ++ listed position state.positions
+state_spelling state = four_bytes state.household ++ list_bytes position state.positions
 
 state_field : IsField state_spelling IsKept state_at
 unfolding state_at state_spelling

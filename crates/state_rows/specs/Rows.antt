@@ -4,7 +4,7 @@ use Rattle.agent_events.specs.declared.checkpoint.LetterRow.{LetterRow}
 use Rattle.agent_events.specs.declared.checkpoint.LotRow.{LotRow}
 use Rattle.agent_events.specs.declared.checkpoint.PositionRow.{PositionRow}
 use Rattle.agent_events.specs.declared.checkpoint.StateRow.{StateRow}
-use Rattle.row_fields.specs.Spelling.{one_byte, two_bytes, four_bytes, eight_bytes, sixteen_bytes, flag, listed}
+use Rattle.row_fields.specs.Spelling.{one_byte, two_bytes, four_bytes, eight_bytes, sixteen_bytes, flag, list_bytes}
 
 -- a lot: number, date, loose and held mils, cost, and whether it is free
 unfoldable pub lot : LotRow → List ℕ
@@ -27,7 +27,7 @@ open_letter (Some row) = one_byte 1 ++ letter row
 unfoldable pub position : PositionRow → List ℕ
 position row =
     four_bytes row.account ++ (four_bytes row.class ++ (flag row.in_cash ++ (four_bytes row.next_lot
-    ++ (open_letter row.letter ++ listed lot row.lots))))
+    ++ (open_letter row.letter ++ list_bytes lot row.lots))))
 
 unfoldable pub state_row : StateRow → List ℕ
-state_row state = one_byte 1 ++ (four_bytes state.household ++ listed position state.positions)
+state_row state = one_byte 1 ++ (four_bytes state.household ++ list_bytes position state.positions)

@@ -2,7 +2,7 @@
 ghost use Rattle.std.specs.Prelude.{◌≡◌, ◌++◌, true, OnOk};
 ghost use Rattle.std.specs.List.{flat_map, list_all};
 ghost use Rattle.agent_events.specs.Events.{fits_count};
-ghost use Rattle.row_fields.specs.Spelling.{listed, four_bytes};
+ghost use Rattle.row_fields.specs.Spelling.{list_bytes, four_bytes};
 ghost use Rattle.state_rows.specs.InForm.{fits_lots, fits_lists};
 ghost use Rattle.state_rows.specs.Rows as spelled;
 
@@ -44,7 +44,7 @@ fn put_each_lot(row: &mut RowWriter, lots: &[LotRow]) -> Result<(), NoMemory>
 #[tactic(auto, unfolding(row_fields::specs::Spelling::listed))]
 fn put_lots(row: &mut RowWriter, lots: &[LotRow]) -> Result<(), NoMemory>
     requires { fits_count lots.now ≡ true }
-    ensures { OnOk result (row.new ≡ row.old ++ listed spelled.lot lots.now) }
+    ensures { OnOk result (row.new ≡ row.old ++ list_bytes spelled.lot lots.now) }
 {
     row.count(lots.len())?;
     put_each_lot(row, lots)?;
@@ -106,7 +106,7 @@ fn put_each_position(row: &mut RowWriter, positions: &[PositionRow]) -> Result<(
 fn put_positions(row: &mut RowWriter, positions: &[PositionRow]) -> Result<(), NoMemory>
     requires count { fits_count positions.now ≡ true }
     requires lots { list_all fits_lots positions.now ≡ true }
-    ensures { OnOk result (row.new ≡ row.old ++ listed spelled.position positions.now) }
+    ensures { OnOk result (row.new ≡ row.old ++ list_bytes spelled.position positions.now) }
 {
     row.count(positions.len())?;
     put_each_position(row, positions)?;
@@ -119,7 +119,7 @@ pub(crate) fn put_state(row: &mut RowWriter, state: &StateRow) -> Result<(), NoM
     ensures { OnOk result
         (row.new
         ≡ row.old
-        ++ (four_bytes state.now.household ++ listed spelled.position state.now.positions)) }
+        ++ (four_bytes state.now.household ++ list_bytes spelled.position state.now.positions)) }
 {
     row.u32(state.household)?;
     put_positions(row, state.positions.as_slice())?;

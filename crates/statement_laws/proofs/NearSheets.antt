@@ -12,7 +12,7 @@ use Rattle.agent_events.specs.declared.verdict.Caller.{Caller}
 use Rattle.forward_price.proofs.OrderlyFacts.{pair_calendar}
 use Rattle.forward_price.proofs.TurnFacts.{All-left, All-right, expected_best}
 use Rattle.forward_price.specs.Orderly.{IsOrderly}
-use Rattle.forward_price.specs.PriceTables.{Table, closed_in, published}
+use Rattle.forward_price.specs.PriceTables.{Table, closed_in, sheet_published}
 use Rattle.forward_price.specs.Turns.{expected_of, moment_at, wrong_class}
 use Rattle.fund_calendar.specs.PricingDays.{Listing, date_at}
 use Rattle.fund_calendar.specs.declared.pricing_day.PricingDay.{PricingDay}
@@ -75,13 +75,13 @@ found_at (x ∷ xs) moment near (suc k, short, is) =
       at = later.at;
     }
 
-sheet_near : (t : Table) (calendar moment : ℕ) (prices : List (ℕ × ℕ)) → IsOrderly t → expected_of t ≡ Some (pos moment, calendar) → AreDaysNear t.calendars → IsSheetNear (published t calendar (pos moment) prices)
+sheet_near : (t : Table) (calendar moment : ℕ) (prices : List (ℕ × ℕ)) → IsOrderly t → expected_of t ≡ Some (pos moment, calendar) → AreDaysNear t.calendars → IsSheetNear (sheet_published t calendar (pos moment) prices)
 sheet_near t calendar moment prices orderly expected near =
     let best = expected_best t (pos moment, calendar) expected in
     let known = pair_calendar t.calendars (pos moment, calendar) orderly.calendars_differ best.among in
     let days = All-contains (λ (c : Listing). All IsDayNear c.days) t.calendars known.0 near known.2 in
     let here = found_at known.0.days moment days known.3 in
-    let day : (published t calendar (pos moment) prices).day ≡ here.day.day =
+    let day : (sheet_published t calendar (pos moment) prices).day ≡ here.day.day =
     ap (λ o. unwrap_or (option_and_then (λ (c : Listing). date_at c (pos moment)) o) 0) known.1
     ∙ ap (λ (o : Option PricingDay). unwrap_or (option_map (λ (e : PricingDay). e.day) o) 0) here.found in
     let at = here.at in
@@ -109,7 +109,7 @@ near_kind journal now caller (EventKind.Sheet form) orderly clear timely near =
     (not_broken situation (Request.Sheet form) clear Rule.SheetOutOfTurn) (not_broken situation (Request.Sheet form) clear Rule.SheetIncomplete) (not_broken situation (Request.Sheet form) clear Rule.TooSoon) in
     record {
       days = near.days;
-      sheets = All-push IsSheetNear t.sheets (published t form.calendar (pos form.moment) form.prices) near.sheets
+      sheets = All-push IsSheetNear t.sheets (sheet_published t form.calendar (pos form.moment) form.prices) near.sheets
           (sheet_near t form.calendar form.moment form.prices orderly (sym (expected-corrected journal t) ∙ is.0) near.days);
     }
 near_kind journal now caller kind orderly clear timely near = near

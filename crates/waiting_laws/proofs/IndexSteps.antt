@@ -16,7 +16,7 @@ use Rattle.agent_events.specs.declared.request.FixPriceForm.{FixPriceForm}
 use Rattle.agent_events.specs.declared.request.SheetForm.{SheetForm}
 use Rattle.event_laws.proofs.OrdersWait.{order_waits}
 use Rattle.event_laws.specs.EventReplays.{sheet_behind}
-use Rattle.forward_price.specs.Choices.{considered, preferred}
+use Rattle.forward_price.specs.Choices.{best_so_far, found_or_better}
 use Rattle.forward_price.specs.PriceTables.{Table, is_earlier, next_sheet, prices_order}
 use Rattle.forward_price.specs.declared.price_sheet.Sheet.{Sheet}
 use Rattle.register_laws.proofs.Comparisons.{eq-no, eq-yes}
@@ -326,7 +326,7 @@ replaces_order journal event form place owners waiting lawful kind row there nam
 none-before : (sheets : List Sheet) (new : Sheet) (row : OrderRow) → is_none (sheet_number (sheets ++ new ∷ []) row) ≡ true → is_none (sheet_number sheets row) ≡ true
 none-before sheets new row is =
     by (prices_order asked receipt new) (next_sheet sheets asked receipt)
-    (sym (ap (λ found. is_none (option_map (λ (s : Sheet). s.number) found)) (fold-append (considered (prices_order asked receipt) is_earlier) None sheets (new ∷ []))) ∙ is)
+    (sym (ap (λ found. is_none (option_map (λ (s : Sheet). s.number) found)) (fold-append (best_so_far (prices_order asked receipt) is_earlier) None sheets (new ∷ []))) ∙ is)
   where
     asked : List ℕ
     asked = classes_in row.order.body
@@ -338,7 +338,7 @@ none-before sheets new row is =
     never true y e = true≢false (sym e)
     never false y e = true≢false (sym e)
 
-    by : (b : Bool) (found : Option Sheet) → is_none (option_map (λ (s : Sheet). s.number) (cond b (preferred is_earlier found new) found)) ≡ true → is_none (option_map (λ (s : Sheet). s.number) found) ≡ true
+    by : (b : Bool) (found : Option Sheet) → is_none (option_map (λ (s : Sheet). s.number) (cond b (found_or_better is_earlier found new) found)) ≡ true → is_none (option_map (λ (s : Sheet). s.number) found) ≡ true
     by true None e = refl
     by true (Some y) e = absurd (never (is_earlier new y) y e)
     by false found e = e

@@ -3,7 +3,7 @@ use Rattle.std.specs.Prelude.{Bool, List, ℕ, ◌-◌, ◌==◌, filter, fold, 
 use Rattle.dividend_reinvest.specs.Dividend.{payment}
 use Rattle.dividend_reinvest.specs.declared.payment.Payment.{Payment}
 use Rattle.forward_price.specs.declared.price_sheet.Sheet.{Sheet}
-use Rattle.share_lots.specs.Lots.{added, cost_total, most_cost, most_mils}
+use Rattle.share_lots.specs.Lots.{shares_added, cost_total, most_cost, most_mils}
 use Rattle.register_machine.specs.pricing.CorrectedBook.{Book}
 use Rattle.register_machine.specs.pricing.DividendRates.{Rates, rate_at}
 use Rattle.register_machine.specs.pricing.PublishedTable.{moment_of}
@@ -30,7 +30,7 @@ abbrev pub day_after_payment : Sheet → Day → Position → Payment → Day
 day_after_payment sheet day position pays.Nothing = day
 day_after_payment sheet day position (pays.Cash cash) = with_trade day (cash_dividend_trade sheet position cash)
 day_after_payment sheet day position (pays.Shares cash mils) =
-    day_after_trade day (with_holding position (added position.holding sheet.day mils cash true).holding)
+    day_after_trade day (with_holding position (shares_added position.holding sheet.day mils cash true).holding)
     (dividend_trade sheet position cash mils)
 
 -- all mils of a position are paid on, loose and held, and reinvested only where the position stays within its ceiling

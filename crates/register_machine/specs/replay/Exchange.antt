@@ -2,9 +2,9 @@
 use Rattle.std.specs.Prelude.{List, Option, [], ℕ, ◌==◌, ◌∷◌, fold, not}
 use Rattle.agent_events.specs.declared.order.Order.{Order}
 use Rattle.forward_price.specs.declared.price_sheet.Sheet.{Sheet}
-use Rattle.fund_exchange.specs.Exchange.{carried}
+use Rattle.fund_exchange.specs.Exchange.{transfer_of}
 use Rattle.fund_exchange.specs.declared.carrying.Carried.{Carried}
-use Rattle.share_lots.specs.Lots.{Holding, added}
+use Rattle.share_lots.specs.Lots.{Holding, shares_added}
 use Rattle.share_lots.specs.Taking.{pieces}
 use Rattle.share_lots.specs.declared.lot.Piece.{Piece}
 use Rattle.register_machine.specs.journal.Choices.{when}
@@ -18,7 +18,7 @@ use Rattle.register_machine.specs.replay.Trades.{Day, day_after_trade, day_unles
 
 -- a piece comes into the target: as a lot with its own date and cost, or into the free lot
 abbrev pub holding_with_piece : Holding → Piece → Holding
-holding_with_piece holding piece = (added holding piece.day piece.mils piece.cost piece.free).holding
+holding_with_piece holding piece = (shares_added holding piece.day piece.mils piece.cost piece.free).holding
 
 abbrev pub position_with_pieces : Position → List Piece → Position
 position_with_pieces position given = with_holding position (fold holding_with_piece position.holding given)
@@ -39,7 +39,7 @@ day_after_exchange sheet day order to asked =
     let position = position_of day.register order.account (class_of order.body) in
     let target = position_of day.register order.account to in
     let nav = nav_of sheet position.class in
-    let moved = carried nav (nav_of sheet to) (pieces asked position.holding.lots) in
+    let moved = transfer_of nav (nav_of sheet to) (pieces asked position.holding.lots) in
     let trade = order_trade sheet order TradeKind.Exchange in
     day_unless_any (exchange_reasons position target asked moved) day trade
     (day_after_trade (with_position day (position_less position asked)) (position_with_pieces target moved.pieces)

@@ -3,7 +3,7 @@ use Rattle.std.specs.Prelude.{Bool, List, None, Option, Some, [], ℕ, ◌&&◌,
 use Rattle.agent_events.specs.declared.order.Order.{Order}
 use Rattle.forward_price.specs.Sheets.{lists_class}
 use Rattle.forward_price.specs.declared.price_sheet.Sheet.{Sheet}
-use Rattle.letter_of_intent.specs.Letters.{begun, has_expired, settlement}
+use Rattle.letter_of_intent.specs.Letters.{new_letter, has_expired, settlement}
 use Rattle.letter_of_intent.specs.declared.letter.Letter.{Letter}
 use Rattle.letter_of_intent.specs.declared.letter.Settlement.{Settlement}
 use Rattle.share_lots.specs.Lots.{held_total, release_all}
@@ -66,5 +66,5 @@ day_after_letter book sheet day order amount =
     let trade = order_trade sheet order TradeKind.Letter in
     let start = credit_of book sheet day.register order.account in
     day_unless_any (when (is_some position.letter) Why.LetterOpen ∷ []) day trade
-    (day_after_trade day (record position { letter = Some (begun amount sheet.day start (front_of book position.class)) })
+    (day_after_trade day (record position { letter = Some (new_letter amount sheet.day start (front_of book position.class)) })
     (record trade { cash = amount }))

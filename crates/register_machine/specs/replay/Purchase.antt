@@ -5,13 +5,13 @@ use Rattle.std.specs.Prelude.{Bool, None, Option, Some, [], ℕ, ◌&&◌, ◌+�
 use Rattle.agent_events.specs.declared.order.Order.{Order}
 use Rattle.forward_price.specs.PriceTables.{price_before}
 use Rattle.forward_price.specs.declared.price_sheet.Sheet.{Sheet}
-use Rattle.letter_of_intent.specs.Letters.{after_purchase, noted}
+use Rattle.letter_of_intent.specs.Letters.{after_purchase, note_of_purchase}
 use Rattle.letter_of_intent.specs.declared.letter.Letter.{Letter}
 use Rattle.offering_price.specs.Accumulation.{bracket, credit}
 use Rattle.offering_price.specs.Purchase.{split_of}
 use Rattle.offering_price.specs.declared.accumulation.Holding.{Holding as Worth}
 use Rattle.offering_price.specs.declared.purchase.Split.{Split}
-use Rattle.share_lots.specs.Lots.{Added, added, cost_total, hold_mils, release_all}
+use Rattle.share_lots.specs.Lots.{Added, shares_added, cost_total, hold_mils, release_all}
 use Rattle.register_machine.specs.journal.Choices.{when}
 use Rattle.register_machine.specs.journal.Kinds.{household_of}
 use Rattle.register_machine.specs.pricing.CorrectedBook.{Book, counts, front_of}
@@ -64,8 +64,8 @@ day_after_reaching sheet position day =
 
 -- what an open letter does with the new lot: it holds a part of it, and notes the purchase
 abbrev pub position_after_note : Position → Added → Letter → ℕ → Split → Position
-position_after_note position added letter gross split = record position {
-  holding = hold_mils added.holding added.number (noted letter gross split.price split.mils).hold;
+position_after_note position shares_added letter gross split = record position {
+  holding = hold_mils shares_added.holding shares_added.number (note_of_purchase letter gross split.price split.mils).hold;
   letter = Some (after_purchase letter gross split.price split.mils);
 }
 
@@ -74,21 +74,21 @@ day_if_reached reached sheet position day = if reached then day_after_reaching s
 
 -- and where the purchase brings it to its amount, it ends behind that purchase
 abbrev pub day_after_note : Sheet → Day → Position → Added → Letter → ℕ → Split → Trade → Day
-day_after_note sheet day position added letter gross split trade =
-    let kept = position_after_note position added letter gross split in
-    day_if_reached (noted letter gross split.price split.mils).reached sheet kept (day_after_trade day kept trade)
+day_after_note sheet day position shares_added letter gross split trade =
+    let kept = position_after_note position shares_added letter gross split in
+    day_if_reached (note_of_purchase letter gross split.price split.mils).reached sheet kept (day_after_trade day kept trade)
 
 abbrev pub day_with_lot : Sheet → Day → Position → Added → Option Letter → ℕ → Split → Trade → Day
-day_with_lot sheet day position added None gross split trade = day_after_trade day (with_holding position added.holding) trade
-day_with_lot sheet day position added (Some letter) gross split trade =
-    day_after_note sheet day position added letter gross split trade
+day_with_lot sheet day position shares_added None gross split trade = day_after_trade day (with_holding position shares_added.holding) trade
+day_with_lot sheet day position shares_added (Some letter) gross split trade =
+    day_after_note sheet day position shares_added letter gross split trade
 
 -- the purchase at its split: too small without a mil, and unfilled where the position would pass its ceiling
 abbrev pub day_at_split : Sheet → Day → Position → ℕ → Option Split → Trade → Day
 day_at_split sheet day position gross None trade = day_unless_any (Some Why.TooSmall ∷ []) day trade day
 day_at_split sheet day position gross (Some split) trade =
     day_unless_any (when (not (has_room position.holding split.mils gross)) Why.Ceiling ∷ []) day trade
-    (day_with_lot sheet day position (added position.holding sheet.day split.mils gross false) position.letter gross split
+    (day_with_lot sheet day position (shares_added position.holding sheet.day split.mils gross false) position.letter gross split
     (purchase_trade trade gross split))
 
 abbrev pub day_after_purchase : Book → Sheet → Day → Order → ℕ → Day

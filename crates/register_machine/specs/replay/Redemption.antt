@@ -2,7 +2,7 @@
 -- class (17 CFR 270.6c-10(a)(1)).
 use Rattle.std.specs.Prelude.{Option, [], ℕ, ◌*◌, ◌==◌, ◌||◌, ◌∷◌, nat_lt}
 use Rattle.agent_events.specs.declared.order.Order.{Order}
-use Rattle.contingent_charge.specs.DeferredCharge.{charged}
+use Rattle.contingent_charge.specs.DeferredCharge.{charge_of_pieces}
 use Rattle.contingent_charge.specs.declared.charging.Charged.{Charged}
 use Rattle.forward_price.specs.declared.price_sheet.Sheet.{Sheet}
 use Rattle.money_units.specs.Rounding.{half}
@@ -35,7 +35,7 @@ day_after_sale book sheet day position asked trade =
     let nav = nav_of sheet position.class in
     day_after_trade day (position_less position asked)
     (redemption_trade trade nav asked
-    (charged (pieces asked position.holding.lots) nav sheet.day (schedule_of book position.class)))
+    (charge_of_pieces (pieces asked position.holding.lots) nav sheet.day (schedule_of book position.class)))
 
 -- a redemption of so many mils, or of those that an amount asks for
 abbrev pub day_after_redemption : Book → Sheet → Day → Order → ℕ → Day

@@ -5,7 +5,7 @@ use Rattle.correction_trials.proofs.TrialSays.{says_breaks, says_moved}
 use Rattle.correction_trials.proofs.TrialSteps.{fits_last}
 use Rattle.correction_trials.specs.Reopened.{IsReopenedWhole}
 use Rattle.correction_trials.specs.Trials.{Says}
-use Rattle.forward_price.specs.PriceTables.{patched}
+use Rattle.forward_price.specs.PriceTables.{sheets_on_trial}
 use Rattle.agent_events.specs.declared.reply.Refusal.{Refusal}
 use Rattle.correction_trials.proofs.trial.said.Goals as goal
 
@@ -24,7 +24,7 @@ returns-in-Some-clause-tried g c =
 pub returns-in-None-clause-tried : goal.returns-in-None-clause-tried
 returns-in-None-clause-tried g c =
     IfOk-weaker c.moves.result _ _
-    (λ tried are. says_moved c.args.books.now c.args.event.now c.args.facts.now c.args.reopened.change (patched c.args.patch c.args.books.now.prices.table.sheets) tried c.requires.tried
+    (λ tried are. says_moved c.args.books.now c.args.event.now c.args.facts.now c.args.reopened.change (sheets_on_trial c.args.patch c.args.books.now.prices.table.sheets) tried c.requires.tried
     (subst (λ (first : Option BrokenTrade). IsReopenedWhole c.args.books.now c.args.event.now c.args.facts.now c.args.reopened.change first) (sym c.least_of.ensures ∙ c.in-None.is) c.requires.reached)
     c.references_in.ensures c.requires.sheets are)
     c.moves.ensures.made

@@ -4,7 +4,7 @@ use Rattle.std.specs.List.{filter_map}
 use Rattle.std.specs.List.Sorted.{IsStrictlyIncreasing}
 use Rattle.std.proofs.lemmas.Result.{IfOk-weaker}
 use Rattle.agent_events.specs.declared.reply_lists.ClassGain.{ClassGain}
-use Rattle.forward_price.specs.PriceTables.{patched}
+use Rattle.forward_price.specs.PriceTables.{sheets_on_trial}
 use Rattle.gain_loss_book.proofs.ClassFlowFacts.{keeps-change}
 use Rattle.gain_loss_book.proofs.GainsOfClasses.{gains-over, numbers-changed}
 use Rattle.gain_loss_book.specs.ClassFlows.{flows_of}
@@ -18,7 +18,7 @@ gains_of_classes-requires-clause-within c = λ q.
 pub returns : goal.returns
 returns c =
     let classes = c.in_ok-classes.classes in
-    let sheets = patched c.args.patch c.args.prices.now.table.sheets in
+    let sheets = sheets_on_trial c.args.patch c.args.prices.now.table.sheets in
     IfOk-weaker c.gains_of_classes.result
     (λ (gains : List ClassGain). gains ≡ filter_map (λ q. gain_of_flows q (flows_of classes q) sheets) (keys classes))
     (λ (gains : List ClassGain). (chosen : List ℕ) → IsStrictlyIncreasing chosen → HasChanged chosen c.args.changes.now → gains ≡ gains_in c.args.changes.now sheets chosen)

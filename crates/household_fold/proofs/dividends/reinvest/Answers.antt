@@ -1,6 +1,6 @@
 use Rattle.std.proofs.Common.{ap, ◌∙◌, true}
 use Rattle.register_machine.specs.replay.Positions.{Position, position_of, with_holding}
-use Rattle.share_lots.specs.Lots.{added}
+use Rattle.share_lots.specs.Lots.{shares_added}
 use Rattle.household_fold.specs.Facts.{sheet_at_hand}
 use Rattle.household_fold.proofs.DividendFacts.{reinvested}
 use Rattle.household_fold.proofs.LotNumbers.{put-number}
@@ -12,7 +12,7 @@ add-requires-clause-next c =
     let p = position_of c.args.day.now.register c.args.account c.args.class in
     let held = ap (λ (x : Position). x.holding) (c.position.view_is ∙ c.take_out-position.ensures.position) in
     rw (held, c.day.ensures)
-    (put-number (with_holding p (added p.holding (sheet_at_hand known).day c.args.mils c.args.cash true).holding) c.args.day.now.register c.requires.lots)
+    (put-number (with_holding p (shares_added p.holding (sheet_at_hand known).day c.args.mils c.args.cash true).holding) c.args.day.now.register c.requires.lots)
 
 pub returns : goal.returns
 returns c =

@@ -1,7 +1,7 @@
 use Rattle.std.proofs.Common.{ap, arith, subst, sym, ◌∙◌, ◌≡◌, ◌≤◌, ℕ}
 use Rattle.agent_events.specs.declared.trade.Trade.{Trade}
 use Rattle.agent_events.specs.declared.trade.TradeKind.{TradeKind}
-use Rattle.letter_of_intent.specs.Letters.{begun}
+use Rattle.letter_of_intent.specs.Letters.{new_letter}
 use Rattle.register_machine.specs.pricing.CorrectedBook.{front_of}
 use Rattle.register_machine.specs.pricing.OrderClasses.{class_of}
 use Rattle.register_machine.specs.replay.Purchase.{credit_of}
@@ -12,7 +12,7 @@ use Rattle.household_fold.specs.Purchases.{day_with_letter}
 use Rattle.household_fold.proofs.LetterSteps.{begun-is, begun-within, place-at, with_letter, without-at}
 use Rattle.household_fold.proofs.letters.day_with_letter.Goals as goal
 
-begins-is : (c : goal.In_ok-close_trade) → c.begin-letter.result ≡ begun c.args.amount.now (sheet_at_hand c.args.facts.now).day (credit_of (book_of_facts c.args.facts.now) (sheet_at_hand c.args.facts.now) c.args.day.now.register c.args.order.now.account) (front_of (book_of_facts c.args.facts.now) (class_of c.args.order.now.body))
+begins-is : (c : goal.In_ok-close_trade) → c.begin-letter.result ≡ new_letter c.args.amount.now (sheet_at_hand c.args.facts.now).day (credit_of (book_of_facts c.args.facts.now) (sheet_at_hand c.args.facts.now) c.args.day.now.register c.args.order.now.account) (front_of (book_of_facts c.args.facts.now) (class_of c.args.order.now.body))
 begins-is c =
     let book = book_of_facts c.args.facts.now in
     let sheet = sheet_at_hand c.args.facts.now in
@@ -26,10 +26,10 @@ begins-is c =
     ∙ ap (λ a. credit_of book sheet register a) c.number-account.ensures.value) in
     let front : rows ≡ front_of book (class_of order.body) = c.terms_of.ensures.front ∙ ap (front_of book) c.class_of-class.ensures in
     c.begin-letter.ensures.letter
-    ∙ ap (λ n. begun n c.day.result start rows) c.cents.ensures.value
-    ∙ ap (λ d. begun c.args.amount.now d start rows) c.day.ensures
-    ∙ ap (λ s. begun c.args.amount.now sheet.day s rows) credit
-    ∙ ap (λ f. begun c.args.amount.now sheet.day (credit_of book sheet register order.account) f) front
+    ∙ ap (λ n. new_letter n c.day.result start rows) c.cents.ensures.value
+    ∙ ap (λ d. new_letter c.args.amount.now d start rows) c.day.ensures
+    ∙ ap (λ s. new_letter c.args.amount.now sheet.day s rows) credit
+    ∙ ap (λ f. new_letter c.args.amount.now sheet.day (credit_of book sheet register order.account) f) front
 
 day-is : (c : goal.In_ok-close_trade) → c.close_trade.new.self ≡ day_with_letter c.args.facts.now c.args.day.now c.args.order.now c.args.amount.now
 day-is c =

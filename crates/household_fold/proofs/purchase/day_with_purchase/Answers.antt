@@ -3,7 +3,7 @@ use Rattle.register_machine.specs.pricing.OrderClasses.{class_of}
 use Rattle.register_machine.specs.replay.Positions.{Position, position_of, with_holding}
 use Rattle.register_machine.specs.replay.Purchase.{day_if_reached}
 use Rattle.register_machine.specs.replay.Trades.{Day, day_after_trade}
-use Rattle.share_lots.specs.Lots.{added}
+use Rattle.share_lots.specs.Lots.{shares_added}
 use Rattle.household_positions.specs.Register.{day_without}
 use Rattle.household_fold.specs.Facts.{sheet_at_hand}
 use Rattle.household_fold.specs.Limits.{AreLettersWithin, IsLetterWithin}
@@ -35,7 +35,7 @@ plain-day c =
     let account = c.number-account.ensures.value in
     let class = c.class_of-class.ensures in
     let there = c.take_out-position.ensures.position ∙ place-at day.register _ _ _ _ account class in
-    let bought : Position → ℕ → Position = λ p d. with_holding p (added p.holding d split.mils gross false).holding in
+    let bought : Position → ℕ → Position = λ p d. with_holding p (shares_added p.holding d split.mils gross false).holding in
     let none : (position_in day order).letter ≡ None =
     (sym (c.letter_of-letter.ensures ∙ ap (λ r. (position_of r c.number-account.result c.class_of-class.result).letter) c.register.ensures
     ∙ ap (λ (p : Position). p.letter) (place-at day.register _ _ _ _ account class)) ∙ c.in-None.is) in
@@ -71,8 +71,8 @@ noted-day c =
     let account = c.number-account.ensures.value in
     let class = c.class_of-class.ensures in
     let there = c.take_out-position.ensures.position ∙ place-at day.register _ _ _ _ account class in
-    let bought : Position → ℕ → Position = λ p d. with_holding p (added p.holding d split.mils gross false).holding in
-    let number : Position → ℕ → ℕ = λ p d. (added p.holding d split.mils gross false).number in
+    let bought : Position → ℕ → Position = λ p d. with_holding p (shares_added p.holding d split.mils gross false).holding in
+    let number : Position → ℕ → ℕ = λ p d. (shares_added p.holding d split.mils gross false).number in
     c.in_ok-close_trade-in-Some.ensures
     ∙ closed-by _ (day_without order.account (class_of order.body) day) _ (kept_in known day order c.in-Some.letter gross split) _ (trade_of_purchase known order gross split)
     (c.take_out-position.ensures.rest ∙ without-at day _ _ _ _ account class)

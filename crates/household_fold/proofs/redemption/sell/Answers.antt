@@ -1,5 +1,5 @@
 use Rattle.std.proofs.Common.{ap, refl, subst, sym, ◌∙◌, ℕ}
-use Rattle.contingent_charge.specs.DeferredCharge.{charged}
+use Rattle.contingent_charge.specs.DeferredCharge.{charge_of_pieces}
 use Rattle.share_lots.specs.Taking.{pieces}
 use Rattle.register_machine.specs.pricing.CorrectedBook.{schedule_of}
 use Rattle.register_machine.specs.replay.Positions.{Position, position_of}
@@ -33,4 +33,4 @@ returns c =
     ∙ (ap (λ n. redemption_trade trade (nav_of sheet n) asked c.in_ok-sold.sold) (sym class)
     ∙ ap (redemption_trade trade (nav_of sheet found.class) asked)
     (c.in_ok-sold.ensures.charged
-    ∙ ap (λ (p : Position). charged (pieces asked p.holding.lots) (nav_of sheet p.class) sheet.day (schedule_of book p.class)) c.take_out-position.ensures.position)))
+    ∙ ap (λ (p : Position). charge_of_pieces (pieces asked p.holding.lots) (nav_of sheet p.class) sheet.day (schedule_of book p.class)) c.take_out-position.ensures.position)))

@@ -1,6 +1,6 @@
 use Rattle.std.proofs.Common.{◌∙◌, ap, refl}
 use Rattle.share_lots.specs.declared.lot.Lot.{Lot}
-use Rattle.share_lots.specs.Lots.{placed}
+use Rattle.share_lots.specs.Lots.{lots_with}
 use Rattle.share_lots.proofs.RankedLemmas.{Placing-start, placing-more, placing-all, IsHolding-placed}
 use Rattle.share_lots.proofs.adding.ranked_lots.Goals as goal
 
@@ -12,7 +12,7 @@ loop-lot-init c = record {
 
 pub loop-lot-preserved : goal.loop-lot-preserved
 loop-lot-preserved c =
-    let new = c.in_ok-insert_lot.ensures.ok ∙ ap (λ (l : Lot). placed l c.loop-lot.places.items) c.copy_of.ensures in
+    let new = c.in_ok-insert_lot.ensures.ok ∙ ap (λ (l : Lot). lots_with l c.loop-lot.places.items) c.copy_of.ensures in
     let both = placing-more c.args.next_lot c.loop-lot.places.items c.insert_lot.new.lots.items c.args.lots.now _ c.loop-lot.lot-index c.lot-item.result c.loop-lot-test.true c.lot-item.is new c.loop-lot.invariant.placing c.loop-lot.invariant.done in
     record { placing = both.0; done = both.1 }
 

@@ -1,7 +1,7 @@
 use Rattle.std.proofs.Common.{List, ap, of_calls, rules, subst, sym, ℕ, ◌++◌, ◌∙◌, ◌∷◌, ◌≡◌, []}
 use Rattle.agent_events.specs.declared.order.Order.{Order}
 use Rattle.household_replay.proofs.NumberFacts.{kept-more, numbered-more}
-use Rattle.household_replay.specs.NumberedRows.{AreKept, AreUpTo, numbered}
+use Rattle.household_replay.specs.NumberedRows.{AreKept, AreUpTo, orders_numbered}
 use Rattle.household_replay.specs.Replays.{NumberedOrder}
 use Rattle.household_replay.proofs.numbered_orders.NumberedOrders.push.Goals as goal
 
@@ -20,7 +20,7 @@ invariant_of-self-2 c =
 
 pub returns-clause-ok : goal.returns-clause-ok
 returns-clause-ok c =
-    ap (λ (ns : List ℕ). numbered ns c.push_copy.new.self) (numbers-after c)
-    ∙ (ap (numbered (c.self.inside.numbers.items ++ c.args.number ∷ [])) c.in_ok-push_copy.ensures.ok
+    ap (λ (ns : List ℕ). orders_numbered ns c.push_copy.new.self) (numbers-after c)
+    ∙ (ap (orders_numbered (c.self.inside.numbers.items ++ c.args.number ∷ [])) c.in_ok-push_copy.ensures.ok
     ∙ (numbered-more c.self.inside.numbers.items c.self.inside.orders c.args.number c.args.order c.self.invariant.each
     ∙ ap (λ (rows : List NumberedOrder). rows ++ record { number = c.args.number; order = c.args.order } ∷ []) c.self.view_is))

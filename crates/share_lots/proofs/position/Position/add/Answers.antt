@@ -1,7 +1,7 @@
 use Rattle.std.proofs.Common.{◌≡◌, ◌++◌, ◌+◌, ◌≤◌, None, Some, length, map, take, drop, sum_by, sym, subst, ap, ◌∙◌, arith}
 use Rattle.std.proofs.lemmas.Grind.{common_steps}
 use Rattle.share_lots.specs.declared.lot.Lot.{Lot}
-use Rattle.share_lots.specs.Lots.{Holding, loose_total, held_total, join_free, lot_joined, mils, most_mils, most_cost, placed}
+use Rattle.share_lots.specs.Lots.{Holding, loose_total, held_total, join_free, lot_joined, mils, most_mils, most_cost, lots_with}
 use Rattle.share_lots.proofs.LotLemmas.{sum-mils, IsHolding-joined, IsHolding-with_lot, lone_free}
 use Rattle.share_lots.proofs.AddedLemmas.{joined-loose, joined-mils, joined-cost, placed-loose, placed-mils, placed-cost}
 use Rattle.share_lots.proofs.position.Position.add.Goals as goal
@@ -26,7 +26,7 @@ invariant_of-self-in-None c =
     let none : lot_joined items c.args.free ≡ None = ap (λ lots. lot_joined lots c.args.free) (sym c.deref.ensures.value) ∙ (sym c.lot_joined.ensures ∙ c.in-None.is) in
     let made = c.new_lot.ensures in
     let is = IsHolding-with_lot h lot c.self.invariant (ap (λ (l : Lot). l.number) made) (rw made (omega (arith, c.requires.positive))) (rw made (omega (arith, mils_fit))) (rw made cost_fits) (λ free. lone_free items c.args.free none (ap (λ (l : Lot). l.free) (sym made) ∙ free)) in
-    let placed_is : c.insert_lot.new.lots.items ≡ placed lot items = c.in_ok-insert_lot-in-None.ensures.ok in
+    let placed_is : c.insert_lot.new.lots.items ≡ lots_with lot items = c.in_ok-insert_lot-in-None.ensures.ok in
     rw placed_is is
 
 joined_is : (c : goal.After-self-1) → lot_joined c.self.inside.lots.items c.args.free ≡ Some c.in-Some.number
@@ -49,15 +49,15 @@ returns-in-Some-clause-cost_grown c =
 
 pub returns-in_ok-insert_lot-in-None-clause-loose : goal.returns-in_ok-insert_lot-in-None-clause-loose
 returns-in_ok-insert_lot-in-None-clause-loose c =
-    let placed_is : c.insert_lot.new.lots.items ≡ placed c.new_lot.result c.self.inside.lots.items = c.in_ok-insert_lot-in-None.ensures.ok in
+    let placed_is : c.insert_lot.new.lots.items ≡ lots_with c.new_lot.result c.self.inside.lots.items = c.in_ok-insert_lot-in-None.ensures.ok in
     rw placed_is (placed-loose c.self.inside.next_lot c.args.mils c.new_lot.result c.self.inside.lots.items c.self.invariant.below_next (ap (λ (l : Lot). l.loose) c.new_lot.ensures))
 
 pub returns-in_ok-insert_lot-in-None-clause-mils_grown : goal.returns-in_ok-insert_lot-in-None-clause-mils_grown
 returns-in_ok-insert_lot-in-None-clause-mils_grown c =
-    let placed_is : c.insert_lot.new.lots.items ≡ placed c.new_lot.result c.self.inside.lots.items = c.in_ok-insert_lot-in-None.ensures.ok in
+    let placed_is : c.insert_lot.new.lots.items ≡ lots_with c.new_lot.result c.self.inside.lots.items = c.in_ok-insert_lot-in-None.ensures.ok in
     rw (placed_is, ← c.self.view_is) (placed-mils c.args.mils c.new_lot.result c.self.inside.lots.items (rw c.new_lot.ensures (omega arith)))
 
 pub returns-in_ok-insert_lot-in-None-clause-cost_grown : goal.returns-in_ok-insert_lot-in-None-clause-cost_grown
 returns-in_ok-insert_lot-in-None-clause-cost_grown c =
-    let placed_is : c.insert_lot.new.lots.items ≡ placed c.new_lot.result c.self.inside.lots.items = c.in_ok-insert_lot-in-None.ensures.ok in
+    let placed_is : c.insert_lot.new.lots.items ≡ lots_with c.new_lot.result c.self.inside.lots.items = c.in_ok-insert_lot-in-None.ensures.ok in
     rw (placed_is, ← c.self.view_is) (placed-cost c.args.cost c.new_lot.result c.self.inside.lots.items (ap (λ (l : Lot). l.cost) c.new_lot.ensures))
