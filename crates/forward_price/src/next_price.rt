@@ -207,7 +207,8 @@ fn is_up_to(moment: i64, sheet: &Sheet) -> bool
 }
 
 fn follows(sheets: &[Sheet], moment: i64) -> bool
-    ensures { result ≡ true → NeverFall sheets.now → All (λ s. s.moment ≤ℤ moment) sheets.now }
+    ensures rising { result ≡ true → NeverFall sheets.now → All (λ s. s.moment ≤ℤ moment) sheets.now }
+    ensures any { All (λ s. s.moment ≤ℤ moment) sheets.now → result ≡ true }
 {
     match sheets.last() {
         Some(last) => is_up_to(moment, last),
@@ -216,11 +217,12 @@ fn follows(sheets: &[Sheet], moment: i64) -> bool
 }
 
 /// Whether the moments of sheets never fall with a sheet of this moment behind them, where it is known whether they do
-/// without it.
+/// without it: yes for each moment that isn't before any of theirs.
 pub fn stays_in_order(in_order: bool, sheets: &[Sheet], moment: i64) -> bool
     requires { in_order ≡ true → NeverFall sheets.now }
     ensures before { result ≡ true → NeverFall sheets.now }
     ensures last { result ≡ true → All (λ s. s.moment ≤ℤ moment) sheets.now }
+    ensures any { in_order ≡ true → All (λ s. s.moment ≤ℤ moment) sheets.now → result ≡ true }
 {
     in_order && follows(sheets, moment)
 }

@@ -41,7 +41,7 @@ fn put_each_lot(row: &mut RowWriter, lots: &[LotRow]) -> Result<(), NoMemory>
     Ok(())
 }
 
-#[tactic(auto, unfolding(row_fields::specs::Spelling::listed))]
+#[tactic(auto, unfolding(row_fields::specs::Spelling::list_bytes))]
 fn put_lots(row: &mut RowWriter, lots: &[LotRow]) -> Result<(), NoMemory>
     requires { fits_count lots.now ≡ true }
     ensures { OnOk result (row.new ≡ row.old ++ list_bytes spelled.lot lots.now) }
@@ -102,7 +102,7 @@ fn put_each_position(row: &mut RowWriter, positions: &[PositionRow]) -> Result<(
     Ok(())
 }
 
-#[tactic(auto, unfolding(row_fields::specs::Spelling::listed))]
+#[tactic(auto, unfolding(row_fields::specs::Spelling::list_bytes))]
 fn put_positions(row: &mut RowWriter, positions: &[PositionRow]) -> Result<(), NoMemory>
     requires count { fits_count positions.now ≡ true }
     requires lots { list_all fits_lots positions.now ≡ true }
