@@ -3,12 +3,36 @@
 #![tactic(auto)]
 
 #[cfg(test)]
+mod calendars;
+#[cfg(test)]
+mod corrections;
+#[cfg(test)]
 mod desks;
 #[cfg(test)]
+mod dividends;
+#[cfg(test)]
+mod exchanges;
+#[cfg(test)]
 mod faults;
+#[cfg(test)]
+mod ledgers;
+#[cfg(test)]
+mod letters;
+#[cfg(test)]
+mod purchases;
+#[cfg(test)]
+mod redemptions;
 #[cfg(test)]
 mod requests;
 #[cfg(test)]
 mod runs;
 #[cfg(test)]
+mod scripts;
+#[cfg(test)]
+mod statements;
+#[cfg(test)]
 mod texts;
+#[cfg(test)]
+mod unfilled;
+#[cfg(test)]
+mod worked;

@@ -1,0 +1,117 @@
+//! Corrections at the desk: the gain or loss that they tell, whoever bears it, and their repeats.
+use crate::calendars::PricingDays;
+use crate::worked::Worked;
+
+pub const CORRECTIONS: [Worked; 5] = [
+    // 10000.00 at the first sheet's 10.00 are 1000.000 shares, which are worth 10500.00 by now. The dealer pays the
+    // difference. Sent again, the correction is answered as before, and nothing is paid twice.
+    Worked {
+        name: "an order entered late",
+        days: PricingDays::Each,
+        items: b"1719867600,op-desk000001,sheet,1,1719864000,11:10.00 12:10.00 13:20.00 14:10.00\n\
+1719954000,op-desk000001,sheet,1,1719950400,11:10.00 12:10.00 13:20.00 14:10.50\n",
+        looks: b"1719954000,op-desk000001,enter,1,dealer:5,1719838800,buy,103,1,14,10000.00\n\
+1719954000,op-desk000001,trace,103,1\n\
+1719954000,op-desk000001,books\n\
+1719954000,op-desk000001,void,2,agent,103,1\n\
+1719954000,op-desk000001,enter,1,dealer:5,1719838800,buy,103,1,14,10000.00\n\
+1719954000,op-desk000001,books\n",
+        // Voided again, the class gives 10000.00 for shares worth 10500.00: a gain, which moves nothing.
+        replies: b"ok,fix,1,14:-500.00\n\
+ok,trace,103,1,filled,1719838800,1719864000,10.00,1000.000,10000.00,0.00,0.000\n\
+ok,books,11:0.000:0.00 12:0.000:0.00 13:0.000:0.00 14:1000.000:10500.00,0.00,0.00,5:-500.00,\
+-10000.00\n\
+ok,fix,2,14:500.00\n\
+ok,fix,1,14:-500.00\n\
+ok,books,11:0.000:0.00 12:0.000:0.00 13:0.000:0.00 14:0.000:500.00,0.00,0.00,5:-500.00,0.00\n",
+    },
+    // At 10.50 in the place of 10.00 1000.00 are 95.238 shares, 4.762 less, which are 50.00 (50.001) at that price: a
+    // gain without cash, though the agent would bear a loss. At 9.50 they are 105.263, 10.025 more, and 95.24 (95.2375):
+    // a loss that the fund bears without cash. At 8.00 they are 125.000, 19.737 more, and 157.90 (157.896), which the
+    // agent pays.
+    Worked {
+        name: "a price corrected and corrected again",
+        days: PricingDays::Each,
+        items: b"1719838800,h-mary000001,buy,101,1,14,1000.00\n\
+1719867600,op-desk000001,sheet,1,1719864000,11:10.00 12:10.00 13:20.00 14:10.00\n",
+        looks: b"1719867600,op-desk000001,fixprice,1,agent,14,1719864000,10.50\n\
+1719867600,op-desk000001,books\n\
+1719867600,op-desk000001,fixprice,2,fund,14,1719864000,9.50\n\
+1719867600,op-desk000001,books\n\
+1719867600,op-desk000001,fixprice,3,agent,14,1719864000,8.00\n\
+1719867600,op-desk000001,books\n\
+1719867600,op-desk000001,fixprice,1,agent,14,1719864000,10.50\n\
+1719867600,op-desk000001,fixprice,2,fund,14,1719864000,9.50\n",
+        replies: b"ok,fix,1,14:50.00\n\
+ok,books,11:0.000:0.00 12:0.000:0.00 13:0.000:0.00 14:95.238:1000.00,0.00,0.00,5:0.00,-1000.00\n\
+ok,fix,2,14:-95.24\n\
+ok,books,11:0.000:0.00 12:0.000:0.00 13:0.000:0.00 14:105.263:1000.00,0.00,0.00,5:0.00,-1000.00\n\
+ok,fix,3,14:-157.90\n\
+ok,books,11:0.000:0.00 12:0.000:0.00 13:0.000:0.00 14:125.000:1157.90,0.00,-157.90,5:0.00,\
+-1000.00\n\
+ok,fix,1,14:50.00\n\
+ok,fix,2,14:-95.24\n",
+    },
+    // 600.00 at 10.00 bring 60.000 shares that are worth as much: the class is told. In the place of class 14, at 10.50
+    // by then, they buy 60.000 shares of class 12, at 11.00. Class 14 gains 30.00; class 12 loses 60.00. Moved back where
+    // class 12 stands at 9.00 and class 14 at 10.50: class 12 gives 600.00 for shares worth 540.00, and class 14 has
+    // 600.00 for shares worth 630.00.
+    Worked {
+        name: "a gain of nothing and losses of two classes",
+        days: PricingDays::Each,
+        items: b"1719867600,op-desk000001,sheet,1,1719864000,11:10.00 12:10.00 13:20.00 14:10.00\n",
+        looks: b"1719867600,op-desk000001,enter,1,dealer:5,1719838800,buy,103,1,14,600.00\n\
+1719954000,op-desk000001,sheet,1,1719950400,11:10.00 12:11.00 13:20.00 14:10.50\n\
+1719954000,op-desk000001,replace,2,dealer:5,1719838800,buy,103,1,12,600.00\n\
+1719954000,op-desk000001,books\n\
+1720040400,op-desk000001,sheet,1,1720036800,11:10.00 12:9.00 13:20.00 14:10.50\n\
+1720040400,op-desk000001,replace,3,dealer:5,1719838800,buy,103,1,14,600.00\n\
+1720040400,op-desk000001,books\n",
+        replies: b"ok,fix,1,14:0.00\n\
+ok,sheet,2\n\
+ok,fix,2,12:-60.00 14:30.00\n\
+ok,books,11:0.000:0.00 12:60.000:660.00 13:0.000:0.00 14:0.000:0.00,0.00,0.00,5:-60.00,-600.00\n\
+ok,sheet,3\n\
+ok,fix,3,12:-60.00 14:-30.00\n\
+ok,books,11:0.000:0.00 12:0.000:120.00 13:0.000:0.00 14:60.000:630.00,0.00,0.00,5:-150.00,\
+-600.00\n",
+    },
+    // 100.000 shares were bought and sold. With 100.00 in the place of 1000.00 the sale would fall short: nothing changes.
+    Worked {
+        name: "a correction that breaks an order is refused",
+        days: PricingDays::Each,
+        items: b"1719838800,h-mary000001,buy,101,1,14,1000.00\n\
+1719867600,op-desk000001,sheet,1,1719864000,11:10.00 12:10.00 13:20.00 14:10.00\n\
+1719867700,h-mary000001,sell,101,2,14,100.000\n\
+1719954000,op-desk000001,sheet,1,1719950400,11:10.00 12:10.00 13:20.00 14:10.00\n",
+        looks: b"1719954000,op-desk000001,replace,1,fund,1719838800,buy,101,1,14,100.00\n\
+1719954000,op-desk000001,trace,101,1\n\
+1719954000,op-desk000001,books\n",
+        replies: b"no,15,101,2\n\
+ok,trace,101,1,filled,1719838800,1719864000,10.00,100.000,1000.00,0.00,0.000\n\
+ok,books,11:0.000:0.00 12:0.000:0.00 13:0.000:0.00 14:0.000:0.00,0.00,0.00,5:0.00,0.00\n",
+    },
+    // 0.10 on 100.000 shares are 10.00, and 1.000 share at 10.00; 0.25 are 25.00, and 2.500; none are none. The class
+    // gives no cash away.
+    Worked {
+        name: "a corrected rate changes its sheet",
+        days: PricingDays::Each,
+        items: b"1719838800,h-mary000001,buy,101,1,12,1000.00\n\
+1719838800,op-desk000001,dividend,12,1719950400,0.100000\n\
+1719867600,op-desk000001,sheet,1,1719864000,11:10.00 12:10.00 13:20.00 14:10.00\n\
+1719954000,op-desk000001,sheet,1,1719950400,11:10.00 12:10.00 13:20.00 14:10.00\n",
+        looks: b"1719954000,op-desk000001,show,101\n\
+1719954000,op-desk000001,fixrate,1,agent,12,1719950400,0.250000\n\
+1719954000,op-desk000001,show,101\n\
+1719954000,op-desk000001,fixrate,2,agent,12,1719950400,0.000000\n\
+1719954000,op-desk000001,show,101\n\
+1719954000,op-desk000001,books\n",
+        replies: b"ok,show,101,12:101.000:0.000:1010.00\n\
+ok,fix,1,12:-15.00\n\
+ok,show,101,12:102.500:0.000:1025.00\n\
+ok,fix,2,12:25.00\n\
+ok,show,101,12:100.000:0.000:1000.00\n\
+ok,books,11:0.000:0.00 12:100.000:1015.00 13:0.000:0.00 14:0.000:0.00,0.00,-15.00,5:0.00,\
+-1000.00\n",
+    },
+];
