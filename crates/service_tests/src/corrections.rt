@@ -2,7 +2,7 @@
 use crate::calendars::PricingDays;
 use crate::worked::Worked;
 
-pub const CORRECTIONS: [Worked; 5] = [
+pub const CORRECTIONS: [Worked; 8] = [
     // 10000.00 at the first sheet's 10.00 are 1000.000 shares, which are worth 10500.00 by now. The dealer pays the
     // difference. Sent again, the correction is answered as before, and nothing is paid twice.
     Worked {
@@ -113,5 +113,67 @@ ok,fix,2,12:25.00\n\
 ok,show,101,12:100.000:0.000:1000.00\n\
 ok,books,11:0.000:0.00 12:100.000:1015.00 13:0.000:0.00 14:0.000:0.00,0.00,-15.00,5:0.00,\
 -1000.00\n",
+    },
+    // At 12.50 in the place of the first sheet's 10.00 1000.00 are 80.000 shares, 20.000 less, and 200.00 at the second
+    // sheet's 10.00, the latest price: a gain. At 8.00 in the place of the second one's 10.00 they are 125.000, 25.000
+    // more, and 200.00 at that price: a loss, which the fund bears without cash.
+    Worked {
+        name: "a price corrected on the first sheet and on the last",
+        days: PricingDays::Each,
+        items: b"1719838800,h-mary000001,buy,101,1,14,1000.00\n\
+1719867600,op-desk000001,sheet,1,1719864000,11:10.00 12:10.00 13:20.00 14:10.00\n\
+1719867700,h-mary000001,buy,101,2,14,1000.00\n\
+1719954000,op-desk000001,sheet,1,1719950400,11:10.00 12:10.00 13:20.00 14:10.00\n",
+        looks: b"1719954000,op-desk000001,fixprice,1,fund,14,1719864000,12.50\n\
+1719954000,op-desk000001,show,101\n\
+1719954000,op-desk000001,fixprice,2,fund,14,1719950400,8.00\n\
+1719954000,op-desk000001,show,101\n\
+1719954000,op-desk000001,books\n",
+        replies: b"ok,fix,1,14:200.00\n\
+ok,show,101,14:180.000:0.000:2000.00\n\
+ok,fix,2,14:-200.00\n\
+ok,show,101,14:205.000:0.000:2000.00\n\
+ok,books,11:0.000:0.00 12:0.000:0.00 13:0.000:0.00 14:205.000:2000.00,0.00,0.00,5:0.00,-2000.00\n",
+    },
+    // Received before the first sheet in the place of behind it, 1000.00 buy 100.000 shares at 10.00 and not 50.000 at
+    // 20.00: 50.000 more, and 1000.00 at the latest 20.00, are lost. Moved back they are won again.
+    Worked {
+        name: "an order moved to an earlier sheet and back to a later one",
+        days: PricingDays::Each,
+        items: b"1719867600,op-desk000001,sheet,1,1719864000,11:10.00 12:10.00 13:20.00 14:10.00\n\
+1719867700,h-mary000001,buy,101,1,14,1000.00\n\
+1719954000,op-desk000001,sheet,1,1719950400,11:10.00 12:10.00 13:20.00 14:20.00\n",
+        looks: b"1719954000,op-desk000001,trace,101,1\n\
+1719954000,op-desk000001,replace,1,fund,1719838800,buy,101,1,14,1000.00\n\
+1719954000,op-desk000001,trace,101,1\n\
+1719954000,op-desk000001,replace,2,fund,1719867700,buy,101,1,14,1000.00\n\
+1719954000,op-desk000001,trace,101,1\n\
+1719954000,op-desk000001,show,101\n",
+        replies: b"ok,trace,101,1,filled,1719867700,1719950400,20.00,50.000,1000.00,0.00,0.000\n\
+ok,fix,1,14:-1000.00\n\
+ok,trace,101,1,filled,1719838800,1719864000,10.00,100.000,1000.00,0.00,0.000\n\
+ok,fix,2,14:1000.00\n\
+ok,trace,101,1,filled,1719867700,1719950400,20.00,50.000,1000.00,0.00,0.000\n\
+ok,show,101,14:50.000:0.000:1000.00\n",
+    },
+    // The class gives 1000.00 back for shares that are worth as much. Nothing is held behind it, and what is bought later
+    // stands alone.
+    Worked {
+        name: "a household whose only order is voided is as at its start",
+        days: PricingDays::Each,
+        items: b"1719838800,h-mary000001,buy,101,1,14,1000.00\n\
+1719867600,op-desk000001,sheet,1,1719864000,11:10.00 12:10.00 13:20.00 14:10.00\n",
+        looks: b"1719867600,op-desk000001,void,1,fund,101,1\n\
+1719867600,op-desk000001,show,101\n\
+1719867600,op-desk000001,books\n\
+1719867700,h-mary000001,buy,101,2,14,500.00\n\
+1719954000,op-desk000001,sheet,1,1719950400,11:10.00 12:10.00 13:20.00 14:10.00\n\
+1719954000,op-desk000001,show,101\n",
+        replies: b"ok,fix,1,14:0.00\n\
+ok,show,101,\n\
+ok,books,11:0.000:0.00 12:0.000:0.00 13:0.000:0.00 14:0.000:0.00,0.00,0.00,5:0.00,0.00\n\
+ok,order,101,2,1719867700,1719950400\n\
+ok,sheet,2\n\
+ok,show,101,14:50.000:0.000:500.00\n",
     },
 ];

@@ -7,54 +7,61 @@ use crate::purchases::PURCHASES;
 use crate::redemptions::REDEMPTIONS;
 use crate::statements::STATEMENTS;
 use crate::unfilled::UNFILLED;
-use crate::worked::{Worked, first_other};
-use std::alloc::Global;
-use std::process::Abort;
+use crate::worked::first_other;
 use std::test::Fail;
 
-// All of these scripts have their replies.
-fn expect(rt: &impl Abort, alloc: Global, scripts: &[Worked]) -> Result<(), Fail> {
-    let other = first_other(alloc, scripts)?;
+#[test]
+fn purchases_have_their_replies(rt: HostRuntime) -> Result<(), Fail> {
+    let other = first_other(rt.alloc(), &PURCHASES)?;
     assert_eq!(rt; other.as_str(), "");
     Ok(())
 }
 
 #[test]
-fn purchases_have_their_replies(rt: HostRuntime) -> Result<(), Fail> {
-    expect(&rt, rt.alloc(), &PURCHASES)
-}
-
-#[test]
 fn redemptions_have_their_replies(rt: HostRuntime) -> Result<(), Fail> {
-    expect(&rt, rt.alloc(), &REDEMPTIONS)
+    let other = first_other(rt.alloc(), &REDEMPTIONS)?;
+    assert_eq!(rt; other.as_str(), "");
+    Ok(())
 }
 
 #[test]
 fn exchanges_have_their_replies(rt: HostRuntime) -> Result<(), Fail> {
-    expect(&rt, rt.alloc(), &EXCHANGES)
+    let other = first_other(rt.alloc(), &EXCHANGES)?;
+    assert_eq!(rt; other.as_str(), "");
+    Ok(())
 }
 
 #[test]
 fn dividends_have_their_replies(rt: HostRuntime) -> Result<(), Fail> {
-    expect(&rt, rt.alloc(), &DIVIDENDS)
+    let other = first_other(rt.alloc(), &DIVIDENDS)?;
+    assert_eq!(rt; other.as_str(), "");
+    Ok(())
 }
 
 #[test]
 fn letters_of_intent_have_their_replies(rt: HostRuntime) -> Result<(), Fail> {
-    expect(&rt, rt.alloc(), &LETTERS)
+    let other = first_other(rt.alloc(), &LETTERS)?;
+    assert_eq!(rt; other.as_str(), "");
+    Ok(())
 }
 
 #[test]
 fn unfilled_orders_have_their_replies(rt: HostRuntime) -> Result<(), Fail> {
-    expect(&rt, rt.alloc(), &UNFILLED)
+    let other = first_other(rt.alloc(), &UNFILLED)?;
+    assert_eq!(rt; other.as_str(), "");
+    Ok(())
 }
 
 #[test]
 fn corrections_have_their_replies(rt: HostRuntime) -> Result<(), Fail> {
-    expect(&rt, rt.alloc(), &CORRECTIONS)
+    let other = first_other(rt.alloc(), &CORRECTIONS)?;
+    assert_eq!(rt; other.as_str(), "");
+    Ok(())
 }
 
 #[test]
 fn statements_have_their_replies(rt: HostRuntime) -> Result<(), Fail> {
-    expect(&rt, rt.alloc(), &STATEMENTS)
+    let other = first_other(rt.alloc(), &STATEMENTS)?;
+    assert_eq!(rt; other.as_str(), "");
+    Ok(())
 }

@@ -29,18 +29,30 @@ pub struct Worked {
     pub replies: &'static [u8],
 }
 
-// These texts in order.
-fn together(alloc: Global, texts: &[&[u8]]) -> Result<Vec<u8>, NoMemory> {
-    let mut all = Vec::new(alloc);
-    for text in texts {
-        all.extend_from_slice(text)?;
-    }
-    Ok(all)
+// The item of a calendar, the classes and accounts, items and looks in order.
+fn script_of(
+    alloc: Global,
+    days: PricingDays,
+    items: &[u8],
+    looks: &[u8],
+) -> Result<Vec<u8>, NoMemory> {
+    let mut script = Vec::from_slice(alloc, calendar_item(days))?;
+    script.extend_from_slice(FAMILY)?;
+    script.extend_from_slice(items)?;
+    script.extend_from_slice(looks)?;
+    Ok(script)
 }
 
 // How many lines a text has.
 fn lines_in(text: &[u8]) -> u64 {
     text.iter().filter(|byte| **byte == b'\n').count() as u64
+}
+
+// How many items bring a calendar, the classes and accounts, and these.
+fn items_with(items: &[u8]) -> u64 {
+    lines_in(FAMILY)
+        .saturating_add(lines_in(items))
+        .saturating_add(1)
 }
 
 // The replies of a desk to a script, a line each.
@@ -53,43 +65,18 @@ fn replies<K: Keeper, L: Ledger>(
 ) -> Result<Vec<u8>, Fail>
     requires attached { IsTrue (K.is_attached keeper.old) }
     requires told { TellsRowsOf (K.tells keeper.old) desk.old.book.journal }
-    ensures attached { IsTrue (K.is_attached keeper.new) }
-    ensures told { TellsRowsOf (K.tells keeper.new) desk.new.book.journal }
 {
     let mut sink = MemorySink::new(alloc, 4096, 1_000_000, &[])?;
     answer_script(alloc, OPERATOR, desk, keeper, script, &mut sink, steps)?;
     Ok(Vec::from_slice(alloc, sink.contents())?)
 }
 
-// The replies to looks behind items of which each brings its event.
-fn replies_behind<K: Keeper, L: Ledger>(
-    alloc: Global,
-    desk: &mut Desk,
-    keeper: &mut K,
-    items: &[u8],
-    looks: &[u8],
-    steps: &mut Steps<L>,
-) -> Result<Vec<u8>, Fail>
-    requires attached { IsTrue (K.is_attached keeper.old) }
-    requires told { TellsRowsOf (K.tells keeper.old) desk.old.book.journal }
-    ensures attached { IsTrue (K.is_attached keeper.new) }
-    ensures told { TellsRowsOf (K.tells keeper.new) desk.new.book.journal }
-{
-    let before = desk.len();
-    replies(alloc, desk, keeper, items, steps)?;
-    if desk.len() != before.saturating_add(lines_in(items)) {
-        return Err(Fail::from("an item brought no event"));
-    }
-    replies(alloc, desk, keeper, looks, steps)
-}
-
-// The same by a desk that is opened over the keeper's rows.
+// The replies of a desk that is opened over the keeper's rows.
 fn opened<L: Ledger>(
     alloc: Global,
     keeper: &mut MemoryKeeper,
     blank: Blank,
-    items: &[u8],
-    looks: &[u8],
+    script: &[u8],
 ) -> Result<Vec<u8>, Fail>
     requires name { blank.name ≡ L.name }
     requires parts { blank.parts ≡ L.parts }
@@ -97,7 +84,33 @@ fn opened<L: Ledger>(
 {
     let mut steps = Steps::<L>::new(blank);
     let mut desk = Desk::start(alloc, keeper, &mut steps)?;
-    replies_behind(alloc, &mut desk, keeper, items, looks, &mut steps)
+    replies(alloc, &mut desk, keeper, script, &mut steps)
+}
+
+// What stands behind the first line of a text; `None` where that line is a refusal, or there is none.
+fn behind_event(text: &[u8]) -> Option<&[u8]> {
+    if text.starts_with(b"no") {
+        return None;
+    }
+    let end = text.iter().position(|byte| *byte == b'\n')?;
+    text.get(end.saturating_add(1)..)
+}
+
+// What stands behind so many lines, none of which may be a refusal.
+fn behind_events(text: &[u8], count: u64) -> Option<&[u8]> {
+    let mut rest = text;
+    for _ in 0..count {
+        rest = behind_event(rest)?;
+    }
+    Some(rest)
+}
+
+// The replies to looks alone, by the replies to items and looks.
+fn looks_alone(alloc: Global, replies: &[u8], items: &[u8]) -> Result<Vec<u8>, Fail> {
+    match behind_events(replies, items_with(items)) {
+        Some(rest) => Ok(Vec::from_slice(alloc, rest)?),
+        None => Err(Fail::from("an item brought no event")),
+    }
 }
 
 /// The replies to looks behind a calendar, the classes and accounts, and items of which each brings its event; and to other
@@ -109,10 +122,11 @@ pub fn looks_behind(
     looks: &[u8],
     again: &[u8],
 ) -> Result<(Vec<u8>, Vec<u8>), Fail> {
-    let script = together(alloc, &[calendar_item(days), FAMILY, items])?;
+    let script = script_of(alloc, days, items, looks)?;
     let mut keeper = MemoryKeeper::new(alloc, &[])?;
-    let once = opened::<Brand>(alloc, &mut keeper, Blank::new(1), &script, looks)?;
-    let again = opened::<Brand>(alloc, &mut keeper, Blank::new(1), b"", again)?;
+    let all = opened::<Brand>(alloc, &mut keeper, Blank::new(1), &script)?;
+    let once = looks_alone(alloc, &all, items)?;
+    let again = opened::<Brand>(alloc, &mut keeper, Blank::new(1), again)?;
     Ok((once, again))
 }
 

@@ -1,0 +1,4 @@
+use Rattle.service_tests.proofs.worked.looks_behind.Given as goal
+
+abbrev pub ghosts-opened : goal.ghosts-opened
+ghosts-opened a = record { name = a.blank.name; parts = a.blank.parts }
