@@ -2,6 +2,14 @@
 #![tactic(auto)]
 
 #[cfg(test)]
+mod bodies;
+#[cfg(test)]
 mod feeds;
 #[cfg(test)]
 mod lines;
+#[cfg(test)]
+mod replies;
+#[cfg(test)]
+mod streams;
+#[cfg(test)]
+mod telling;

@@ -1,0 +1,870 @@
+//! Each reply, refusal and fault as a line and as the bytes of HTTP.
+use crate::telling::Shown;
+use agent_events::{
+    BooksOfClasses, BooksOfDealers, BooksReply, CancelForm, ClassBooks, ClassGain, ClassGains,
+    CloseForm, DealerBooks, Identifier, Minimum, OrderReply, OrderState, PositionText, Positions,
+    Reference, Refusal, Reply, TraceReply,
+};
+use agent_http::{HttpFault, batch_bytes, fault_bytes, reply_bytes, reply_line};
+use fund_calendar::Day;
+use money_units::{Bytes, Cents, Mils, Moment, NoMemory};
+use std::alloc::{AllocError, Global};
+use std::test::Fail;
+
+// ---- replies by their numbers
+
+/// A reply by its numbers.
+enum Form {
+    Calendar(u64),
+    Class(u64),
+    Dealer(u64),
+    Household(u64),
+    Account(u64),
+    Sheet(u32),
+    /// The account, the reference, the receipt and the due moment.
+    Order(u64, u64, u64, u64),
+    /// The account, the reference and the target.
+    Cancel(u64, u64, u64),
+    /// The calendar, and the days behind 1970-01-01.
+    Close(u64, i32),
+    /// The class and the moment.
+    Dividend(u64, u64),
+    /// Two classes, of which the second loses 500 dollars by a correction.
+    Gains,
+    /// One class and one dealer.
+    Books,
+    /// Two positions of account 101.
+    Positions,
+    NoPositions,
+    /// The text of a statement of account 101.
+    Statement(&'static [u8]),
+    /// The first order of account 101.
+    Trace(OrderState),
+    /// The code of a refusal and its values, 0 where it has none.
+    Refused(u8, u32, u32),
+}
+
+fn made(alloc: Global, form: &Form) -> Option<Reply> {
+    match form {
+        Form::Order(account, ref_no, receipt, due) => {
+            order_reply(*account, *ref_no, *receipt, *due)
+        }
+        Form::Cancel(account, ref_no, target) => cancel_reply(*account, *ref_no, *target),
+        Form::Close(calendar, day) => close_reply(*calendar, *day),
+        Form::Dividend(class, moment) => dividend_reply(*class, *moment),
+        Form::Gains => gains(alloc),
+        Form::Books => books(alloc),
+        Form::Positions => positions(alloc),
+        Form::NoPositions => no_positions(alloc),
+        Form::Statement(text) => statement(alloc, text),
+        Form::Trace(state) => traced(*state),
+        Form::Refused(code, value, second) => Some(Reply::Refused(refusal(
+            *code, *value, *second,
+        )?)),
+        _ => numbered(form),
+    }
+}
+
+fn numbered(form: &Form) -> Option<Reply> {
+    match form {
+        Form::Calendar(number) => Some(Reply::Calendar(Identifier::new(*number)?)),
+        Form::Class(number) => Some(Reply::Class(Identifier::new(*number)?)),
+        Form::Dealer(number) => Some(Reply::Dealer(Identifier::new(*number)?)),
+        Form::Household(number) => Some(Reply::Household(Identifier::new(*number)?)),
+        Form::Account(number) => Some(Reply::Account(Identifier::new(*number)?)),
+        Form::Sheet(number) => Some(Reply::Sheet(*number)),
+        _ => None,
+    }
+}
+
+fn order_reply(account: u64, ref_no: u64, receipt: u64, due: u64) -> Option<Reply> {
+    Some(Reply::Order(OrderReply {
+        account: Identifier::new(account)?,
+        ref_no: Reference::new(ref_no)?,
+        receipt: Moment::from_seconds(receipt)?,
+        due: Moment::from_seconds(due)?,
+    }))
+}
+
+fn cancel_reply(account: u64, ref_no: u64, target: u64) -> Option<Reply> {
+    Some(Reply::Cancel(CancelForm {
+        account: Identifier::new(account)?,
+        ref_no: Reference::new(ref_no)?,
+        target: Reference::new(target)?,
+    }))
+}
+
+fn close_reply(calendar: u64, day: i32) -> Option<Reply> {
+    Some(Reply::Close(CloseForm {
+        calendar: Identifier::new(calendar)?,
+        day: Day::from_number(day)?,
+    }))
+}
+
+fn dividend_reply(class: u64, moment: u64) -> Option<Reply> {
+    Some(Reply::Dividend {
+        class: Identifier::new(class)?,
+        moment: Moment::from_seconds(moment)?,
+    })
+}
+
+fn gains(alloc: Global) -> Option<Reply> {
+    let fix = Reference::new(1)?;
+    let first = ClassGain {
+        class: Identifier::new(13)?,
+        cents: 0,
+    };
+    let second = ClassGain {
+        class: Identifier::new(14)?,
+        cents: -50000,
+    };
+    let gains = ClassGains::from_slice(alloc, &[first, second]).ok()?;
+    Some(Reply::Fix { fix, gains })
+}
+
+fn books(alloc: Global) -> Option<Reply> {
+    let class = ClassBooks {
+        class: Identifier::new(14)?,
+        outstanding: 1000000,
+        cash: 1050000,
+    };
+    let dealer = DealerBooks {
+        dealer: Identifier::new(5)?,
+        cash: -50000,
+    };
+    let classes = BooksOfClasses::from_slice(alloc, &[class]).ok()?;
+    let dealers = BooksOfDealers::from_slice(alloc, &[dealer]).ok()?;
+    Some(Reply::Books(BooksReply {
+        classes,
+        underwriter: 0,
+        agent: 0,
+        dealers,
+        holders: -1000000,
+    }))
+}
+
+fn positions(alloc: Global) -> Option<Reply> {
+    let account = Identifier::new(101)?;
+    let first = PositionText {
+        class: Identifier::new(14)?,
+        loose: Mils(1000000),
+        held: Mils(0),
+        cost: Cents(1000000),
+    };
+    let second = PositionText {
+        class: Identifier::new(15)?,
+        loose: Mils(1),
+        held: Mils(2500),
+        cost: Cents(5),
+    };
+    let positions = Positions::from_slice(alloc, &[first, second]).ok()?;
+    Some(Reply::Show { account, positions })
+}
+
+fn no_positions(alloc: Global) -> Option<Reply> {
+    let account = Identifier::new(101)?;
+    let positions = Positions::new(alloc);
+    Some(Reply::Show { account, positions })
+}
+
+fn statement(alloc: Global, text: &[u8]) -> Option<Reply> {
+    let account = Identifier::new(101)?;
+    let text = Bytes::from_slice(alloc, text).ok()?;
+    Some(Reply::Statement { account, text })
+}
+
+fn traced(state: OrderState) -> Option<Reply> {
+    Some(Reply::Trace(TraceReply {
+        account: Identifier::new(101)?,
+        ref_no: Reference::new(1)?,
+        state,
+        receipt: Moment::from_seconds(1719838800)?,
+        due: Moment::from_seconds(1719864000)?,
+        price: Cents(1061),
+        mils: Mils(942507),
+        cash: Cents(1000000),
+        charge: Cents(57493),
+        loose: Mils(0),
+    }))
+}
+
+// A refusal by its code.
+fn refusal(code: u8, value: u32, second: u32) -> Option<Refusal> {
+    match code {
+        1 => Some(Refusal::NoRight),
+        2 => Some(Refusal::BadForm(u8::try_from(value).ok()?)),
+        3 => Some(Refusal::NoSuch(u8::try_from(value).ok()?)),
+        4 => Some(Refusal::RefUsed),
+        5 => Some(Refusal::CalendarEnded),
+        6 => Some(Refusal::BelowMinimum(Minimum::new(Cents(value as u64))?)),
+        7 => Some(Refusal::NotOffered),
+        11 => Some(Refusal::NotPending),
+        13 => Some(Refusal::SheetIncomplete(value)),
+        14 => Some(Refusal::Stands(value)),
+        15 => Some(Refusal::Breaks(
+            Identifier::new(value as u64)?,
+            Reference::new(second as u64)?,
+        )),
+        16 => Some(Refusal::OrdersFull(value)),
+        17 => Some(Refusal::TooMany(value)),
+        19 => Some(Refusal::JournalFull),
+        _ => refusal_at(code, Moment::from_seconds(value as u64)?, second),
+    }
+}
+
+// A refusal whose value is a moment.
+fn refusal_at(code: u8, moment: Moment, second: u32) -> Option<Refusal> {
+    match code {
+        8 => Some(Refusal::LateForDealer(moment)),
+        9 => Some(Refusal::ReceiptAhead(moment)),
+        10 => Some(Refusal::CancelLate(moment)),
+        12 => Some(Refusal::SheetOutOfTurn(moment, second)),
+        18 => Some(Refusal::TooSoon(moment)),
+        20 => Some(Refusal::StampBack(moment)),
+        _ => None,
+    }
+}
+
+// ---- what is sent
+
+/// What is sent: the status with its phrase, the type of the body, the line in a script's replies, and the body.
+struct Said {
+    status: &'static str,
+    kind: &'static str,
+    line: &'static str,
+    body: &'static str,
+}
+
+/// A reply and what is sent of it.
+struct Row {
+    form: Form,
+    said: Said,
+}
+
+fn line(alloc: Global, form: &Form) -> Result<Vec<u8>, NoMemory> {
+    match made(alloc, form) {
+        Some(reply) => line_of(alloc, &reply),
+        None => Ok(Vec::new(alloc)),
+    }
+}
+
+fn line_of(alloc: Global, reply: &Reply) -> Result<Vec<u8>, NoMemory> {
+    let mut line = Vec::new(alloc);
+    reply_line(alloc, reply, &mut line)?;
+    Ok(line)
+}
+
+// The bytes of HTTP where the connection stays or, after the last reply, closes.
+fn sent(alloc: Global, form: &Form, last: bool) -> Result<Vec<u8>, NoMemory> {
+    match made(alloc, form) {
+        Some(reply) => reply_bytes(alloc, &reply, last),
+        None => Ok(Vec::new(alloc)),
+    }
+}
+
+// The bytes of HTTP with this status and its phrase, type and body.
+fn message(
+    alloc: Global,
+    status: &str,
+    kind: &str,
+    last: bool,
+    body: &str,
+) -> Result<String, AllocError> {
+    let length = body.len();
+    let closing = if last { "\r\nConnection: close" } else { "" };
+    format!(in alloc;
+        "HTTP/1.1 {status}\r\nContent-Type: {kind}\r\nContent-Length: {length}{closing}\r\n\r\n{body}"
+    )
+}
+
+fn has_line(alloc: Global, row: &Row) -> Result<bool, NoMemory> {
+    Ok(line(alloc, &row.form)?.as_slice() == row.said.line.as_bytes())
+}
+
+fn is_sent(alloc: Global, form: &Form, last: bool, wanted: &[u8]) -> Result<bool, NoMemory> {
+    Ok(sent(alloc, form, last)?.as_slice() == wanted)
+}
+
+fn has_bytes(alloc: Global, row: &Row, last: bool) -> Result<bool, NoMemory> {
+    let said = &row.said;
+    let wanted = message(alloc, said.status, said.kind, last, said.body)?;
+    is_sent(alloc, &row.form, last, wanted.as_bytes())
+}
+
+fn is_said(alloc: Global, row: &Row) -> Result<bool, NoMemory> {
+    Ok(has_line(alloc, row)? && has_bytes(alloc, row, false)? && has_bytes(alloc, row, true)?)
+}
+
+fn shown_line(alloc: Global, row: &Row) -> Result<String, NoMemory> {
+    let line = line(alloc, &row.form)?;
+    Ok(format!(in alloc; "{}, and not {}", Shown(&line), row.said.line)?)
+}
+
+fn shown(alloc: Global, row: &Row) -> Result<String, NoMemory> {
+    let line = shown_line(alloc, row)?;
+    append_sent(alloc, row, line)
+}
+
+fn append_sent(alloc: Global, row: &Row, mut text: String) -> Result<String, NoMemory> {
+    let sent = sent(alloc, &row.form, false)?;
+    write!(text, "{}", Shown(&sent))?;
+    Ok(text)
+}
+
+// The first reply that has another line or other bytes, where the connection stays or closes, with them; empty without one.
+fn first_other(alloc: Global, rows: &[Row]) -> Result<String, NoMemory> {
+    for row in rows {
+        if !is_said(alloc, row)? {
+            return shown(alloc, row);
+        }
+    }
+    Ok(String::new(alloc))
+}
+
+// ---- replies
+
+const WORKED_ORDER: Form = Form::Order(101, 1, 1719838800, 1719864000);
+
+const WORKED: &[u8] =
+    b"HTTP/1.1 200 OK\r\nContent-Type: application/json\r\nContent-Length: 85\r\n\r\n{\"account\":\"101\",\"due\":\"1719864000\",\"receipt\":\"1719838800\",\"ref\":\"1\",\"reply\":\"order\"}";
+
+#[test]
+fn the_worked_reply_has_its_bytes(rt: HostRuntime) -> Result<(), Fail> {
+    let bytes = sent(rt.alloc(), &WORKED_ORDER, false)?;
+    assert_eq!(rt; bytes.as_slice(), WORKED);
+    Ok(())
+}
+
+const JSON: &str = "application/json";
+
+const REPLIES: [Row; 11] = [
+    Row {
+        form: Form::Calendar(1),
+        said: Said {
+            status: "200 OK",
+            kind: JSON,
+            line: "ok,calendar,1\n",
+            body: "{\"number\":\"1\",\"reply\":\"calendar\"}",
+        },
+    },
+    Row {
+        form: Form::Class(14),
+        said: Said {
+            status: "200 OK",
+            kind: JSON,
+            line: "ok,class,14\n",
+            body: "{\"number\":\"14\",\"reply\":\"class\"}",
+        },
+    },
+    Row {
+        form: Form::Dealer(5),
+        said: Said {
+            status: "200 OK",
+            kind: JSON,
+            line: "ok,dealer,5\n",
+            body: "{\"number\":\"5\",\"reply\":\"dealer\"}",
+        },
+    },
+    Row {
+        form: Form::Household(2),
+        said: Said {
+            status: "200 OK",
+            kind: JSON,
+            line: "ok,household,2\n",
+            body: "{\"number\":\"2\",\"reply\":\"household\"}",
+        },
+    },
+    Row {
+        form: Form::Account(101),
+        said: Said {
+            status: "200 OK",
+            kind: JSON,
+            line: "ok,account,101\n",
+            body: "{\"number\":\"101\",\"reply\":\"account\"}",
+        },
+    },
+    Row {
+        form: Form::Sheet(1),
+        said: Said {
+            status: "200 OK",
+            kind: JSON,
+            line: "ok,sheet,1\n",
+            body: "{\"number\":\"1\",\"reply\":\"sheet\"}",
+        },
+    },
+    Row {
+        form: Form::Order(101, 7, 1719838800, 1719864000),
+        said: Said {
+            status: "200 OK",
+            kind: JSON,
+            line: "ok,order,101,7,1719838800,1719864000\n",
+            body: "{\"account\":\"101\",\"due\":\"1719864000\",\"receipt\":\"1719838800\",\"ref\":\"7\",\"reply\":\"order\"}",
+        },
+    },
+    Row {
+        form: Form::Order(101, 9_999_999_999_999_999_999, 0, 1719864000),
+        said: Said {
+            status: "200 OK",
+            kind: JSON,
+            line: "ok,order,101,9999999999999999999,0,1719864000\n",
+            body: "{\"account\":\"101\",\"due\":\"1719864000\",\"receipt\":\"0\",\"ref\":\"9999999999999999999\",\"reply\":\"order\"}",
+        },
+    },
+    Row {
+        form: Form::Cancel(101, 2, 1),
+        said: Said {
+            status: "200 OK",
+            kind: JSON,
+            line: "ok,cancel,101,2,1\n",
+            body: "{\"account\":\"101\",\"ref\":\"2\",\"reply\":\"cancel\",\"target\":\"1\"}",
+        },
+    },
+    // 2024-07-02 is 19,906 days behind 1970-01-01.
+    Row {
+        form: Form::Close(1, 19906),
+        said: Said {
+            status: "200 OK",
+            kind: JSON,
+            line: "ok,close,1,2024-07-02\n",
+            body: "{\"calendar\":\"1\",\"date\":\"2024-07-02\",\"reply\":\"close\"}",
+        },
+    },
+    Row {
+        form: Form::Dividend(12, 1719864000),
+        said: Said {
+            status: "200 OK",
+            kind: JSON,
+            line: "ok,dividend,12,1719864000\n",
+            body: "{\"class\":\"12\",\"moment\":\"1719864000\",\"reply\":\"dividend\"}",
+        },
+    },
+];
+
+#[test]
+fn replies_have_their_lines_and_bytes(rt: HostRuntime) -> Result<(), Fail> {
+    let other = first_other(rt.alloc(), &REPLIES)?;
+    assert_eq!(rt; other.as_str(), "");
+    Ok(())
+}
+
+const LISTS: [Row; 6] = [
+    // Gains have their signs.
+    Row {
+        form: Form::Gains,
+        said: Said {
+            status: "200 OK",
+            kind: JSON,
+            line: "ok,fix,1,13:0.00 14:-500.00\n",
+            body: "{\"fix\":\"1\",\"gains\":\"13:0.00 14:-500.00\",\"reply\":\"fix\"}",
+        },
+    },
+    // Books stand by class and dealer.
+    Row {
+        form: Form::Books,
+        said: Said {
+            status: "200 OK",
+            kind: JSON,
+            line: "ok,books,14:1000.000:10500.00,0.00,0.00,5:-500.00,-10000.00\n",
+            body: "{\"agent\":\"0.00\",\"classes\":\"14:1000.000:10500.00\",\"dealers\":\"5:-500.00\",\"holders\":\"-10000.00\",\"reply\":\"books\",\"underwriter\":\"0.00\"}",
+        },
+    },
+    // Positions have spaces between them.
+    Row {
+        form: Form::Positions,
+        said: Said {
+            status: "200 OK",
+            kind: JSON,
+            line: "ok,show,101,14:1000.000:0.000:10000.00 15:0.001:2.500:0.05\n",
+            body: "{\"account\":\"101\",\"positions\":\"14:1000.000:0.000:10000.00 15:0.001:2.500:0.05\",\"reply\":\"show\"}",
+        },
+    },
+    Row {
+        form: Form::NoPositions,
+        said: Said {
+            status: "200 OK",
+            kind: JSON,
+            line: "ok,show,101,\n",
+            body: "{\"account\":\"101\",\"positions\":\"\",\"reply\":\"show\"}",
+        },
+    },
+    // Texts are sent as they are. The length counts bytes: this letter has two.
+    Row {
+        form: Form::Statement(b"a \"\xc3\xa9\"\n"),
+        said: Said {
+            status: "200 OK",
+            kind: "text/plain",
+            line: "ok,statement,101,\"a \"\"\u{e9}\"\"\n\"\n",
+            body: "a \"\u{e9}\"\n",
+        },
+    },
+    Row {
+        form: Form::Statement(b"a\n"),
+        said: Said {
+            status: "200 OK",
+            kind: "text/plain",
+            line: "ok,statement,101,\"a\n\"\n",
+            body: "a\n",
+        },
+    },
+];
+
+#[test]
+fn lists_and_texts_have_their_lines_and_bytes(rt: HostRuntime) -> Result<(), Fail> {
+    let other = first_other(rt.alloc(), &LISTS)?;
+    assert_eq!(rt; other.as_str(), "");
+    Ok(())
+}
+
+// A traced order with its numbers, by each state that it may have.
+const TRACES: [Row; 7] = [
+    Row {
+        form: Form::Trace(OrderState::Filled),
+        said: Said {
+            status: "200 OK",
+            kind: JSON,
+            line: "ok,trace,101,1,filled,1719838800,1719864000,10.61,942.507,10000.00,574.93,0.000\n",
+            body: "{\"account\":\"101\",\"cash\":\"10000.00\",\"charge\":\"574.93\",\"due\":\"1719864000\",\"loose\":\"0.000\",\"price\":\"10.61\",\"receipt\":\"1719838800\",\"ref\":\"1\",\"reply\":\"trace\",\"shares\":\"942.507\",\"state\":\"filled\"}",
+        },
+    },
+    Row {
+        form: Form::Trace(OrderState::Pending),
+        said: Said {
+            status: "200 OK",
+            kind: JSON,
+            line: "ok,trace,101,1,pending,1719838800,1719864000,10.61,942.507,10000.00,574.93,0.000\n",
+            body: "{\"account\":\"101\",\"cash\":\"10000.00\",\"charge\":\"574.93\",\"due\":\"1719864000\",\"loose\":\"0.000\",\"price\":\"10.61\",\"receipt\":\"1719838800\",\"ref\":\"1\",\"reply\":\"trace\",\"shares\":\"942.507\",\"state\":\"pending\"}",
+        },
+    },
+    Row {
+        form: Form::Trace(OrderState::Short),
+        said: Said {
+            status: "200 OK",
+            kind: JSON,
+            line: "ok,trace,101,1,short,1719838800,1719864000,10.61,942.507,10000.00,574.93,0.000\n",
+            body: "{\"account\":\"101\",\"cash\":\"10000.00\",\"charge\":\"574.93\",\"due\":\"1719864000\",\"loose\":\"0.000\",\"price\":\"10.61\",\"receipt\":\"1719838800\",\"ref\":\"1\",\"reply\":\"trace\",\"shares\":\"942.507\",\"state\":\"short\"}",
+        },
+    },
+    Row {
+        form: Form::Trace(OrderState::Small),
+        said: Said {
+            status: "200 OK",
+            kind: JSON,
+            line: "ok,trace,101,1,small,1719838800,1719864000,10.61,942.507,10000.00,574.93,0.000\n",
+            body: "{\"account\":\"101\",\"cash\":\"10000.00\",\"charge\":\"574.93\",\"due\":\"1719864000\",\"loose\":\"0.000\",\"price\":\"10.61\",\"receipt\":\"1719838800\",\"ref\":\"1\",\"reply\":\"trace\",\"shares\":\"942.507\",\"state\":\"small\"}",
+        },
+    },
+    Row {
+        form: Form::Trace(OrderState::Ceiling),
+        said: Said {
+            status: "200 OK",
+            kind: JSON,
+            line: "ok,trace,101,1,ceiling,1719838800,1719864000,10.61,942.507,10000.00,574.93,0.000\n",
+            body: "{\"account\":\"101\",\"cash\":\"10000.00\",\"charge\":\"574.93\",\"due\":\"1719864000\",\"loose\":\"0.000\",\"price\":\"10.61\",\"receipt\":\"1719838800\",\"ref\":\"1\",\"reply\":\"trace\",\"shares\":\"942.507\",\"state\":\"ceiling\"}",
+        },
+    },
+    Row {
+        form: Form::Trace(OrderState::Letter),
+        said: Said {
+            status: "200 OK",
+            kind: JSON,
+            line: "ok,trace,101,1,letter,1719838800,1719864000,10.61,942.507,10000.00,574.93,0.000\n",
+            body: "{\"account\":\"101\",\"cash\":\"10000.00\",\"charge\":\"574.93\",\"due\":\"1719864000\",\"loose\":\"0.000\",\"price\":\"10.61\",\"receipt\":\"1719838800\",\"ref\":\"1\",\"reply\":\"trace\",\"shares\":\"942.507\",\"state\":\"letter\"}",
+        },
+    },
+    Row {
+        form: Form::Trace(OrderState::Struck),
+        said: Said {
+            status: "200 OK",
+            kind: JSON,
+            line: "ok,trace,101,1,struck,1719838800,1719864000,10.61,942.507,10000.00,574.93,0.000\n",
+            body: "{\"account\":\"101\",\"cash\":\"10000.00\",\"charge\":\"574.93\",\"due\":\"1719864000\",\"loose\":\"0.000\",\"price\":\"10.61\",\"receipt\":\"1719838800\",\"ref\":\"1\",\"reply\":\"trace\",\"shares\":\"942.507\",\"state\":\"struck\"}",
+        },
+    },
+];
+
+#[test]
+fn a_traced_order_is_printed_with_its_numbers(rt: HostRuntime) -> Result<(), Fail> {
+    let other = first_other(rt.alloc(), &TRACES)?;
+    assert_eq!(rt; other.as_str(), "");
+    Ok(())
+}
+
+const CONFLICT: &str = "409 Conflict";
+
+const BROKEN: &str = "422 Unprocessable Entity";
+
+const REFUSALS: [Row; 20] = [
+    Row {
+        form: Form::Refused(1, 0, 0),
+        said: Said {
+            status: "403 Forbidden",
+            kind: JSON,
+            line: "no,1\n",
+            body: "{\"code\":\"1\",\"reply\":\"no\"}",
+        },
+    },
+    Row {
+        form: Form::Refused(2, 0, 0),
+        said: Said {
+            status: "400 Bad Request",
+            kind: JSON,
+            line: "no,2,0\n",
+            body: "{\"code\":\"2\",\"reply\":\"no\",\"value\":\"0\"}",
+        },
+    },
+    Row {
+        form: Form::Refused(2, 10, 0),
+        said: Said {
+            status: "400 Bad Request",
+            kind: JSON,
+            line: "no,2,10\n",
+            body: "{\"code\":\"2\",\"reply\":\"no\",\"value\":\"10\"}",
+        },
+    },
+    Row {
+        form: Form::Refused(3, 3, 0),
+        said: Said {
+            status: "404 Not Found",
+            kind: JSON,
+            line: "no,3,3\n",
+            body: "{\"code\":\"3\",\"reply\":\"no\",\"value\":\"3\"}",
+        },
+    },
+    Row {
+        form: Form::Refused(4, 0, 0),
+        said: Said {
+            status: CONFLICT,
+            kind: JSON,
+            line: "no,4\n",
+            body: "{\"code\":\"4\",\"reply\":\"no\"}",
+        },
+    },
+    Row {
+        form: Form::Refused(5, 0, 0),
+        said: Said {
+            status: BROKEN,
+            kind: JSON,
+            line: "no,5\n",
+            body: "{\"code\":\"5\",\"reply\":\"no\"}",
+        },
+    },
+    Row {
+        form: Form::Refused(6, 25000, 0),
+        said: Said {
+            status: BROKEN,
+            kind: JSON,
+            line: "no,6,250.00\n",
+            body: "{\"code\":\"6\",\"reply\":\"no\",\"value\":\"250.00\"}",
+        },
+    },
+    Row {
+        form: Form::Refused(7, 0, 0),
+        said: Said {
+            status: BROKEN,
+            kind: JSON,
+            line: "no,7\n",
+            body: "{\"code\":\"7\",\"reply\":\"no\"}",
+        },
+    },
+    Row {
+        form: Form::Refused(8, 1719864000, 0),
+        said: Said {
+            status: BROKEN,
+            kind: JSON,
+            line: "no,8,1719864000\n",
+            body: "{\"code\":\"8\",\"reply\":\"no\",\"value\":\"1719864000\"}",
+        },
+    },
+    Row {
+        form: Form::Refused(9, 1719838800, 0),
+        said: Said {
+            status: BROKEN,
+            kind: JSON,
+            line: "no,9,1719838800\n",
+            body: "{\"code\":\"9\",\"reply\":\"no\",\"value\":\"1719838800\"}",
+        },
+    },
+    Row {
+        form: Form::Refused(10, 1719864000, 0),
+        said: Said {
+            status: CONFLICT,
+            kind: JSON,
+            line: "no,10,1719864000\n",
+            body: "{\"code\":\"10\",\"reply\":\"no\",\"value\":\"1719864000\"}",
+        },
+    },
+    Row {
+        form: Form::Refused(11, 0, 0),
+        said: Said {
+            status: CONFLICT,
+            kind: JSON,
+            line: "no,11\n",
+            body: "{\"code\":\"11\",\"reply\":\"no\"}",
+        },
+    },
+    Row {
+        form: Form::Refused(12, 1719950400, 1),
+        said: Said {
+            status: CONFLICT,
+            kind: JSON,
+            line: "no,12,1719950400,1\n",
+            body: "{\"code\":\"12\",\"reply\":\"no\",\"second\":\"1\",\"value\":\"1719950400\"}",
+        },
+    },
+    Row {
+        form: Form::Refused(13, 13, 0),
+        said: Said {
+            status: BROKEN,
+            kind: JSON,
+            line: "no,13,13\n",
+            body: "{\"code\":\"13\",\"reply\":\"no\",\"value\":\"13\"}",
+        },
+    },
+    Row {
+        form: Form::Refused(14, 1, 0),
+        said: Said {
+            status: CONFLICT,
+            kind: JSON,
+            line: "no,14,1\n",
+            body: "{\"code\":\"14\",\"reply\":\"no\",\"value\":\"1\"}",
+        },
+    },
+    Row {
+        form: Form::Refused(15, 101, 2),
+        said: Said {
+            status: CONFLICT,
+            kind: JSON,
+            line: "no,15,101,2\n",
+            body: "{\"code\":\"15\",\"reply\":\"no\",\"second\":\"2\",\"value\":\"101\"}",
+        },
+    },
+    Row {
+        form: Form::Refused(16, 4096, 0),
+        said: Said {
+            status: BROKEN,
+            kind: JSON,
+            line: "no,16,4096\n",
+            body: "{\"code\":\"16\",\"reply\":\"no\",\"value\":\"4096\"}",
+        },
+    },
+    Row {
+        form: Form::Refused(17, 1000, 0),
+        said: Said {
+            status: BROKEN,
+            kind: JSON,
+            line: "no,17,1000\n",
+            body: "{\"code\":\"17\",\"reply\":\"no\",\"value\":\"1000\"}",
+        },
+    },
+    Row {
+        form: Form::Refused(18, 1719864000, 0),
+        said: Said {
+            status: CONFLICT,
+            kind: JSON,
+            line: "no,18,1719864000\n",
+            body: "{\"code\":\"18\",\"reply\":\"no\",\"value\":\"1719864000\"}",
+        },
+    },
+    Row {
+        form: Form::Refused(19, 0, 0),
+        said: Said {
+            status: CONFLICT,
+            kind: JSON,
+            line: "no,19\n",
+            body: "{\"code\":\"19\",\"reply\":\"no\"}",
+        },
+    },
+];
+
+#[test]
+fn refusals_have_their_lines_and_bytes(rt: HostRuntime) -> Result<(), Fail> {
+    let other = first_other(rt.alloc(), &REFUSALS)?;
+    assert_eq!(rt; other.as_str(), "");
+    Ok(())
+}
+
+// A stamp that goes back comes in scripts alone.
+#[test]
+fn a_stamp_that_goes_back_has_its_line(rt: HostRuntime) -> Result<(), Fail> {
+    let back = line(rt.alloc(), &Form::Refused(20, 1719867700, 0))?;
+    assert_eq!(rt; back.as_slice(), b"no,20,1719867700\n".as_slice());
+    Ok(())
+}
+
+// ---- batches and faults
+
+fn is_batch_sent(alloc: Global, lines: &str, last: bool) -> Result<bool, NoMemory> {
+    let wanted = message(alloc, "200 OK", "text/csv", last, lines)?;
+    is_batch_of(alloc, lines, last, wanted.as_bytes())
+}
+
+fn is_batch_of(alloc: Global, lines: &str, last: bool, wanted: &[u8]) -> Result<bool, NoMemory> {
+    Ok(batch_bytes(alloc, lines.as_bytes(), last)?.as_slice() == wanted)
+}
+
+#[test]
+fn batches_are_sent_as_they_are(rt: HostRuntime) -> Result<(), Fail> {
+    for last in [false, true] {
+        assert!(rt; is_batch_sent(rt.alloc(), "", last)?);
+        assert!(rt; is_batch_sent(rt.alloc(), "no,2,1\nok,order,103,1,5,6\n", last)?);
+    }
+    Ok(())
+}
+
+// Each fault by its code and its status.
+const FAULTS: [(HttpFault, &str, &str); 10] = [
+    (HttpFault::S400, "400", "400 Bad Request"),
+    (HttpFault::S404, "404", "404 Not Found"),
+    (HttpFault::S405, "405", "405 Method Not Allowed"),
+    (HttpFault::S411, "411", "411 Length Required"),
+    (HttpFault::S413, "413", "413 Payload Too Large"),
+    (
+        HttpFault::S431,
+        "431",
+        "431 Request Header Fields Too Large",
+    ),
+    (HttpFault::S500, "500", "500 Internal Server Error"),
+    (HttpFault::S501, "501", "501 Not Implemented"),
+    (HttpFault::S503, "503", "503 Service Unavailable"),
+    (HttpFault::S507, "507", "507 Insufficient Storage"),
+];
+
+// The body of a fault has 30 bytes.
+fn is_fault_of(
+    alloc: Global,
+    fault: HttpFault,
+    status: &str,
+    last: bool,
+    body: &str,
+) -> Result<bool, NoMemory> {
+    let wanted = message(alloc, status, JSON, last, body)?;
+    Ok(body.len() == 30 && fault_bytes(fault, last) == wanted.as_bytes())
+}
+
+fn is_fault_sent(
+    alloc: Global,
+    row: &(HttpFault, &str, &str),
+    last: bool,
+) -> Result<bool, NoMemory> {
+    let body = format!(in alloc; "{{\"code\":\"{}\",\"reply\":\"fault\"}}", row.1)?;
+    is_fault_of(alloc, row.0, row.2, last, body.as_str())
+}
+
+// The code of the first fault that has other bytes; empty without one.
+fn first_other_fault(
+    alloc: Global,
+    rows: &[(HttpFault, &'static str, &'static str)],
+) -> Result<&'static str, NoMemory> {
+    for row in rows {
+        if !is_fault_sent(alloc, row, false)? || !is_fault_sent(alloc, row, true)? {
+            return Ok(row.1);
+        }
+    }
+    Ok("")
+}
+
+#[test]
+fn faults_have_their_bytes(rt: HostRuntime) -> Result<(), Fail> {
+    assert_eq!(rt; first_other_fault(rt.alloc(), &FAULTS)?, "");
+    Ok(())
+}
