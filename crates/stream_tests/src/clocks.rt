@@ -1,7 +1,14 @@
 //! Clocks: given readings come in turn, and the system's never fall.
 use agent_edge::{Clock, MemoryClock, SystemClock};
 use money_units::Moment;
+use std::process::Abort;
 use std::test::Fail;
+
+fn expect_readings(rt: &impl Abort, clock: &mut MemoryClock, readings: &[Moment]) {
+    for reading in readings {
+        assert_eq!(rt; clock.now(), *reading);
+    }
+}
 
 #[test]
 fn readings_come_in_turn_and_the_last_one_again(rt: HostRuntime) -> Result<(), Fail> {
@@ -12,17 +19,14 @@ fn readings_come_in_turn_and_the_last_one_again(rt: HostRuntime) -> Result<(), F
         return Err(Fail::new("both are moments"));
     };
     let mut clock = MemoryClock::new(rt.alloc(), &[morning, morning, noon])?;
-    for reading in [morning, morning, noon, noon, noon] {
-        assert_eq!(rt; clock.now(), reading);
-    }
+    expect_readings(&rt, &mut clock, &[morning, morning, noon, noon, noon]);
     Ok(())
 }
 
 #[test]
 fn a_clock_without_readings_stands_at_the_first_moment(rt: HostRuntime) -> Result<(), Fail> {
     let mut clock = MemoryClock::new(rt.alloc(), &[])?;
-    assert_eq!(rt; clock.now(), Moment::start());
-    assert_eq!(rt; clock.now(), Moment::start());
+    expect_readings(&rt, &mut clock, &[Moment::start(), Moment::start()]);
     Ok(())
 }
 
