@@ -6,6 +6,8 @@ mod bodies;
 #[cfg(test)]
 mod feeds;
 #[cfg(test)]
+mod forms;
+#[cfg(test)]
 mod lines;
 #[cfg(test)]
 mod replies;
