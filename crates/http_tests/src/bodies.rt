@@ -1,5 +1,5 @@
 //! JSON bodies, and what they ask.
-use crate::streams::{Built, first_other_built, is_always_told, is_told, shown, told};
+use crate::streams::{Built, first_other_built, is_told, is_told_in_pieces, shown, told};
 use money_units::NoMemory;
 use std::alloc::{AllocError, Global};
 use std::test::Fail;
@@ -590,7 +590,7 @@ const BODIES: [(&str, &[u8], &str); 57] = [
 
 fn is_body_told(alloc: Global, row: &(&str, &[u8], &str)) -> Result<bool, NoMemory> {
     let stream = post(alloc, row.0, row.1)?;
-    is_always_told(alloc, &stream, row.2)
+    is_told_in_pieces(alloc, &stream, &[1, 4096], row.2)
 }
 
 fn shown_body(alloc: Global, row: &(&str, &[u8], &str)) -> Result<String, NoMemory> {

@@ -486,6 +486,9 @@ fn a_head_has_at_most_16_384_bytes(rt: HostRuntime) -> Result<(), Fail> {
     Ok(())
 }
 
+// 64 spaces.
+const SPACES: &[u8] = b"                                                                ";
+
 // Purchases of many bytes: 43 of a head beside the digits of the length, and a body of an empty object and spaces.
 const LONG_BODIES: [Built; 3] = [
     Built {
@@ -495,7 +498,8 @@ const LONG_BODIES: [Built; 3] = [
                 b"POST /v1/buy HTTP/1.1\r\nContent-Length: 1048576\r\n\r\n{}",
                 1,
             ),
-            (b" ", 1048574),
+            (SPACES, 16383),
+            (b" ", 62),
         ],
         size: 1048626,
         pieces: &[4096],
@@ -508,7 +512,8 @@ const LONG_BODIES: [Built; 3] = [
                 b"POST /v1/buy HTTP/1.1\r\nContent-Length: 20000\r\n\r\n{}",
                 1,
             ),
-            (b" ", 19998),
+            (SPACES, 312),
+            (b" ", 30),
         ],
         size: 20048,
         pieces: &[1],
@@ -521,7 +526,8 @@ const LONG_BODIES: [Built; 3] = [
                 b"POST /v1/buy HTTP/1.1\r\nContent-Length: 1048577\r\n\r\n{}",
                 1,
             ),
-            (b" ", 1048575),
+            (SPACES, 16383),
+            (b" ", 63),
         ],
         size: 1048627,
         pieces: &[4096],

@@ -137,8 +137,8 @@ fn is_told_in_two(
     Ok(told_in_two(alloc, stream, first)?.as_str() == wanted)
 }
 
-// Whether this is told of a stream in pieces of each of these sizes.
-fn is_told_in_pieces(
+/// Whether this is told of a stream in pieces of each of these sizes.
+pub fn is_told_in_pieces(
     alloc: Global,
     stream: &[u8],
     sizes: &[usize],
