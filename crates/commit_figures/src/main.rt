@@ -2,7 +2,8 @@
 //! many as the second says; by itself none.
 #![tactic(auto)]
 
-ghost use Rattle.std.specs.Prelude.{IsTrue};
+ghost use Rattle.std.specs.Prelude.{◌≡◌, ◌+◌, length, IsTrue, OnOk};
+ghost use Rattle.agent_keeper.specs.Content.{Content};
 
 use agent_keeper::{Batch, KeepFault, Keeper};
 use money_units::{Bytes, read_number};
@@ -15,25 +16,28 @@ use std::process::ExitCode;
 const ROW: &[u8] =
     b"\x01\x07\x00\x00\x00\x00\x66\x82\xa8\x50\x00\x00\x00\x65\x00\x00\x00\x00\x00\x00\x00\x01\x00\x00\x00\x00\x00\x66\x82\xa8\x50\x00\x00\x00\x00\x66\x83\x0a\xc0\x01\x00\x00\x00\x0b\x00\x00\x00\x00\x00\x0f\x42\x40";
 
-// Commits one row behind those that are kept.
-fn commit_one<K: Keeper>(alloc: Global, keeper: &mut K) -> Result<(), KeepFault>
-    requires { IsTrue (K.is_attached keeper.old) }
-    ensures { IsTrue (K.is_attached keeper.new) }
+// Commits one row behind those that are kept, of which there are so many.
+fn commit_one<K: Keeper>(alloc: Global, keeper: &mut K, base: u64) -> Result<(), KeepFault>
+    requires attached { IsTrue (K.is_attached keeper.old) }
+    requires base { (kept : Content) → K.tells keeper.old kept → base ≡ length kept.rows }
+    ensures attached { IsTrue (K.is_attached keeper.new) }
+    ensures more { OnOk result ((kept : Content) → K.tells keeper.new kept
+        → base + 1 ≡ length kept.rows) }
 {
     let mut batch = Batch::new(alloc);
     batch.rows.push(Bytes::from_slice(alloc, ROW)?)?;
-    let base = keeper.len()?;
     keeper.commit(base, &batch)
 }
 
-// Commits so many rows, and answers how many are kept.
-fn commit_all<K: Keeper>(alloc: Global, keeper: &mut K, rows: u64) -> Result<u64, KeepFault>
+// Commits so many rows.
+fn commit_all<K: Keeper>(alloc: Global, keeper: &mut K, rows: u64) -> Result<(), KeepFault>
     requires { IsTrue (K.is_attached keeper.old) }
 {
-    for _ in 0..rows {
-        commit_one(alloc, keeper)?;
+    let first = keeper.len()?;
+    for base in first..first.saturating_add(rows) {
+        commit_one(alloc, keeper, base)?;
     }
-    keeper.len()
+    Ok(())
 }
 
 // The path of the store and the number of rows; none without both.
@@ -59,8 +63,8 @@ fn number_in(word: &str) -> u64 {
     }
 }
 
-// How many rows are kept behind all commits.
-fn kept(rt: HostRuntime, path: &str, rows: u64) -> Result<u64, KeepFault> {
+// Commits so many rows to the store at a path.
+fn commit_to(rt: HostRuntime, path: &str, rows: u64) -> Result<(), KeepFault> {
     let alloc = rt.alloc();
     let mut keeper = SqliteKeeper::new(rt);
     keeper.attach(path)?;
@@ -69,8 +73,8 @@ fn kept(rt: HostRuntime, path: &str, rows: u64) -> Result<u64, KeepFault> {
 
 fn main(rt: HostRuntime) -> ExitCode {
     match asked(&rt) {
-        Some((path, rows)) => match kept(rt, &path, rows) {
-            Ok(_) => ExitCode::SUCCESS,
+        Some((path, rows)) => match commit_to(rt, &path, rows) {
+            Ok(()) => ExitCode::SUCCESS,
             Err(_) => ExitCode::FAILURE,
         },
         None => ExitCode::SUCCESS,

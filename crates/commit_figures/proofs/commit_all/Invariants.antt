@@ -1,5 +1,9 @@
-use Rattle.std.proofs.Common.{IsTrue}
+use Rattle.std.proofs.Common.{IsTrue, length, ◌≡◌}
+use Rattle.agent_keeper.specs.Content.{Content}
 use Rattle.commit_figures.proofs.commit_all.Given as goal
 
-abbrev pub invariant-loop : goal.invariant-loop
-invariant-loop g l = IsTrue (g.K.Keeper.is_attached l.keeper)
+abbrev pub invariant-loop-base : goal.invariant-loop-base
+invariant-loop-base g l = record {
+  attached : IsTrue (g.K.Keeper.is_attached l.keeper);
+  base : (kept : Content) → g.K.Keeper.tells l.keeper kept → l.base ≡ length kept.rows;
+}
