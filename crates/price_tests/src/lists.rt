@@ -1,26 +1,40 @@
 //! Lists of prices: what a list has, and that it gives back its items.
 use crate::fixtures::nav;
 use forward_price::{NoSheet, Prices, PublishFault, lists_class, nav_on};
+use money_units::Nav;
+use std::alloc::Global;
 use std::test::Fail;
 
 #[test]
 fn lists_are_looked_up(rt: HostRuntime) -> Result<(), Fail> {
     let prices = [(1, nav(1000)?), (3, nav(1200)?)];
-    assert!(rt; lists_class(&prices, 3));
-    assert!(rt; !lists_class(&prices, 2));
-    assert_eq!(rt; nav_on(&prices, 3), Some(nav(1200)?));
-    assert_eq!(rt; nav_on(&prices, 2), None);
+    assert_eq!(rt;
+        (lists_class(&prices, 3), lists_class(&prices, 2)),
+        (true, false)
+    );
+    let wanted = (Some(nav(1200)?), None);
+    assert_eq!(rt; (nav_on(&prices, 3), nav_on(&prices, 2)), wanted);
     Ok(())
+}
+
+fn enter_99(prices: &mut Prices, nav: Nav) -> Result<(), Fail> {
+    for class in 1..100 {
+        prices.push((class, nav))?;
+    }
+    Ok(())
+}
+
+// How many items the list has, and the last one.
+fn last_of_99(alloc: Global) -> Result<(usize, Option<(u32, Nav)>), Fail> {
+    let nav = nav(1000)?;
+    let mut prices = Prices::new(alloc);
+    enter_99(&mut prices, nav)?;
+    Ok((prices.as_slice().len(), prices.as_slice().last().copied()))
 }
 
 #[test]
 fn a_list_gives_back_its_items(rt: HostRuntime) -> Result<(), Fail> {
-    let mut prices = Prices::new(rt.alloc());
-    for class in 1..100 {
-        prices.push((class, nav(1000)?))?;
-    }
-    assert_eq!(rt; prices.as_slice().len(), 99);
-    assert_eq!(rt; prices.as_slice().last(), Some(&(99, nav(1000)?)));
+    assert_eq!(rt; last_of_99(rt.alloc())?, (99, Some((99, nav(1000)?))));
     Ok(())
 }
 

@@ -1,22 +1,41 @@
 //! Offering prices: breakpoints, the split of a purchase, and the credit of a household.
 use crate::fixtures::{growth, nav};
+use class_terms::Terms;
 use money_units::{Bps, Cents, Mils};
 use offering_price::{Holding, Split, bracket, buy_split, credit, credit_of_holding, price_of};
+use std::alloc::Global;
 use std::test::Fail;
+
+// An amount in cents and the rate in basis points that it reaches.
+const RATES: [(u128, u16); 6] = [
+    (1, 575),
+    (2_499_999, 575),
+    (2_500_000, 500),
+    // A position that counts $25,000.00, and a purchase of as much.
+    (2_500_000 + 2_500_000, 450),
+    (99_999_999, 200),
+    (100_000_000, 0),
+];
+
+// The first amount with another rate, and this rate.
+fn first_other_rate(terms: &Terms) -> Option<(u128, Bps)> {
+    for (amount, rate) in RATES {
+        let found = bracket(terms, amount);
+        if found != Bps(rate) {
+            return Some((amount, found));
+        }
+    }
+    None
+}
+
+fn first_other_rate_of_growth(alloc: Global) -> Result<Option<(u128, Bps)>, Fail> {
+    let terms = growth(alloc)?;
+    Ok(first_other_rate(&terms))
+}
 
 #[test]
 fn a_breakpoint_lowers_the_rate_from_its_floor_on(rt: HostRuntime) -> Result<(), Fail> {
-    let terms = growth(rt.alloc())?;
-    for (amount, rate) in [
-        (1, 575),
-        (2_499_999, 575),
-        (2_500_000, 500),
-        (5_000_000, 450),
-        (99_999_999, 200),
-        (100_000_000, 0),
-    ] {
-        assert_eq!(rt; bracket(&terms, amount), Bps(rate), "of {amount} cents");
-    }
+    assert_eq!(rt; first_other_rate_of_growth(rt.alloc())?, None);
     Ok(())
 }
 
@@ -28,16 +47,18 @@ fn split(gross: u64, cents: u64, rate: u16) -> Result<Option<Split>, Fail> {
     Ok(buy_split(Cents(gross), nav, Bps(rate)))
 }
 
-#[test]
-fn purchases_are_split(rt: HostRuntime) -> Result<(), Fail> {
-    // Gross, net asset value and rate; then price, mils, proceeds and charge.
-    for (gross, cents, rate, price, mils, proceeds, charge) in [
-        (1_000_000, 1000, 575, 1061, 942_507, 942_507, 57_493),
-        (2_499_999, 1000, 575, 1061, 2_356_267, 2_356_267, 143_732),
-        (2_500_000, 1000, 500, 1053, 2_374_169, 2_374_169, 125_831),
-        (2_500_000, 900, 450, 942, 2_653_928, 2_388_535, 111_465),
-        (79_300, 2011, 0, 2011, 39_433, 79_300, 0),
-    ] {
+// Gross, net asset value and rate; then price, mils, proceeds and charge.
+const SPLITS: [(u64, u64, u16, u64, u64, u64, u64); 5] = [
+    (1_000_000, 1000, 575, 1061, 942_507, 942_507, 57_493),
+    (2_499_999, 1000, 575, 1061, 2_356_267, 2_356_267, 143_732),
+    (2_500_000, 1000, 500, 1053, 2_374_169, 2_374_169, 125_831),
+    (2_500_000, 900, 450, 942, 2_653_928, 2_388_535, 111_465),
+    (79_300, 2011, 0, 2011, 39_433, 79_300, 0),
+];
+
+// The first gross that is split otherwise, with its split; empty without one.
+fn first_other_split(alloc: Global) -> Result<String, Fail> {
+    for (gross, cents, rate, price, mils, proceeds, charge) in SPLITS {
         let wanted = Split {
             rate: Bps(rate),
             price: Cents(price),
@@ -45,12 +66,18 @@ fn purchases_are_split(rt: HostRuntime) -> Result<(), Fail> {
             proceeds: Cents(proceeds),
             charge: Cents(charge),
         };
-        assert_eq!(rt;
-            split(gross, cents, rate)?,
-            Some(wanted),
-            "of {gross} cents"
-        );
+        let found = split(gross, cents, rate)?;
+        if found != Some(wanted) {
+            return Ok(format!(in alloc; "of {gross} cents: {found:?}")?);
+        }
     }
+    Ok(String::new(alloc))
+}
+
+#[test]
+fn purchases_are_split(rt: HostRuntime) -> Result<(), Fail> {
+    let other = first_other_split(rt.alloc())?;
+    assert_eq!(rt; other.as_str(), "");
     Ok(())
 }
 
@@ -72,8 +99,6 @@ fn a_position_counts_at_the_greater_of_cost_and_value(rt: HostRuntime) -> Result
         nav: Some(nav(900)?),
     };
     assert_eq!(rt; credit_of_holding(fallen), 2_500_000);
-    let terms = growth(rt.alloc())?;
-    assert_eq!(rt; bracket(&terms, 2_500_000 + 2_500_000), Bps(450));
     Ok(())
 }
 

@@ -7,11 +7,11 @@ use crate::fixtures::{day, nav};
 use forward_price::{PriceBook, PublishFault};
 use fund_calendar::Calendar;
 use std::alloc::Global;
+use std::process::Abort;
 use std::test::Fail;
 
-#[test]
-fn orders_are_due_over_a_holiday(rt: HostRuntime) -> Result<(), Fail> {
-    let book = one_class(rt.alloc())?;
+// What is due of one class, and expected.
+fn expect_dues(rt: &impl Abort, book: &PriceBook) {
     for (receipt, moment) in [
         (FIRST - 1, FIRST),
         (FIRST, SECOND),
@@ -21,44 +21,84 @@ fn orders_are_due_over_a_holiday(rt: HostRuntime) -> Result<(), Fail> {
         assert_eq!(rt; book.due(&[14], receipt), Some(moment), "after {receipt}");
     }
     assert_eq!(rt; book.expected(), Some((FIRST, 1)));
+}
+
+#[test]
+fn orders_are_due_over_a_holiday(rt: HostRuntime) -> Result<(), Fail> {
+    let book = one_class(rt.alloc())?;
+    expect_dues(&rt, &book);
+    Ok(())
+}
+
+// What a closure behind the first sheet does.
+fn expect_closure(rt: &impl Abort, book: &mut PriceBook) -> Result<(), Fail> {
+    assert_eq!(rt; publish_one(book, 1, FIRST, 14, 1000)?, 1);
+    let tuesday = day("2024-07-02")?;
+    let wednesday = day("2024-07-03")?;
+    let closed = [
+        book.close_day(1, tuesday),
+        book.close_day(1, tuesday),
+        book.close_day(2, wednesday),
+    ];
+    assert_eq!(rt; closed, [true, false, false]);
+    assert_eq!(rt;
+        (book.due(&[14], FIRST), book.expected()),
+        (Some(THIRD), Some((THIRD, 1)))
+    );
+    assert_eq!(rt; book.first_after(FIRST, &[14]), None);
     Ok(())
 }
 
 #[test]
 fn a_closed_day_is_passed_over(rt: HostRuntime) -> Result<(), Fail> {
     let mut book = one_class(rt.alloc())?;
-    assert_eq!(rt; publish_one(&mut book, 1, FIRST, 14, 1000)?, 1);
-    assert!(rt; book.close_day(1, day("2024-07-02")?));
-    assert!(rt; !book.close_day(1, day("2024-07-02")?));
-    assert!(rt; !book.close_day(2, day("2024-07-03")?));
-    assert_eq!(rt; book.due(&[14], FIRST), Some(THIRD));
-    assert_eq!(rt; book.expected(), Some((THIRD, 1)));
-    assert_eq!(rt; book.first_after(FIRST, &[14]), None);
+    expect_closure(&rt, &mut book)
+}
+
+// What is found of two sheets.
+fn expect_sheets(rt: &impl Abort, book: &PriceBook) -> Result<(), Fail> {
+    let found = [
+        book.first_after(FIRST - 1, &[14]),
+        book.first_after(FIRST, &[14]),
+        book.sheet_at(1, THIRD),
+        book.sheet_at(1, SECOND),
+    ];
+    assert_eq!(rt; found, [Some(1), Some(2), None, Some(2)]);
+    let tuesday = day("2024-07-02")?;
+    let prices = [(14, nav(1100)?)];
+    let Some(sheet) = book.sheet(2) else {
+        return Err("no sheet".into());
+    };
+    assert_eq!(rt; sheet.day, tuesday);
+    assert_eq!(rt; sheet.prices.as_slice(), prices.as_slice());
     Ok(())
 }
 
 #[test]
 fn sheets_are_looked_up(rt: HostRuntime) -> Result<(), Fail> {
     let book = two_sheets(rt.alloc())?;
-    assert_eq!(rt; book.first_after(FIRST - 1, &[14]), Some(1));
-    assert_eq!(rt; book.first_after(FIRST, &[14]), Some(2));
-    assert_eq!(rt; book.sheet_at(1, THIRD), None);
-    assert_eq!(rt; book.sheet_at(1, SECOND), Some(2));
-    let sheet = book.sheet(2).ok_or("no sheet")?;
-    assert_eq!(rt; sheet.day, day("2024-07-02")?);
-    assert_eq!(rt; sheet.prices.as_slice(), [(14, nav(1100)?)].as_slice());
+    expect_sheets(&rt, &book)
+}
+
+// Two sheets of a calendar that comes late.
+fn publish_late(rt: &impl Abort, book: &mut PriceBook, late: Calendar) -> Result<(), Fail> {
+    enter_calendar(book, late)?;
+    open_class(book, 24, 2, OPENED)?;
+    assert_eq!(rt; publish_one(book, 2, FIRST, 24, 500)?, 3);
+    assert_eq!(rt; publish_one(book, 2, SECOND, 24, 600)?, 4);
     Ok(())
 }
 
-// A calendar that comes late has moments before those of the sheets that are published.
-#[test]
-fn sheets_out_of_order_are_looked_up(rt: HostRuntime) -> Result<(), Fail> {
-    let mut book = two_sheets(rt.alloc())?;
-    let late = new_york(rt.alloc(), 2)?;
-    enter_calendar(&mut book, late)?;
-    open_class(&mut book, 24, 2, OPENED)?;
-    assert_eq!(rt; publish_one(&mut book, 2, FIRST, 24, 500)?, 3);
-    assert_eq!(rt; publish_one(&mut book, 2, SECOND, 24, 600)?, 4);
+// The cents of a class on the last sheet before a moment.
+fn cents_before(book: &PriceBook, class: u32, moment: i64) -> Option<u64> {
+    match book.last_before(None, class, moment) {
+        Some(nav) => Some(nav.cents()),
+        None => None,
+    }
+}
+
+// Which sheets are found of two calendars, and which prices.
+fn expect_out_of_order(rt: &impl Abort, book: &PriceBook) {
     for (receipt, class, number) in [
         (FIRST - 1, 14, Some(1)),
         (FIRST, 14, Some(2)),
@@ -78,23 +118,30 @@ fn sheets_out_of_order_are_looked_up(rt: HostRuntime) -> Result<(), Fail> {
         (24, FIRST, None),
         (24, THIRD, Some(600)),
     ] {
-        let found = book.last_before(None, class, moment);
-        assert_eq!(rt;
-            found.map(|nav| nav.cents()),
-            cents,
-            "{class} before {moment}"
-        );
+        let found = cents_before(book, class, moment);
+        assert_eq!(rt; found, cents, "{class} before {moment}");
     }
+}
+
+// A calendar that comes late has moments before those of the sheets that are published.
+#[test]
+fn sheets_out_of_order_are_looked_up(rt: HostRuntime) -> Result<(), Fail> {
+    let mut book = two_sheets(rt.alloc())?;
+    let late = new_york(rt.alloc(), 2)?;
+    publish_late(&rt, &mut book, late)?;
+    expect_out_of_order(&rt, &book);
     Ok(())
 }
 
-#[test]
-fn a_sheet_out_of_turn_is_refused(rt: HostRuntime) -> Result<(), Fail> {
-    let empty = PriceBook::new(rt.alloc())?;
+// An empty book expects and takes no sheet.
+fn expect_none_taken(rt: &impl Abort, empty: &PriceBook) {
     assert_eq!(rt; empty.expected(), None);
     let refused = empty.test(1, FIRST, &[], FIRST).err();
     assert_eq!(rt; refused, Some(PublishFault::SheetOutOfTurn(0, 0)));
-    let book = two_calendars(rt.alloc())?;
+}
+
+// Which sheets of two calendars are refused.
+fn expect_refused(rt: &impl Abort, book: &PriceBook) -> Result<(), Fail> {
     let prices = [(14, nav(1000)?)];
     for (calendar, moment, fault) in [
         (1, SECOND, PublishFault::SheetOutOfTurn(FIRST, 1)),
@@ -108,14 +155,21 @@ fn a_sheet_out_of_turn_is_refused(rt: HostRuntime) -> Result<(), Fail> {
 }
 
 #[test]
-fn a_sheet_lists_the_classes_that_are_open(rt: HostRuntime) -> Result<(), Fail> {
-    let mut book = two_calendars(rt.alloc())?;
+fn a_sheet_out_of_turn_is_refused(rt: HostRuntime) -> Result<(), Fail> {
+    let empty = PriceBook::new(rt.alloc())?;
+    expect_none_taken(&rt, &empty);
+    let book = two_calendars(rt.alloc())?;
+    expect_refused(&rt, &book)
+}
+
+// Which lists are complete on two days.
+fn expect_lists(rt: &impl Abort, book: &mut PriceBook) -> Result<(), Fail> {
     let one = [(14, nav(1000)?)];
     let two = [(13, nav(2000)?), (14, nav(1000)?)];
     let refused = book.test(1, FIRST, &two, FIRST).err();
     assert_eq!(rt; refused, Some(PublishFault::SheetIncomplete(13)));
-    publish_one(&mut book, 1, FIRST, 14, 1000)?;
-    publish_one(&mut book, 2, FIRST, 24, 1000)?;
+    publish_one(book, 1, FIRST, 14, 1000)?;
+    publish_one(book, 2, FIRST, 24, 1000)?;
     let refused = book.test(1, SECOND, &one, SECOND).err();
     assert_eq!(rt; refused, Some(PublishFault::SheetIncomplete(13)));
     assert!(rt; book.test(1, SECOND, &two, SECOND).is_ok());
@@ -123,24 +177,39 @@ fn a_sheet_lists_the_classes_that_are_open(rt: HostRuntime) -> Result<(), Fail> 
 }
 
 #[test]
-fn sheets_go_by_moment_and_calendar(rt: HostRuntime) -> Result<(), Fail> {
+fn a_sheet_lists_the_classes_that_are_open(rt: HostRuntime) -> Result<(), Fail> {
     let mut book = two_calendars(rt.alloc())?;
-    assert_eq!(rt; publish_one(&mut book, 1, FIRST, 14, 1000)?, 1);
-    assert_eq!(rt; book.expected(), Some((FIRST, 2)));
-    assert_eq!(rt; publish_one(&mut book, 2, FIRST, 24, 1000)?, 2);
-    assert_eq!(rt; book.expected(), Some((SECOND, 1)));
+    expect_lists(&rt, &mut book)
+}
+
+// In which order the sheets of two calendars come.
+fn expect_order(rt: &impl Abort, book: &mut PriceBook) -> Result<(), Fail> {
+    let first = publish_one(book, 1, FIRST, 14, 1000)?;
+    assert_eq!(rt; (first, book.expected()), (1, Some((FIRST, 2))));
+    let second = publish_one(book, 2, FIRST, 24, 1000)?;
+    assert_eq!(rt; (second, book.expected()), (2, Some((SECOND, 1))));
     assert_eq!(rt; book.first_after(0, &[13, 14]), None);
     Ok(())
 }
 
 #[test]
-fn the_last_sheet_is_withdrawn(rt: HostRuntime) -> Result<(), Fail> {
-    let mut book = two_sheets(rt.alloc())?;
+fn sheets_go_by_moment_and_calendar(rt: HostRuntime) -> Result<(), Fail> {
+    let mut book = two_calendars(rt.alloc())?;
+    expect_order(&rt, &mut book)
+}
+
+// What is left of two sheets where each is withdrawn.
+fn expect_withdrawn(rt: &impl Abort, book: &mut PriceBook) {
     assert!(rt; book.withdraw());
     assert_eq!(rt; book.expected(), Some((SECOND, 1)));
-    assert!(rt; book.withdraw());
-    assert!(rt; !book.withdraw());
+    assert_eq!(rt; (book.withdraw(), book.withdraw()), (true, false));
     assert_eq!(rt; book.first_after(0, &[14]), None);
+}
+
+#[test]
+fn the_last_sheet_is_withdrawn(rt: HostRuntime) -> Result<(), Fail> {
+    let mut book = two_sheets(rt.alloc())?;
+    expect_withdrawn(&rt, &mut book);
     Ok(())
 }
 
@@ -166,18 +235,26 @@ fn publish_all(book: &mut PriceBook) -> Result<(), Fail> {
     Ok(())
 }
 
+// What is found of 3,660 sheets.
+fn expect_many(rt: &impl Abort, book: &PriceBook) {
+    // 1,830 weekdays from Thursday, 1970-01-01, end with Wednesday, 1977-01-05, 2,561 days later.
+    let wednesday = 221_270_400;
+    let found = [
+        book.sheet_at(1, wednesday),
+        book.sheet_at(2, wednesday),
+        book.first_after(wednesday - 1, &[12]),
+        book.first_after(wednesday, &[12]),
+        book.first_after(-1, &[11]),
+    ];
+    assert_eq!(rt; found, [Some(3659), Some(3660), Some(3660), None, Some(1)]);
+    assert_eq!(rt; book.expected(), Some((wednesday + 86400, 1)));
+    assert_eq!(rt; cents_before(book, 12, wednesday), Some(1000));
+}
+
 #[test]
 fn many_sheets_are_published_and_looked_up(rt: HostRuntime) -> Result<(), Fail> {
     let mut book = book_of_weekdays(rt.alloc())?;
     publish_all(&mut book)?;
-    // 1,830 weekdays from Thursday, 1970-01-01, end with Wednesday, 1977-01-05, 2,561 days later.
-    let wednesday = 221_270_400;
-    assert_eq!(rt; book.sheet_at(1, wednesday), Some(3659));
-    assert_eq!(rt; book.sheet_at(2, wednesday), Some(3660));
-    assert_eq!(rt; book.first_after(wednesday - 1, &[12]), Some(3660));
-    assert_eq!(rt; book.first_after(wednesday, &[12]), None);
-    assert_eq!(rt; book.first_after(-1, &[11]), Some(1));
-    assert_eq!(rt; book.expected(), Some((wednesday + 86400, 1)));
-    assert_eq!(rt; book.last_before(None, 12, wednesday), Some(nav(1000)?));
+    expect_many(&rt, &book);
     Ok(())
 }
