@@ -52,42 +52,56 @@ fn growth(alloc: Global) -> Result<Terms, Fail> {
     Ok(check(form, &[])?)
 }
 
-#[test]
-fn good_terms_carry_their_numbers(rt: HostRuntime) -> Result<(), Fail> {
-    let terms = growth(rt.alloc())?;
-    assert_eq!(rt;
-        (
-            terms.class(),
-            terms.calendar(),
-            terms.fund(),
-            terms.family()
-        ),
-        (11, 1, 3, 7)
-    );
-    assert!(rt; terms.counts());
-    assert_eq!(rt;
-        (terms.first_min(), terms.later_min()),
-        (Cents(25000), Cents(5000))
-    );
-    Ok(())
+// The class, the calendar, the fund and the family, whether it counts, and the least first and later purchases.
+fn numbers_of(terms: &Terms) -> ([u32; 4], bool, [Cents; 2]) {
+    let numbers = [
+        terms.class(),
+        terms.calendar(),
+        terms.fund(),
+        terms.family(),
+    ];
+    (
+        numbers,
+        terms.counts(),
+        [terms.first_min(), terms.later_min()],
+    )
 }
 
-#[test]
-fn good_terms_carry_their_lists(rt: HostRuntime) -> Result<(), Fail> {
-    let terms = growth(rt.alloc())?;
-    assert_eq!(rt; terms.name().as_slice(), b"GROWTH-A".as_slice());
+// Whether the name, the last row of the table of front-end loads and the schedule of deferred loads are those of its form.
+fn lists_hold(terms: &Terms) -> (bool, bool, bool) {
     let row = Bracket {
         floor: Cents(2_500_000),
         rate: Bps(500),
     };
-    assert_eq!(rt; terms.front().as_slice().last(), Some(&row));
-    assert_eq!(rt;
-        terms.deferred().as_slice(),
-        [Bps(500), Bps(400)].as_slice()
-    );
-    let mut table = TermsTable::new(rt.alloc());
+    let schedule = [Bps(500), Bps(400)];
+    (
+        terms.name().as_slice() == b"GROWTH-A".as_slice(),
+        terms.front().as_slice().last().copied() == Some(row),
+        terms.deferred().as_slice() == schedule.as_slice(),
+    )
+}
+
+#[test]
+fn good_terms_carry_their_numbers_and_lists(rt: HostRuntime) -> Result<(), Fail> {
+    let terms = growth(rt.alloc())?;
+    let wanted = ([11, 1, 3, 7], true, [Cents(25000), Cents(5000)]);
+    assert_eq!(rt; numbers_of(&terms), wanted);
+    assert_eq!(rt; lists_hold(&terms), (true, true, true));
+    Ok(())
+}
+
+// How many terms a table has into which these were put.
+fn tabled(alloc: Global, terms: Terms) -> Result<usize, Fail> {
+    let mut table = TermsTable::new(alloc);
     table.push(terms)?;
-    assert_eq!(rt; table.len(), 1);
+    Ok(table.len())
+}
+
+#[test]
+fn good_terms_stand_in_a_table(rt: HostRuntime) -> Result<(), Fail> {
+    let terms = growth(rt.alloc())?;
+    let count = tabled(rt.alloc(), terms)?;
+    assert_eq!(rt; count, 1);
     Ok(())
 }
 
@@ -133,6 +147,34 @@ fn bad_deferred_loads_are_named_by_their_year(rt: HostRuntime) -> Result<(), Fai
     Ok(())
 }
 
+// A class of calendar 1 in a family, whose deferred load is 500.
+fn member(alloc: Global, class: u32) -> Result<Terms, Fail> {
+    Ok(check(form(alloc, class, 7, &[(0, 0)], &[500])?, &[])?)
+}
+
+fn enter_member(alloc: Global, members: &mut TermsTable, class: u32) -> Result<(), Fail> {
+    let terms = member(alloc, class)?;
+    members.push(terms)?;
+    Ok(())
+}
+
+fn enter_members(alloc: Global, members: &mut TermsTable) -> Result<(), Fail> {
+    enter_member(alloc, members, 13)?;
+    enter_member(alloc, members, 12)
+}
+
+fn fault_beside(
+    alloc: Global,
+    others: &[Terms],
+    calendar: u32,
+    family: u32,
+    rate: u16,
+) -> Result<Option<TermFault>, NoMemory> {
+    let mut asked = form(alloc, 15, family, &[(0, 0)], &[rate])?;
+    asked.calendar = calendar;
+    Ok(check(asked, others).err())
+}
+
 // A class of calendar `calendar` in a family with the classes 13 and 12, whose deferred load is 500.
 fn family_fault(
     alloc: Global,
@@ -140,13 +182,9 @@ fn family_fault(
     family: u32,
     rate: u16,
 ) -> Result<Option<TermFault>, Fail> {
-    let others = [
-        check(form(alloc, 13, 7, &[(0, 0)], &[500])?, &[])?,
-        check(form(alloc, 12, 7, &[(0, 0)], &[500])?, &[])?,
-    ];
-    let mut asked = form(alloc, 15, family, &[(0, 0)], &[rate])?;
-    asked.calendar = calendar;
-    Ok(check(asked, others.as_slice()).err())
+    let mut others = TermsTable::new(alloc);
+    enter_members(alloc, &mut others)?;
+    Ok(fault_beside(alloc, others.as_slice(), calendar, family, rate)?)
 }
 
 #[test]

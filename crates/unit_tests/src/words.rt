@@ -1,5 +1,6 @@
 //! Words of the command line: which are taken, and the command that they give.
 use command_words::{Command, command_of};
+use money_units::NoMemory;
 use std::alloc::{AllocError, Global};
 use std::test::Fail;
 
@@ -12,80 +13,113 @@ fn words_of(alloc: Global, line: &str) -> Result<Vec<String>, AllocError> {
     Ok(words)
 }
 
-#[test]
-fn options_come_in_any_order_and_form(rt: HostRuntime) -> Result<(), Fail> {
-    for line in [
-        "apply --store r --key op-desk000001",
-        "apply --key op-desk000001 --store r",
-        "apply --store=r --key op-desk000001",
-        "apply --key op-desk000001 --store=r",
-        "apply --store r --key=op-desk000001",
-        "apply --key=op-desk000001 --store r",
-        "apply --store=r --key=op-desk000001",
-        "apply --key=op-desk000001 --store=r",
-    ] {
-        let words = words_of(rt.alloc(), line)?;
-        let wanted = Command::Apply {
-            store: "r",
-            key: b"op-desk000001",
-        };
-        assert_eq!(rt; command_of(rt.alloc(), &words)?, Some(wanted), "{line}");
+// Whether the words of a line give this command.
+fn gives(alloc: Global, line: &str, wanted: Option<Command>) -> Result<bool, NoMemory> {
+    let words = words_of(alloc, line)?;
+    Ok(command_of(alloc, &words)? == wanted)
+}
+
+// The first line that gives another command; empty without one.
+fn first_other<'a>(alloc: Global, lines: &[(&'a str, Command)]) -> Result<&'a str, NoMemory> {
+    for (line, wanted) in lines {
+        if !gives(alloc, line, Some(*wanted))? {
+            return Ok(*line);
+        }
     }
+    Ok("")
+}
+
+const APPLY: Command = Command::Apply {
+    store: "r",
+    key: b"op-desk000001",
+};
+
+const COMMANDS: [(&str, Command); 14] = [
+    // The options of one command in each order and form.
+    ("apply --store r --key op-desk000001", APPLY),
+    ("apply --key op-desk000001 --store r", APPLY),
+    ("apply --store=r --key op-desk000001", APPLY),
+    ("apply --key op-desk000001 --store=r", APPLY),
+    ("apply --store r --key=op-desk000001", APPLY),
+    ("apply --key=op-desk000001 --store r", APPLY),
+    ("apply --store=r --key=op-desk000001", APPLY),
+    ("apply --key=op-desk000001 --store=r", APPLY),
+    // A load has three numbers.
+    (
+        "load --number 0 --households 1 --days 0",
+        Command::Load {
+            number: 0,
+            households: 1,
+            days: 0,
+        },
+    ),
+    (
+        "load --days=2000 --number=4294967295 --households=1000",
+        Command::Load {
+            number: 4_294_967_295,
+            households: 1000,
+            days: 2000,
+        },
+    ),
+    (
+        "load --households 20 --days=3 --number 7",
+        Command::Load {
+            number: 7,
+            households: 20,
+            days: 3,
+        },
+    ),
+    // A server has four options.
+    (
+        "serve --store r --port 1 --key op-desk000001 --connections 1",
+        Command::Serve {
+            store: "r",
+            port: 1,
+            key: b"op-desk000001",
+            connections: 1,
+        },
+    ),
+    (
+        "serve --connections=1000000 --key=op-desk000001 --port=65535 --store=r",
+        Command::Serve {
+            store: "r",
+            port: 65_535,
+            key: b"op-desk000001",
+            connections: 1_000_000,
+        },
+    ),
+    (
+        "serve --port 8080 --connections=12 --store r --key op-desk000001",
+        Command::Serve {
+            store: "r",
+            port: 8080,
+            key: b"op-desk000001",
+            connections: 12,
+        },
+    ),
+];
+
+#[test]
+fn commands_take_their_options_in_any_order_and_form(rt: HostRuntime) -> Result<(), Fail> {
+    let other = first_other(rt.alloc(), &COMMANDS)?;
+    assert_eq!(rt; other, "");
     Ok(())
 }
 
-#[test]
-fn a_load_has_three_numbers(rt: HostRuntime) -> Result<(), Fail> {
-    for (line, number, households, days) in [
-        ("load --number 0 --households 1 --days 0", 0, 1, 0),
-        (
-            "load --days=2000 --number=4294967295 --households=1000",
-            4_294_967_295,
-            1000,
-            2000,
-        ),
-        ("load --households 20 --days=3 --number 7", 7, 20, 3),
-    ] {
-        let words = words_of(rt.alloc(), line)?;
-        let wanted = Command::Load {
-            number,
-            households,
-            days,
-        };
-        assert_eq!(rt; command_of(rt.alloc(), &words)?, Some(wanted), "{line}");
-    }
-    Ok(())
+// Whether the words of a line give a command.
+fn is_taken(alloc: Global, line: &str) -> Result<bool, NoMemory> {
+    let words = words_of(alloc, line)?;
+    Ok(command_of(alloc, &words)?.is_some())
 }
 
-#[test]
-fn a_server_has_four_options(rt: HostRuntime) -> Result<(), Fail> {
-    for (line, port, connections) in [
-        (
-            "serve --store r --port 1 --key op-desk000001 --connections 1",
-            1,
-            1,
-        ),
-        (
-            "serve --connections=1000000 --key=op-desk000001 --port=65535 --store=r",
-            65_535,
-            1_000_000,
-        ),
-        (
-            "serve --port 8080 --connections=12 --store r --key op-desk000001",
-            8080,
-            12,
-        ),
-    ] {
-        let words = words_of(rt.alloc(), line)?;
-        let wanted = Command::Serve {
-            store: "r",
-            port,
-            key: b"op-desk000001",
-            connections,
-        };
-        assert_eq!(rt; command_of(rt.alloc(), &words)?, Some(wanted), "{line}");
+// The first of these lines that gives a command, a stroke before it; empty without one.
+fn first_taken(alloc: Global, lines: &str) -> Result<String, NoMemory> {
+    for line in lines.split('\n') {
+        if is_taken(alloc, line)? {
+            return Ok(format!(in alloc; "|{line}")?);
+        }
     }
-    Ok(())
+    Ok(String::new(alloc))
 }
 
 const NO_COMMANDS: &str = "\
@@ -125,15 +159,6 @@ apply --store r --key op-desk001\n\
 apply --store r --key op-Desk000001\n\
 apply --store r --key=op-";
 
-#[test]
-fn words_out_of_the_rule_are_refused(rt: HostRuntime) -> Result<(), Fail> {
-    for line in NO_COMMANDS.split('\n') {
-        let words = words_of(rt.alloc(), line)?;
-        assert!(rt; command_of(rt.alloc(), &words)?.is_none(), "{line}");
-    }
-    Ok(())
-}
-
 const NO_NUMBERS: &str = "\
 load --number 4294967296 --households 1 --days 0\n\
 load --number 18446744073709551616 --households 1 --days 0\n\
@@ -158,10 +183,12 @@ serve --store r --port 80 --port 80 --key op-desk000001 --connections 1\n\
 serve --port 80 --key op-desk000001 --connections 1";
 
 #[test]
-fn numbers_out_of_their_ranges_or_form_are_refused(rt: HostRuntime) -> Result<(), Fail> {
-    for line in NO_NUMBERS.split('\n') {
-        let words = words_of(rt.alloc(), line)?;
-        assert!(rt; command_of(rt.alloc(), &words)?.is_none(), "{line}");
+fn words_out_of_the_rule_and_numbers_out_of_their_ranges_are_refused(
+    rt: HostRuntime,
+) -> Result<(), Fail> {
+    for lines in [NO_COMMANDS, NO_NUMBERS] {
+        let taken = first_taken(rt.alloc(), lines)?;
+        assert_eq!(rt; taken.as_str(), "");
     }
     Ok(())
 }
@@ -181,8 +208,7 @@ fn keys_have_their_lengths(rt: HostRuntime) -> Result<(), Fail> {
             false,
         ),
     ] {
-        let words = words_of(rt.alloc(), line)?;
-        assert_eq!(rt; command_of(rt.alloc(), &words)?.is_some(), taken, "{line}");
+        assert_eq!(rt; is_taken(rt.alloc(), line)?, taken, "{line}");
     }
     Ok(())
 }
