@@ -1,4 +1,5 @@
 //! Rows of events: one of each kind, body and bearer is read and written again; bytes that are no row are none.
+use agent_events::Event;
 use event_copies::Copied;
 use event_rows::{decode, encode};
 use money_units::NoMemory;
@@ -119,75 +120,99 @@ const NO_ROWS: [&[u8]; 30] = [
     b"\x01\x0b\x00\x00\x00\x00\x66\x83\x18\xd0\x00\x00\x00\x00\x00\x00\x00\x01\x03\x00\x00\x00\x0b\x00\x00\x00\x00\x66\x83\x0a\xc0\x00\x00\x00\x00\x00\x00\x03\xf2",
 ];
 
-// What the bytes are read as, written again.
-fn written_again(alloc: Global, bytes: &[u8]) -> Result<Option<Vec<u8>>, NoMemory> {
+// Whether the event is written as these bytes.
+fn is_written(alloc: Global, event: &Event, bytes: &[u8]) -> Result<bool, NoMemory> {
+    let written = encode(alloc, event)?;
+    Ok(written.as_slice() == bytes)
+}
+
+// Whether the event's copy is written as these bytes.
+fn is_copy_written(alloc: Global, event: &Event, bytes: &[u8]) -> Result<bool, NoMemory> {
+    let copy = event.copy(alloc)?;
+    is_written(alloc, &copy, bytes)
+}
+
+// Whether the event and its copy are written as these bytes.
+fn are_written(alloc: Global, event: &Event, bytes: &[u8]) -> Result<(bool, bool), NoMemory> {
+    let written = is_written(alloc, event, bytes)?;
+    let copy_written = is_copy_written(alloc, event, bytes)?;
+    Ok((written, copy_written))
+}
+
+// Whether the row and its copy are written as they were read; nothing where the bytes are no row.
+fn written_again(alloc: Global, bytes: &[u8]) -> Result<Option<(bool, bool)>, NoMemory> {
     match decode(alloc, bytes)? {
         None => Ok(None),
-        Some(event) => Ok(Some(encode(alloc, &event)?)),
+        Some(event) => Ok(Some(are_written(alloc, &event, bytes)?)),
     }
 }
 
-// Whether the bytes are a row that is written as it was read.
-fn is_row(alloc: Global, bytes: &[u8]) -> Result<bool, NoMemory> {
-    match written_again(alloc, bytes)? {
-        None => Ok(false),
-        Some(again) => Ok(again.as_slice() == bytes),
+// The first place in the list, from 1, of bytes of which something else is said; 0 without one.
+fn first_other(
+    alloc: Global,
+    rows: &[&[u8]],
+    wanted: Option<(bool, bool)>,
+) -> Result<usize, NoMemory> {
+    for (before, row) in rows.iter().enumerate() {
+        if written_again(alloc, row)? != wanted {
+            return Ok(before + 1);
+        }
     }
-}
-
-// Whether the bytes are no row, or one that is written as it was read.
-fn is_told_apart(alloc: Global, bytes: &[u8]) -> Result<bool, NoMemory> {
-    match written_again(alloc, bytes)? {
-        None => Ok(true),
-        Some(again) => Ok(again.as_slice() == bytes),
-    }
+    Ok(0)
 }
 
 // The bytes with another one in this place.
-fn with_byte(alloc: Global, bytes: &[u8], place: usize, byte: u8) -> Result<Vec<u8>, NoMemory> {
-    let mut changed = Vec::new(alloc);
+fn put_with_byte(
+    changed: &mut Vec<u8>,
+    bytes: &[u8],
+    place: usize,
+    byte: u8,
+) -> Result<(), NoMemory> {
     for (i, old) in bytes.iter().enumerate() {
         changed.push(if i == place { byte } else { *old })?;
     }
-    Ok(changed)
+    Ok(())
+}
+
+// Whether the bytes with another one in this place are no row, or one that is written as it was read.
+fn is_told_apart(alloc: Global, bytes: &[u8], place: usize, byte: u8) -> Result<bool, NoMemory> {
+    let mut changed = Vec::new(alloc);
+    put_with_byte(&mut changed, bytes, place, byte)?;
+    match written_again(alloc, changed.as_slice())? {
+        None => Ok(true),
+        Some((written, _)) => Ok(written),
+    }
+}
+
+// Whether each change of a byte is told.
+fn are_changes_told(alloc: Global, row: &[u8]) -> Result<bool, NoMemory> {
+    for place in 0..row.len() {
+        for more in [1, 128, 255] {
+            let byte = row[place].wrapping_add(more);
+            if !is_told_apart(alloc, row, place, byte)? {
+                return Ok(false);
+            }
+        }
+    }
+    Ok(true)
 }
 
 #[test]
-fn each_kind_is_written_as_it_was_read(rt: HostRuntime) -> Result<(), Fail> {
-    for row in &ROWS {
-        assert!(rt; is_row(rt.alloc(), row)?);
-    }
+fn each_kind_and_its_copy_are_written_as_they_were_read(rt: HostRuntime) -> Result<(), Fail> {
+    assert_eq!(rt; first_other(rt.alloc(), &ROWS, Some((true, true)))?, 0);
     Ok(())
 }
 
 #[test]
 fn no_rows_are_none(rt: HostRuntime) -> Result<(), Fail> {
-    for row in &NO_ROWS {
-        assert!(rt; decode(rt.alloc(), row)?.is_none());
-    }
+    assert_eq!(rt; first_other(rt.alloc(), &NO_ROWS, None)?, 0);
     Ok(())
 }
 
 #[test]
 fn a_changed_byte_is_told(rt: HostRuntime) -> Result<(), Fail> {
     for row in &ROWS[..3] {
-        for place in 0..row.len() {
-            for more in [1, 128, 255] {
-                let byte = row[place].wrapping_add(more);
-                let changed = with_byte(rt.alloc(), row, place, byte)?;
-                assert!(rt; is_told_apart(rt.alloc(), changed.as_slice())?);
-            }
-        }
-    }
-    Ok(())
-}
-
-#[test]
-fn a_copy_has_the_same_row(rt: HostRuntime) -> Result<(), Fail> {
-    for row in &ROWS {
-        let event = decode(rt.alloc(), row)?.ok_or("no event")?;
-        let copy = event.copy(rt.alloc())?;
-        assert_eq!(rt; encode(rt.alloc(), &copy)?.as_slice(), *row);
+        assert!(rt; are_changes_told(rt.alloc(), row)?);
     }
     Ok(())
 }
