@@ -10,63 +10,114 @@ use std::alloc::Global;
 use std::process::Abort;
 use std::test::Fail;
 
+// The first lot, mils and cost of a piece that are other ones.
+fn first_other(pieces: &[Piece], wanted: &[(u32, u64, u64)]) -> Option<(u32, u64, u64)> {
+    for (piece, row) in pieces.iter().zip(wanted.iter()) {
+        let found = (piece.lot, piece.mils.0, piece.cost.0);
+        if found != *row {
+            return Some(found);
+        }
+    }
+    None
+}
+
 // Each piece has this lot, these mils and this cost.
 fn expect_pieces(rt: &impl Abort, pieces: &[Piece], wanted: &[(u32, u64, u64)]) {
-    assert_eq!(rt; pieces.len(), wanted.len());
-    for (piece, row) in pieces.iter().zip(wanted.iter()) {
-        assert_eq!(rt; (piece.lot, piece.mils.0, piece.cost.0), *row);
-    }
+    let found = (pieces.len(), first_other(pieces, wanted));
+    assert_eq!(rt; found, (wanted.len(), None));
+}
+
+// So many mils are taken as these pieces.
+fn expect_taken(
+    rt: &impl Abort,
+    alloc: Global,
+    position: &mut Position,
+    mils: u64,
+    wanted: &[(u32, u64, u64)],
+) -> Result<(), Fail> {
+    let taken = position.take(alloc, Mils(mils))?;
+    expect_pieces(rt, taken.as_slice(), wanted);
+    Ok(())
+}
+
+// So many mils would be taken as these pieces.
+fn expect_taking(
+    rt: &impl Abort,
+    alloc: Global,
+    position: &Position,
+    mils: u64,
+    wanted: &[(u32, u64, u64)],
+) -> Result<(), Fail> {
+    let pieces = position.pieces(alloc, Mils(mils))?;
+    expect_pieces(rt, pieces.as_slice(), wanted);
+    Ok(())
+}
+
+// How many lots there are, and the number of the next one.
+fn lots_and_next(position: &Position) -> (usize, u32) {
+    (position.lots().len(), position.next_lot())
+}
+
+fn add_free_shares(position: &mut Position) -> Result<(), Fail> {
+    add(position, "2024-07-01", 100_000, 100_000, false)?;
+    add(position, "2024-08-15", 4_000, 4_000, true)?;
+    add(position, "2024-09-15", 1_000, 1_000, true)?;
+    Ok(())
 }
 
 // 100.000 shares were bought, and 5.000 free ones came in at two dates.
 fn with_free_shares(alloc: Global) -> Result<Position, Fail> {
     let mut position = Position::empty(alloc);
-    add(&mut position, "2024-07-01", 100_000, 100_000, false)?;
-    add(&mut position, "2024-08-15", 4_000, 4_000, true)?;
-    add(&mut position, "2024-09-15", 1_000, 1_000, true)?;
+    add_free_shares(&mut position)?;
     Ok(position)
+}
+
+fn expect_joined(rt: &impl Abort, position: &Position) {
+    assert_eq!(rt; lots_and_next(position), (2, 3));
+    assert_eq!(rt;
+        (position.mils(), position.cost()),
+        (Mils(105_000), Cents(105_000))
+    );
 }
 
 #[test]
 fn free_shares_join_one_lot(rt: HostRuntime) -> Result<(), Fail> {
     let position = with_free_shares(rt.alloc())?;
-    assert_eq!(rt; position.lots().len(), 2);
-    assert_eq!(rt; position.next_lot(), 3);
+    expect_joined(&rt, &position);
+    Ok(())
+}
+
+fn expect_free_first(rt: &impl Abort, alloc: Global, position: &mut Position) -> Result<(), Fail> {
+    let free_first = [(2, 5_000, 5_000), (1, 45_000, 45_000)];
+    expect_taken(rt, alloc, position, 50_000, free_first.as_slice())?;
     assert_eq!(rt;
-        (position.mils(), position.cost()),
-        (Mils(105_000), Cents(105_000))
+        (position.loose(), position.cost()),
+        (Mils(55_000), Cents(55_000))
     );
+    // The rest is of the first lot, and costs as much.
+    expect_taken(rt, alloc, position, 55_000, &[(1, 55_000, 55_000)])?;
+    assert_eq!(rt; lots_and_next(position), (0, 3));
     Ok(())
 }
 
 #[test]
 fn free_shares_go_first(rt: HostRuntime) -> Result<(), Fail> {
     let mut position = with_free_shares(rt.alloc())?;
-    let taken = position.take(rt.alloc(), Mils(50_000))?;
-    expect_pieces(
-        &rt,
-        taken.as_slice(),
-        &[(2, 5_000, 5_000), (1, 45_000, 45_000)],
-    );
-    assert_eq!(rt;
-        (position.loose(), position.cost()),
-        (Mils(55_000), Cents(55_000))
-    );
-    let _rest = position.take(rt.alloc(), Mils(55_000))?;
-    assert_eq!(rt; position.lots().len(), 0);
-    assert_eq!(rt; position.next_lot(), 3);
+    expect_free_first(&rt, rt.alloc(), &mut position)
+}
+
+fn expect_costs_kept(rt: &impl Abort, alloc: Global, position: &mut Position) -> Result<(), Fail> {
+    add(position, "2024-07-02", 3, 100, false)?;
+    add(position, "2024-07-01", 3, 100, false)?;
+    expect_taken(rt, alloc, position, 4, &[(2, 3, 100), (1, 1, 33)])?;
+    assert_eq!(rt; position.cost(), Cents(67));
     Ok(())
 }
 
 #[test]
 fn costs_keep_their_sum(rt: HostRuntime) -> Result<(), Fail> {
     let mut position = Position::empty(rt.alloc());
-    add(&mut position, "2024-07-02", 3, 100, false)?;
-    add(&mut position, "2024-07-01", 3, 100, false)?;
-    let taken = position.take(rt.alloc(), Mils(4))?;
-    expect_pieces(&rt, taken.as_slice(), &[(2, 3, 100), (1, 1, 33)]);
-    assert_eq!(rt; position.cost(), Cents(67));
-    Ok(())
+    expect_costs_kept(&rt, rt.alloc(), &mut position)
 }
 
 /// The lot with a number has so many loose mils.
@@ -77,67 +128,100 @@ fn has_loose(lots: &[Lot], number: u32, quantity: u64) -> bool
         .all(|lot| lot.number != number || quantity <= lot.loose.0)
 }
 
-// 955.110 shares, of which 238.778 are held.
-fn with_held_shares(alloc: Global) -> Result<Position, Fail> {
-    let mut position = Position::empty(alloc);
-    let lot = add(&mut position, "2024-07-01", 955_110, 1_000_000, false)?;
+fn add_held_shares(position: &mut Position) -> Result<(), Fail> {
+    let lot = add(position, "2024-07-01", 955_110, 1_000_000, false)?;
     if has_loose(position.lots(), lot, 238_778) {
         position.hold(lot, Mils(238_778));
     }
+    Ok(())
+}
+
+// 955.110 shares, of which 238.778 are held.
+fn with_held_shares(alloc: Global) -> Result<Position, Fail> {
+    let mut position = Position::empty(alloc);
+    add_held_shares(&mut position)?;
     Ok(position)
+}
+
+// Why so many mils can't be taken, and how many are held then.
+fn taken_too_many(alloc: Global, position: &mut Position, mils: u64) -> (Option<TakeFault>, Mils) {
+    let short = position.take(alloc, Mils(mils)).err();
+    (short, position.held())
 }
 
 #[test]
 fn held_shares_are_not_taken(rt: HostRuntime) -> Result<(), Fail> {
     let mut position = with_held_shares(rt.alloc())?;
-    let short = position.take(rt.alloc(), Mils(800_000)).err();
-    assert_eq!(rt; short, Some(TakeFault::Short(Mils(716_332))));
-    assert_eq!(rt; position.held(), Mils(238_778));
+    let (short, held) = taken_too_many(rt.alloc(), &mut position, 800_000);
+    assert_eq!(rt;
+        (short, held),
+        (Some(TakeFault::Short(Mils(716_332))), Mils(238_778))
+    );
+    Ok(())
+}
+
+#[test]
+fn faults_are_told_in_words(rt: HostRuntime) -> Result<(), Fail> {
     let told = format!(in rt.alloc(); "{}; {}", TakeFault::Short(Mils(1)), TakeFault::NoMemory)?;
     assert_eq!(rt; told.as_str(), "too few shares are loose; out of memory");
     Ok(())
 }
 
-#[test]
-fn held_shares_are_paid_and_released(rt: HostRuntime) -> Result<(), Fail> {
-    let mut position = with_held_shares(rt.alloc())?;
+fn expect_paid_and_released(rt: &impl Abort, position: &mut Position) {
     if position.held().0 >= 11_364 {
         position.pay_held(Mils(11_364));
     }
-    assert_eq!(rt; position.held(), Mils(227_414));
+    let held = position.held();
     position.release();
     assert_eq!(rt;
-        (position.loose(), position.held()),
-        (Mils(943_746), Mils(0))
+        [held, position.loose(), position.held()],
+        [Mils(227_414), Mils(943_746), Mils(0)]
     );
+}
+
+#[test]
+fn held_shares_are_paid_and_released(rt: HostRuntime) -> Result<(), Fail> {
+    let mut position = with_held_shares(rt.alloc())?;
+    expect_paid_and_released(&rt, &mut position);
     Ok(())
+}
+
+// A look at what would be taken leaves the lots as they are in a copy.
+fn expect_looked_at(
+    rt: &impl Abort,
+    alloc: Global,
+    position: &Position,
+    copy: &Position,
+) -> Result<(), Fail> {
+    let wanted = [(2, 5_000, 5_000), (1, 1_000, 1_000)];
+    expect_taking(rt, alloc, position, 6_000, wanted.as_slice())?;
+    assert_eq!(rt; position.lots(), copy.lots());
+    Ok(())
+}
+
+fn expect_removed(rt: &impl Abort, position: &mut Position) {
+    if position.loose().0 >= 6_000 {
+        position.remove(Mils(6_000));
+    }
+    assert_eq!(rt; position.mils(), Mils(99_000));
 }
 
 #[test]
 fn what_is_looked_at_is_removed(rt: HostRuntime) -> Result<(), Fail> {
     let mut position = with_free_shares(rt.alloc())?;
     let copy = position.copied(rt.alloc())?;
-    let pieces = position.pieces(rt.alloc(), Mils(6_000))?;
-    expect_pieces(
-        &rt,
-        pieces.as_slice(),
-        &[(2, 5_000, 5_000), (1, 1_000, 1_000)],
-    );
-    assert_eq!(rt; position.lots(), copy.lots());
-    if position.loose().0 >= 6_000 {
-        position.remove(Mils(6_000));
-    }
-    assert_eq!(rt; position.mils(), Mils(99_000));
+    expect_looked_at(&rt, rt.alloc(), &position, &copy)?;
+    expect_removed(&rt, &mut position);
     Ok(())
 }
 
 #[test]
 fn a_value_is_rounded_to_the_cent(rt: HostRuntime) -> Result<(), Fail> {
-    assert_eq!(rt; value_at(nav(999)?, Mils(1_500)), Cents(1_499));
-    assert_eq!(rt;
+    let values = [
+        value_at(nav(999)?, Mils(1_500)),
         value_at(nav(10_000_000)?, Mils(1_000_000_000_000)),
-        Cents(10_000_000_000_000_000)
-    );
+    ];
+    assert_eq!(rt; values, [Cents(1_499), Cents(10_000_000_000_000_000)]);
     Ok(())
 }
 
@@ -177,22 +261,29 @@ fn stored_position(
     Position::from_lots(alloc, &lots, 4)
 }
 
+fn expect_by_rank(rt: &impl Abort, alloc: Global, position: &Position) -> Result<(), Fail> {
+    assert_eq!(rt; position.next_lot(), 4);
+    assert_eq!(rt; (position.loose(), position.held()), (Mils(9), Mils(2)));
+    assert_eq!(rt; (position.mils(), position.cost()), (Mils(11), Cents(205)));
+    let wanted = [(2, 5, 5), (3, 1, 33), (1, 1, 33)];
+    expect_taking(rt, alloc, position, 7, wanted.as_slice())
+}
+
 #[test]
 fn stored_lots_stand_by_rank(rt: HostRuntime) -> Result<(), Fail> {
     let first = day("2024-07-01")?;
     let position = stored_position(rt.alloc(), first, day("2024-07-02")?, day("2024-08-15")?)?;
-    assert_eq!(rt; position.next_lot(), 4);
-    assert_eq!(rt; (position.loose(), position.held()), (Mils(9), Mils(2)));
-    assert_eq!(rt; (position.mils(), position.cost()), (Mils(11), Cents(205)));
-    let pieces = position.pieces(rt.alloc(), Mils(7))?;
-    expect_pieces(&rt, pieces.as_slice(), &[(2, 5, 5), (3, 1, 33), (1, 1, 33)]);
-    Ok(())
+    expect_by_rank(&rt, rt.alloc(), &position)
+}
+
+// How many lots there are where none were stored, and the number of the next one.
+fn none_stored(alloc: Global) -> Result<(usize, u32), NoMemory> {
+    let position = Position::from_lots(alloc, &[], 5)?;
+    Ok(lots_and_next(&position))
 }
 
 #[test]
 fn no_lots_were_stored(rt: HostRuntime) -> Result<(), Fail> {
-    let position = Position::from_lots(rt.alloc(), &[], 5)?;
-    assert_eq!(rt; position.lots().len(), 0);
-    assert_eq!(rt; position.next_lot(), 5);
+    assert_eq!(rt; none_stored(rt.alloc())?, (0, 5));
     Ok(())
 }
