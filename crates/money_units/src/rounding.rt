@@ -1,5 +1,5 @@
 //! Rounding of money and shares.
-ghost use Rattle.std.specs.Prelude.{◌≡◌, ◌^◌, ◌≤◌, nat_abs};
+ghost use Rattle.std.specs.Prelude.{◌≡◌, ◌^◌, ◌/◌, ◌≤◌, nat_abs};
 ghost use Rattle.money_units.specs.Rounding.{half, ceil_div, signed_half};
 
 /// `a` over `b` to the nearest whole number, and up where it lies halfway between two.
@@ -9,7 +9,19 @@ pub fn half(a: u128, b: u128) -> u128
     requires denominator { b ≤ 2 ^ 120 }
     ensures { result ≡ half a b }
 {
-    (2 * a + b) / (2 * b)
+    quotient(2 * a + b, 2 * b)
+}
+
+/// `a` over `b`, rounded down, by a division of 64 bits where both have no more.
+fn quotient(a: u128, b: u128) -> u128
+    requires positive { 1 ≤ b }
+    ensures { result ≡ a / b }
+{
+    if a < 1 << 64 && b < 1 << 64 {
+        (a as u64 / b as u64) as u128
+    } else {
+        a / b
+    }
 }
 
 /// `a` over `b`, rounded up.

@@ -1,3 +1,4 @@
 pub mod Lots
+pub mod Tally
 pub mod Taking
 pub mod Values

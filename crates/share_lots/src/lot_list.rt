@@ -41,6 +41,14 @@ pub(crate) fn held_total(lots: &[Lot]) -> u64
     lots.iter().map(|lot| lot.held.0).sum()
 }
 
+/// The mils of lots, loose and held together.
+pub(crate) fn mils_total(lots: &[Lot]) -> u64
+    requires { sum_by spec.mils lots.now ≤ spec.most_mils }
+    ensures { result ≡ sum_by spec.mils lots.now }
+{
+    loose_total(lots) + held_total(lots)
+}
+
 /// The cost of lots.
 pub(crate) fn cost_total(lots: &[Lot]) -> u64
     requires { sum_by (λ lot. lot.cost) lots.now ≤ spec.most_cost }

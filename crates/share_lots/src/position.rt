@@ -4,7 +4,7 @@ ghost use Rattle.share_lots.specs.declared.position.TakeFault.TheVariants.{Short
 
 use crate::adding::{copied_lots, insert_lot, join_free, lot_joined, new_lot, ranked_lots};
 use crate::escrow::{hold_back, release_lots};
-use crate::lot_list::{cost_total, held_total, loose_total};
+use crate::lot_list::{cost_total, held_total, loose_total, mils_total};
 use crate::paying::pay_lots;
 use crate::taking::{reduce_lots, remove_empty, take_pieces};
 use crate::{Lot, Pieces};
@@ -43,21 +43,26 @@ impl From<money_units::NoMemory> for TakeFault {
     }
 }
 
-/// The lots of one account and class, by rank: the free lot first, then by date and number.
+/// The lots of one account and class, by rank: the free lot first, then by date and number. Their mils and cost together
+/// are kept beside them, so that neither is summed up when it is asked for.
 #[derive(Debug, Drop)]
 pub struct Position {
     lots: Vec<Lot>,
     next_lot: u32,
+    mils: u64,
+    cost: u64,
 }
 
 impl Model for Position {
-    ghost use Rattle.share_lots.specs.Lots.{Holding, IsHolding};
+    ghost use Rattle.share_lots.specs.Lots.{Holding};
+    ghost use Rattle.share_lots.specs.Tally.{IsTallied};
 
     ghost Value = { Holding };
 
     ghost view = { λ p. record { lots = p.lots.items; next_lot = p.next_lot } };
 
-    ghost invariant = { λ p. IsHolding (record { lots = p.lots.items; next_lot = p.next_lot }) };
+    ghost invariant = { λ p.
+        IsTallied (record { lots = p.lots.items; next_lot = p.next_lot }) p.mils p.cost };
 }
 
 impl Position {
@@ -71,6 +76,8 @@ impl Position {
         Position {
             lots: Vec::new(alloc),
             next_lot: 1,
+            mils: 0,
+            cost: 0,
         }
     }
 
@@ -87,7 +94,14 @@ impl Position {
         }) }
     {
         let lots = ranked_lots(alloc, lots, next_lot)?;
-        Ok(Position { lots, next_lot })
+        let mils = mils_total(&lots);
+        let cost = cost_total(&lots);
+        Ok(Position {
+            lots,
+            next_lot,
+            mils,
+            cost,
+        })
     }
 
     /// The lots by rank.
@@ -126,7 +140,7 @@ impl Position {
         ensures total { result ≡ spec.loose_total self.now + spec.held_total self.now }
         ensures bound { result ≤ spec.most_mils }
     {
-        Mils(loose_total(&self.lots) + held_total(&self.lots))
+        Mils(self.mils)
     }
 
     /// The cost of loose and held mils.
@@ -134,7 +148,7 @@ impl Position {
         ensures total { result ≡ spec.cost_total self.now }
         ensures bound { result ≤ spec.most_cost }
     {
-        Cents(cost_total(&self.lots))
+        Cents(self.cost)
     }
 
     /// A copy of the position.
@@ -144,6 +158,8 @@ impl Position {
         Ok(Position {
             lots: copied_lots(alloc, &self.lots)?,
             next_lot: self.next_lot,
+            mils: self.mils,
+            cost: self.cost,
         })
     }
 
@@ -170,7 +186,8 @@ impl Position {
         requires few_mils { spec.loose_total self.old + spec.held_total self.old + mils
             ≤ spec.most_mils }
         requires low_cost { spec.cost_total self.old + cost ≤ spec.most_cost }
-        requires next { (spec.shares_added self.old day mils cost free).holding.next_lot ≤ 4294967295 }
+        requires next { (spec.shares_added self.old day mils cost free).holding.next_lot
+            ≤ 4294967295 }
         ensures added { IfOk result
             (λ number.
             record { number = number; holding = self.new }
@@ -187,12 +204,16 @@ impl Position {
         match lot_joined(&self.lots, free) {
             Some(number) => {
                 join_free(&mut self.lots, &mils, &cost);
+                self.mils += mils.0;
+                self.cost += cost.0;
                 Ok(number)
             }
             None => {
                 let number = self.next_lot;
                 insert_lot(&mut self.lots, new_lot(number, day, mils, cost, free))?;
                 self.next_lot += 1;
+                self.mils += mils.0;
+                self.cost += cost.0;
                 Ok(number)
             }
         }
@@ -245,6 +266,8 @@ impl Position {
         let pieces = take_pieces(alloc, &self.lots, mils.0)?;
         reduce_lots(&mut self.lots, mils.0);
         remove_empty(&mut self.lots);
+        self.mils = mils_total(&self.lots);
+        self.cost = cost_total(&self.lots);
         Ok(pieces)
     }
 
@@ -255,6 +278,8 @@ impl Position {
     {
         reduce_lots(&mut self.lots, mils.0);
         remove_empty(&mut self.lots);
+        self.mils = mils_total(&self.lots);
+        self.cost = cost_total(&self.lots);
     }
 
     /// Pays held mils by date and number; each lot keeps the rest of its cost.
@@ -269,5 +294,7 @@ impl Position {
     {
         pay_lots(&mut self.lots, mils.0);
         remove_empty(&mut self.lots);
+        self.mils = mils_total(&self.lots);
+        self.cost = cost_total(&self.lots);
     }
 }

@@ -49,6 +49,9 @@ pub(crate) fn piece_cost(lot: &Lot, quantity: u64) -> u64
     ensures value { result ≡ taking.piece_cost lot.now quantity }
     ensures bound { result ≤ lot.now.cost }
 {
+    if quantity == 0 {
+        return 0;
+    }
     let mils = loose_of(lot) as u128 + held_of(lot) as u128;
     half(cost_of(lot) as u128 * quantity as u128, mils) as u64
 }

@@ -1,4 +1,4 @@
-use Rattle.std.proofs.Common.{◌≡◌, ◌++◌, length, map, take, drop, arith, sym, subst}
+use Rattle.std.proofs.Common.{◌≡◌, ◌++◌, length, map, take, drop, arith, sym, ◌∙◌, subst}
 use Rattle.std.proofs.lemmas.Grind.{common_steps}
 use Rattle.share_lots.specs.Lots.{Holding, HasLoose, hold_in}
 use Rattle.share_lots.proofs.KeptLemmas.{hold-keeps_mils, hold-keeps_cost}
@@ -19,7 +19,11 @@ invariant_of-self c =
     let same : take c.self.inside.lots.len (c.hold_back.new.lots ++ drop (length c.hold_back.new.lots) items) ≡ map f items = grind (arith, common_steps) in
     let has : HasLoose items c.args.lot c.mils.inside.0 =
     subst (λ (h : Holding). HasLoose h.lots c.args.lot c.mils.inside.0) (sym c.self.view_is) (subst (λ q. HasLoose c.args.self.now.lots c.args.lot q) (sym c.mils.view_is) c.requires) in
-    rw same (IsHolding-hold (record { lots = items; next_lot = c.self.inside.next_lot }) c.args.lot c.mils.inside.0 c.self.invariant has)
+    rw same (record {
+      holding = IsHolding-hold (record { lots = items; next_lot = c.self.inside.next_lot }) c.args.lot c.mils.inside.0 c.self.invariant.holding has;
+      mils_sum = c.self.invariant.mils_sum ∙ sym (hold-keeps_mils c.args.lot c.mils.inside.0 items has);
+      cost_sum = c.self.invariant.cost_sum ∙ sym (hold-keeps_cost c.args.lot c.mils.inside.0 items);
+    })
 
 pub returns-clause-mils_kept : goal.returns-clause-mils_kept
 returns-clause-mils_kept c = rw (kept_back c, ← c.self.view_is) (hold-keeps_mils c.args.lot c.mils.inside.0 c.self.inside.lots.items (has_loose c))

@@ -1,4 +1,4 @@
-use Rattle.std.proofs.Common.{◌≡◌, ◌++◌, length, map, take, drop, arith}
+use Rattle.std.proofs.Common.{◌≡◌, ◌++◌, length, map, take, drop, sym, ◌∙◌, arith}
 use Rattle.std.proofs.lemmas.Grind.{common_steps}
 use Rattle.share_lots.specs.Lots.{release_lot}
 use Rattle.share_lots.proofs.KeptLemmas.{release-keeps_mils, release-keeps_cost}
@@ -12,7 +12,11 @@ pub invariant_of-self : goal.invariant_of-self
 invariant_of-self c =
     let items = c.self.inside.lots.items in
     let same : take c.self.inside.lots.len (c.release_lots.new.lots ++ drop (length c.release_lots.new.lots) items) ≡ map release_lot items = grind (arith, common_steps) in
-    rw same (IsHolding-release (record { lots = items; next_lot = c.self.inside.next_lot }) c.self.invariant)
+    rw same (record {
+      holding = IsHolding-release (record { lots = items; next_lot = c.self.inside.next_lot }) c.self.invariant.holding;
+      mils_sum = c.self.invariant.mils_sum ∙ sym (release-keeps_mils items);
+      cost_sum = c.self.invariant.cost_sum ∙ sym (release-keeps_cost items);
+    })
 
 pub returns-clause-mils_kept : goal.returns-clause-mils_kept
 returns-clause-mils_kept c = rw (released c, ← c.self.view_is) (release-keeps_mils c.self.inside.lots.items)
