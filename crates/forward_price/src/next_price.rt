@@ -18,7 +18,8 @@ fn prices_order(asked: &[u32], receipt: i64, sheet: &Sheet) -> bool
 
 // The earlier of the sheet found so far and one more.
 fn earlier<'a>(found: Option<&'a Sheet>, sheet: &'a Sheet) -> Option<&'a Sheet>
-    ensures { option_copied result ≡ found_or_better is_earlier (option_copied found.entry) sheet.now }
+    ensures { option_copied result
+        ≡ found_or_better is_earlier (option_copied found.entry) sheet.now }
 {
     match found {
         None => Some(sheet),
@@ -53,7 +54,8 @@ fn is_before(class: u32, moment: i64, sheet: &Sheet) -> bool
 
 // The later of the sheet found so far and one more.
 fn later<'a>(found: Option<&'a Sheet>, sheet: &'a Sheet) -> Option<&'a Sheet>
-    ensures { option_copied result ≡ found_or_better is_later (option_copied found.entry) sheet.now }
+    ensures { option_copied result
+        ≡ found_or_better is_later (option_copied found.entry) sheet.now }
 {
     match found {
         None => Some(sheet),
@@ -207,7 +209,9 @@ fn is_up_to(moment: i64, sheet: &Sheet) -> bool
 }
 
 fn follows(sheets: &[Sheet], moment: i64) -> bool
-    ensures rising { result ≡ true → NeverFall sheets.now → All (λ s. s.moment ≤ℤ moment) sheets.now }
+    ensures rising { result ≡ true
+        → NeverFall sheets.now
+        → All (λ s. s.moment ≤ℤ moment) sheets.now }
     ensures any { All (λ s. s.moment ≤ℤ moment) sheets.now → result ≡ true }
 {
     match sheets.last() {

@@ -22,7 +22,8 @@ pub fn sheets_go_in_turn()
     ensures expected { expected_of on_first ≡ Some (pos 1719864000, 1) }
     ensures next { expected_in (july 2 ∷ july 1 ∷ []) openings (first_sheet ∷ [])
         ≡ Some (pos 1719864000, 2) }
-    ensures then { expected_in (july 2 ∷ july 1 ∷ []) openings sheets_of_july ≡ Some (pos 1719950400, 2) }
+    ensures then { expected_in (july 2 ∷ july 1 ∷ []) openings sheets_of_july
+        ≡ Some (pos 1719950400, 2) }
     ensures none { expected_in (july 1 ∷ []) [] [] ≡ None }
     ensures too_many { wrong_class openings 1 (pos 1719864000) ((13, 2000) ∷ (14, 1000) ∷ [])
         ≡ Some 13 }

@@ -3,7 +3,7 @@ use Rattle.std.specs.Prelude.{List, None, Option, Some, [], if◌then◌else◌,
 use Rattle.agent_events.specs.declared.trade.Outcome.{Outcome}
 use Rattle.agent_events.specs.declared.trade.Trade.{Trade}
 use Rattle.agent_events.specs.declared.trade.TradeKind.{TradeKind}
-use Rattle.register_machine.specs.corrections.Cash.{Movement, movement}
+use Rattle.register_machine.specs.corrections.Cash.{Movement, cash_movement}
 use Rattle.gain_loss_book.specs.declared.flows.Flow.{Flow}
 use Rattle.gain_loss_book.specs.declared.movements.CashMoved.{CashMoved}
 use Rattle.gain_loss_book.specs.declared.movements.CashMovement.{CashMovement}
@@ -11,7 +11,7 @@ use Rattle.gain_loss_book.specs.declared.movements.SharesMoved.{SharesMoved}
 
 abbrev pub movement_listed : Option CashMovement → List Movement
 movement_listed None = []
-movement_listed (Some moves) = movement moves.giver moves.taker moves.cents ∷ []
+movement_listed (Some moves) = cash_movement moves.giver moves.taker moves.cents ∷ []
 
 abbrev pub movements_listed : CashMoved → List Movement
 movements_listed moved = movement_listed moved.first ++ movement_listed moved.second

@@ -154,7 +154,8 @@ fn gain_of_class(
 ) -> Option<ClassGain>
     requires within { KeepsChange flows }
     requires numbered { changes_class flows ≡ true → 1 ≤ class }
-    ensures { result ≡ gain_of_flows class flows (sheets_on_trial patch.now prices.now.table.sheets) }
+    ensures { result
+        ≡ gain_of_flows class flows (sheets_on_trial patch.now prices.now.table.sheets) }
 {
     let cash = flows.cash.net();
     let mils = flows.mils.net();

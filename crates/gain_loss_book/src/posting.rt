@@ -2,7 +2,7 @@
 ghost use Rattle.std.specs.Prelude.{◌≡◌, ℕ, ◌+◌, ◌*◌, ◌<◌, ◌≤◌, ◌^◌, ◌∷◌, [], length, Some};
 ghost use Rattle.std.specs.Option.{option_copied};
 ghost use Rattle.agent_events.specs.declared.order.Party.{Party as AnyParty};
-ghost use Rattle.register_machine.specs.corrections.Cash.{movement};
+ghost use Rattle.register_machine.specs.corrections.Cash.{cash_movement};
 ghost use Rattle.register_machine.specs.corrections.Payments.{payer, loss_payment, loss_payments};
 ghost use Rattle.gain_loss_book.specs.Flows.{fall, flow_by, rise, with_flow};
 ghost use Rattle.gain_loss_book.specs.PartyAccounts.{all_flows, flow_in, room_in};
@@ -67,9 +67,9 @@ fn move_cash(accounts: &mut Accounts, giver: Party, taker: Party, cents: u128)
     requires inflow { (all_flows accounts.old).inflow + cents < 2 ^ 128 }
     requires outflow { (all_flows accounts.old).outflow + cents < 2 ^ 128 }
     ensures flows { (q : AnyParty) → flow_in accounts.new q
-        ≡ with_flow (flow_in accounts.old q) (movements_flow (movement giver taker cents ∷ []) q) }
+        ≡ with_flow (flow_in accounts.old q) (movements_flow (cash_movement giver taker cents ∷ []) q) }
     ensures all { all_flows accounts.new
-        ≡ with_flow (all_flows accounts.old) (flow_of_movements (movement giver taker cents ∷ [])) }
+        ≡ with_flow (all_flows accounts.old) (flow_of_movements (cash_movement giver taker cents ∷ [])) }
     ensures room { room_in accounts.old ≤ room_in accounts.new + 2 }
 {
     accounts.add(

@@ -9,10 +9,10 @@ use Rattle.kept_states.specs.declared.states.KeptState.{KeptState}
 abbrev pub states_in : List (ℕ × HouseholdStates) → ℕ → List KeptState
 states_in rows household = option_map_or (λ (own : HouseholdStates). own.states.items) (lookup (nat_eq household) rows) []
 
--- one more is due behind a sheet where the last one is 16 sheets older, or there is none
+-- one more is due behind a sheet where the last one is 8 sheets older, or there is none
 abbrev pub is_due : List KeptState → ℕ → Bool
 is_due states sheet =
-    option_map_or (λ (last : KeptState). nat_le (last.sheet + 16) sheet) (slice_get states (length states - 1)) true
+    option_map_or (λ (last : KeptState). nat_le (last.sheet + 8) sheet) (slice_get states (length states - 1)) true
 
 -- the last one behind a sheet before this one
 abbrev pub last_before : ℕ → List KeptState → Option KeptState

@@ -26,7 +26,7 @@ pub struct HouseholdStates {
 }
 
 /// So many sheets at least lie between two states of a household.
-const SHEETS_BETWEEN: u32 = 16;
+const SHEETS_BETWEEN: u32 = 8;
 
 /// So many states at most are kept of a household: the first one, and the last ones.
 const MOST_STATES: usize = 4;
@@ -133,7 +133,7 @@ fn is_due(states: &[KeptState], sheet: u32) -> bool
 }
 
 fn is_far(last: &KeptState, sheet: u32) -> bool
-    ensures { result ≡ nat_le (last.now.sheet + 16) sheet }
+    ensures { result ≡ nat_le (last.now.sheet + 8) sheet }
 {
     SHEETS_BETWEEN <= sheet && last.sheet <= sheet - SHEETS_BETWEEN
 }

@@ -10,7 +10,7 @@ use Rattle.forward_price.specs.PriceTables.{Table}
 use Rattle.register_laws.proofs.Comparisons.{eq-yes}
 use Rattle.register_laws.proofs.Sums.{passing, sums-exchange}
 use Rattle.register_laws.specs.CashBooks.{Balances, BalancesToZero, BookedBalances, IsBetween, ReplayBalances, parties_of, times_among, with_both, with_party}
-use Rattle.register_machine.specs.corrections.Cash.{Movement, balance, cents_paid, cents_paid_in, cents_received, cents_received_in, movement, movements_of, same_party}
+use Rattle.register_machine.specs.corrections.Cash.{Movement, balance, cents_paid, cents_paid_in, cents_received, cents_received_in, cash_movement, movements_of, same_party}
 use Rattle.register_machine.specs.corrections.Payments.{booked_movements}
 use Rattle.register_machine.specs.journal.Journals.{Journal}
 use Rattle.register_machine.specs.pricing.CorrectedBook.{Book, book_of}

@@ -12,7 +12,7 @@ use Rattle.register_laws.proofs.OrdersInTurn.{rows-standing}
 use Rattle.register_laws.proofs.PositionsInOrder.{own-account, own-class}
 use Rattle.register_laws.proofs.RegistersStand.{all_put-all}
 use Rattle.register_laws.proofs.ReplayTurns.{All-one, TurnsKeep, replay-kept}
-use Rattle.register_machine.specs.corrections.Cash.{Movement, movement, movements_by, movements_in, movements_of}
+use Rattle.register_machine.specs.corrections.Cash.{Movement, cash_movement, movements_by, movements_in, movements_of}
 use Rattle.register_machine.specs.pricing.CorrectedBook.{Book}
 use Rattle.register_machine.specs.pricing.CorrectedOrders.{stands}
 use Rattle.register_machine.specs.pricing.OrderClasses.{class_of, target_of}
@@ -65,13 +65,13 @@ pub record KnownMovement (K : Party → Type 0) (movement : Movement) : Type 0 w
 
 -- ---- movements
 
-pub one-moved : (K : Party → Type 0) (giver taker : Party) (cents : ℕ) → K giver → K taker → All (KnownMovement K) (movement giver taker cents ∷ [])
+pub one-moved : (K : Party → Type 0) (giver taker : Party) (cents : ℕ) → K giver → K taker → All (KnownMovement K) (cash_movement giver taker cents ∷ [])
 one-moved K giver taker cents gives takes =
-    All-cons (KnownMovement K) (movement giver taker cents) [] (record { giver = gives; taker = takes }) (All-nil (KnownMovement K))
+    All-cons (KnownMovement K) (cash_movement giver taker cents) [] (record { giver = gives; taker = takes }) (All-nil (KnownMovement K))
 
-pub two-moved : (K : Party → Type 0) (giver taker giver2 taker2 : Party) (cents cents2 : ℕ) → K giver → K taker → K giver2 → K taker2 → All (KnownMovement K) (movement giver taker cents ∷ movement giver2 taker2 cents2 ∷ [])
+pub two-moved : (K : Party → Type 0) (giver taker giver2 taker2 : Party) (cents cents2 : ℕ) → K giver → K taker → K giver2 → K taker2 → All (KnownMovement K) (cash_movement giver taker cents ∷ cash_movement giver2 taker2 cents2 ∷ [])
 two-moved K giver taker giver2 taker2 cents cents2 gives takes gives2 takes2 =
-    All-cons (KnownMovement K) (movement giver taker cents) (movement giver2 taker2 cents2 ∷ []) (record { giver = gives; taker = takes })
+    All-cons (KnownMovement K) (cash_movement giver taker cents) (cash_movement giver2 taker2 cents2 ∷ []) (record { giver = gives; taker = takes })
     (one-moved K giver2 taker2 cents2 gives2 takes2)
 
 pub kind-moves : (K : Party → Type 0) → K Party.Underwriter → (kind : TradeKind) (trade : Trade) → trade.kind ≡ kind → KnownTrade K trade → All (KnownMovement K) (movements_by kind trade)

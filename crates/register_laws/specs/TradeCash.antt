@@ -2,7 +2,7 @@
 use Rattle.std.specs.Prelude.{All, List, [], ℕ, ◌+◌, ◌∷◌, ◌≡◌}
 use Rattle.agent_events.specs.declared.order.Party.{Party}
 use Rattle.register_laws.specs.ReplayKeeps.{IsWithinLimits}
-use Rattle.register_machine.specs.corrections.Cash.{Movement, movement, movements_in}
+use Rattle.register_machine.specs.corrections.Cash.{Movement, cash_movement, movements_in}
 use Rattle.register_machine.specs.pricing.CorrectedBook.{Book}
 use Rattle.register_machine.specs.replay.Replay.{replay}
 use Rattle.agent_events.specs.declared.trade.Outcome.{Outcome}
@@ -11,7 +11,7 @@ use Rattle.agent_events.specs.declared.trade.TradeKind.{TradeKind}
 
 -- one movement of so many cents
 abbrev pub moves_one : Party → Party → ℕ → List Movement
-moves_one giver taker cents = movement giver taker cents ∷ []
+moves_one giver taker cents = cash_movement giver taker cents ∷ []
 
 -- a load is taken of the cash, and the rest goes over: together they are the cash
 pub record IsSplit (trade : Trade) (moved : ℕ → List Movement) : Type 0 where
@@ -22,20 +22,20 @@ pub record IsSplit (trade : Trade) (moved : ℕ → List Movement) : Type 0 wher
 -- the holder of a purchase pays the class, and the underwriter its charge
 abbrev pub purchase_moves : Trade → ℕ → List Movement
 purchase_moves trade rest =
-    movement (Party.Holder trade.account) (Party.Class trade.class) rest
-    ∷ movement (Party.Holder trade.account) Party.Underwriter trade.charge ∷ []
+    cash_movement (Party.Holder trade.account) (Party.Class trade.class) rest
+    ∷ cash_movement (Party.Holder trade.account) Party.Underwriter trade.charge ∷ []
 
 -- of a redemption the class pays the holder, and the underwriter its charge
 abbrev pub redemption_moves : Trade → ℕ → List Movement
 redemption_moves trade rest =
-    movement (Party.Class trade.class) (Party.Holder trade.account) rest
-    ∷ movement (Party.Class trade.class) Party.Underwriter trade.charge ∷ []
+    cash_movement (Party.Class trade.class) (Party.Holder trade.account) rest
+    ∷ cash_movement (Party.Class trade.class) Party.Underwriter trade.charge ∷ []
 
 -- a dividend in shares goes to the holder and comes back
 abbrev pub reinvestment_moves : Trade → List Movement
 reinvestment_moves trade =
-    movement (Party.Class trade.class) (Party.Holder trade.account) trade.cash
-    ∷ movement (Party.Holder trade.account) (Party.Class trade.class) trade.cash ∷ []
+    cash_movement (Party.Class trade.class) (Party.Holder trade.account) trade.cash
+    ∷ cash_movement (Party.Holder trade.account) (Party.Class trade.class) trade.cash ∷ []
 
 abbrev pub FilledMoves : TradeKind → Trade → Type 0
 FilledMoves TradeKind.Buy trade = IsSplit trade (purchase_moves trade)

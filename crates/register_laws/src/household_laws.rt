@@ -105,6 +105,7 @@ pub fn batches_are_isolated()
 
 /// The first trade that a correction breaks, in the order of sheets and turns, is the first that it breaks in its household's
 /// part, and no household's part has one that stands before it.
+#[tactic(auto, using(crate::proofs::BrokenByParts::breaks_by_parts))]
 pub fn the_least_broken_order_is_its_households()
     ensures { (accounts : List AccountForm) (order : Option Order) (before after : Day)
         → BreaksByParts accounts order before after }

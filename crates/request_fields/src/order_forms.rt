@@ -1,5 +1,5 @@
 //! The forms of the order verbs, and of the verbs that carry one.
-ghost use Rattle.std.specs.Prelude.{◌≡◌, ◌+◌, ◌≤◌, List, ℕ, Err, if◌then◌else◌, option_map, map};
+ghost use Rattle.std.specs.Prelude.{◌≡◌, ◌+◌, ◌≤◌, List, ℕ, Err, if◌then◌else◌, is_some, option_map, map};
 ghost use Rattle.agent_events.specs.Fields as field_form;
 ghost use Rattle.agent_events.specs.Forms.{at};
 ghost use Rattle.agent_events.specs.OrderForms as form;
@@ -36,6 +36,13 @@ pub fn order_count(verb: &[u8]) -> Option<u8>
     } else {
         None
     }
+}
+
+/// Whether a verb is one of an order.
+pub fn is_order(verb: &[u8]) -> bool
+    ensures { result ≡ is_some (form.order_count verb.now) }
+{
+    order_count(verb).is_some()
 }
 
 fn buy_body(place: u8, class: Identifier, text: &[u8]) -> Result<Body, FormFault>

@@ -11,7 +11,7 @@ use crate::field_forms::{
     nav_of, reference_of,
 };
 use crate::list_forms::{brackets_of, holidays_of, prices_of, rates_of};
-use crate::order_forms::{enter_asked, line_asked, order_or_unknown, replace_asked};
+use crate::order_forms::{enter_asked, is_order, line_asked, order_or_unknown, replace_asked};
 use crate::reading::{at, field};
 use crate::text_forms::{
     bearer_of, corrected_rate_of, dealer_key_of, dividend_rate_of, household_key_of, time_of,
@@ -447,6 +447,19 @@ fn books_asked(fields: &[&[u8]]) -> Result<Request, FormFault>
 /// What a verb asks by its fields, or the place of the first that isn't in its form; place 0 is an unknown verb or a wrong number of
 /// fields.
 pub fn asked_by(alloc: Global, verb: &[u8], fields: &[&[u8]]) -> Result<Request, FormFault>
+    ensures { Gives result (items.asked_by verb.now (map (λ text. text.now) fields.now)) }
+{
+    // Looks and orders are asked most, so their verbs are tried first.
+    if same_bytes(verb, b"show") {
+        show_asked(fields)
+    } else if is_order(verb) {
+        order_or_unknown(verb, fields)
+    } else {
+        asked_by_other(alloc, verb, fields)
+    }
+}
+
+fn asked_by_other(alloc: Global, verb: &[u8], fields: &[&[u8]]) -> Result<Request, FormFault>
     ensures { Gives result (items.asked_by verb.now (map (λ text. text.now) fields.now)) }
 {
     if same_bytes(verb, b"calendar") {

@@ -12,28 +12,28 @@ pub record Movement : Type 0 where
   pub taker : Party
   pub cents : ℕ
 
-abbrev pub movement : Party → Party → ℕ → Movement
-movement giver taker cents = record { giver = giver; taker = taker; cents = cents }
+abbrev pub cash_movement : Party → Party → ℕ → Movement
+cash_movement giver taker cents = record { giver = giver; taker = taker; cents = cents }
 
 -- a purchase pays its class and the underwriter, a redemption comes from the class, an exchange goes from class to class, a
 -- dividend goes to the holder and comes back where it is reinvested, and a letter's shortfall goes to the underwriter
 abbrev pub movements_by : TradeKind → Trade → List Movement
 movements_by TradeKind.Buy trade =
-    movement (Party.Holder trade.account) (Party.Class trade.class) (trade.cash - trade.charge)
-    ∷ movement (Party.Holder trade.account) Party.Underwriter trade.charge ∷ []
+    cash_movement (Party.Holder trade.account) (Party.Class trade.class) (trade.cash - trade.charge)
+    ∷ cash_movement (Party.Holder trade.account) Party.Underwriter trade.charge ∷ []
 movements_by TradeKind.Sell trade =
-    movement (Party.Class trade.class) (Party.Holder trade.account) (trade.cash - trade.charge)
-    ∷ movement (Party.Class trade.class) Party.Underwriter trade.charge ∷ []
-movements_by TradeKind.Exchange trade = movement (Party.Class trade.class) (Party.Class trade.to_class) trade.cash ∷ []
+    cash_movement (Party.Class trade.class) (Party.Holder trade.account) (trade.cash - trade.charge)
+    ∷ cash_movement (Party.Class trade.class) Party.Underwriter trade.charge ∷ []
+movements_by TradeKind.Exchange trade = cash_movement (Party.Class trade.class) (Party.Class trade.to_class) trade.cash ∷ []
 movements_by TradeKind.Letter trade = []
 movements_by TradeKind.LetterReached trade = []
-movements_by TradeKind.LetterEnded trade = movement (Party.Class trade.class) Party.Underwriter trade.cash ∷ []
+movements_by TradeKind.LetterEnded trade = cash_movement (Party.Class trade.class) Party.Underwriter trade.cash ∷ []
 movements_by TradeKind.ElectCash trade = []
 movements_by TradeKind.ElectShares trade = []
 movements_by TradeKind.DividendShares trade =
-    movement (Party.Class trade.class) (Party.Holder trade.account) trade.cash
-    ∷ movement (Party.Holder trade.account) (Party.Class trade.class) trade.cash ∷ []
-movements_by TradeKind.DividendCash trade = movement (Party.Class trade.class) (Party.Holder trade.account) trade.cash ∷ []
+    cash_movement (Party.Class trade.class) (Party.Holder trade.account) trade.cash
+    ∷ cash_movement (Party.Holder trade.account) (Party.Class trade.class) trade.cash ∷ []
+movements_by TradeKind.DividendCash trade = cash_movement (Party.Class trade.class) (Party.Holder trade.account) trade.cash ∷ []
 
 -- an unfilled order moves nothing
 abbrev pub movements_in : Outcome → Trade → List Movement

@@ -6,7 +6,7 @@ use Rattle.agent_events.specs.declared.order.Bearer.{Bearer}
 use Rattle.agent_events.specs.declared.order.Party.{Party}
 use Rattle.agent_events.specs.declared.reply_lists.ClassGain.{ClassGain}
 use Rattle.forward_price.specs.PriceTables.{Table}
-use Rattle.register_machine.specs.corrections.Cash.{Movement, movement, movements_of}
+use Rattle.register_machine.specs.corrections.Cash.{Movement, cash_movement, movements_of}
 use Rattle.register_machine.specs.corrections.Gains.{gains_at}
 use Rattle.register_machine.specs.journal.Journals.{Journal, with_event}
 use Rattle.register_machine.specs.pricing.PublishedTable.{empty_table, table_after}
@@ -30,7 +30,7 @@ payer (Bearer.Dealer dealer) = Some (Party.Dealer dealer)
 -- a loss moves that cash to the class; a gain moves none
 abbrev pub loss_payment : Party → ℕ → ℤ → List Movement
 loss_payment party class (pos cents) = []
-loss_payment party class (negsuc n) = movement party (Party.Class class) (suc n) ∷ []
+loss_payment party class (negsuc n) = cash_movement party (Party.Class class) (suc n) ∷ []
 
 abbrev pub loss_payments : Option Party → List ClassGain → List Movement
 loss_payments None gains = []

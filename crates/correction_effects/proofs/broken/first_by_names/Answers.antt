@@ -3,7 +3,7 @@ use Rattle.std.specs.HashSet.{contains}
 use Rattle.std.specs.Option.{option_copied}
 use Rattle.correction_effects.proofs.FilledNames.{broken-by-names}
 use Rattle.correction_effects.specs.Filled.{same_name}
-use Rattle.correction_effects.proofs.broken.first_broken.Goals as goal
+use Rattle.correction_effects.proofs.broken.first_by_names.Goals as goal
 
 pub returns : goal.returns
 returns c =
