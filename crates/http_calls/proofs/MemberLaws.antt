@@ -1,15 +1,15 @@
 -- Tests over lists that are seen through a view, and the object that a body is.
-use Rattle.std.proofs.Common.{◌≡◌, Bool, true, false, cond, ◌||◌, List, [], ◌∷◌, ℕ, map, Option, None, Some, Result, Ok, Err, refl, sym, ap, ◌∙◌}
-use Rattle.std.specs.Prelude.{IfOk, option_map}
+use Rattle.std.proofs.Common.{◌≡◌, Bool, true, false, ◌||◌, List, [], ◌∷◌, ℕ, map, None, Some, ◌⊎◌, inl, inr, refl, sym, ap, subst}
 use Rattle.std.specs.List.{list_any}
 use Rattle.std.specs.Str.{IsUtf8, is_utf8}
 use Rattle.std.proofs.lemmas.Str.{IsUtf8-from_is_utf8, is_utf8-from_IsUtf8}
-use Rattle.serde_json.specs.Data.{Data, Members}
+use Rattle.serde_json.specs.Data.{Data}
 use Rattle.serde_json.specs.Find.{as_object}
 use Rattle.serde_json.specs.Read.{read}
-use Rattle.agent_events.specs.JsonForms.{Member, asked_by_members}
-use Rattle.agent_events.specs.VerbForms.{Asked}
-use Rattle.http_calls.specs.Bodies.{asked_by_object, members_in, object_in}
+use Rattle.request_fields.specs.Reading.{Fails}
+use Rattle.request_fields.specs.declared.fault.FormFault.{FormFault}
+use Rattle.request_fields.specs.declared.fault.FormFault.TheVariants as fault
+use Rattle.http_calls.specs.Bodies.{asked_by_object, object_in}
 
 pub list_any-map : {X Y : Type 0} (p : X → Bool) (h : Y → X) (ys : List Y) → list_any p (map h ys) ≡ list_any (λ y. p (h y)) ys
 list_any-map p h [] = refl
@@ -27,18 +27,9 @@ unread-by body false e unread = rw e refl
 pub object-unread : (body : List ℕ) → (IsUtf8 body → read body ≡ None) → object_in body ≡ None
 object-unread body unread = unread-by body (is_utf8 body) refl unread
 
--- what an object asks, by its members
-pub asked-some : (verb : List ℕ) (object : Option Members) (members : List Member) → Some members ≡ option_map members_in object
-    → asked_by_object verb object ≡ asked_by_members verb members
-asked-some verb None members e = absurd (cc)
-asked-some verb (Some ms) members e = let same : members_in ms ≡ members = cc in ap (asked_by_members verb) same
-
-pub asked-none : (verb : List ℕ) (object : Option Members) → None ≡ option_map members_in object → asked_by_object verb object ≡ Err 0
-asked-none verb None e = refl
-asked-none verb (Some ms) e = absurd (cc)
-
--- a body that isn't read has no members
-pub unread-ok : {V E : Type 0} (result : Result (Option V) E) (f : V → List Member) (object : Option Members) (M : Type 0)
-    → IfOk result (λ found. (found ≡ None) × M) → (M → object ≡ None) → IfOk result (λ found. option_map f found ≡ option_map members_in object)
-unread-ok (Ok found) f object M h k = rw (h.0, k h.1) refl
-unread-ok (Err e) f object M h k = tt
+-- a body that isn't read is no object
+pub unread-fails : (failed : FormFault) (verb body : List ℕ) (M : Type 0) → (failed ≡ fault.NoMemory) ⊎ ((failed ≡ fault.Place 0) × M)
+    → (M → object_in body ≡ None) → Fails failed (asked_by_object verb (object_in body))
+unread-fails failed verb body M (inl e) none = subst (λ f. Fails f (asked_by_object verb (object_in body))) (sym e) tt
+unread-fails failed verb body M (inr e) none =
+    subst (λ f. Fails f (asked_by_object verb (object_in body))) (sym e.0) (ap (asked_by_object verb) (none e.1))

@@ -1,7 +1,13 @@
 -- A member as the definitions see it.
-use Rattle.std.specs.Prelude.{option_map}
+use Rattle.std.specs.Prelude.{ℕ, List, Option, Some, None}
 use Rattle.agent_events.specs.JsonForms.{Member}
 use Rattle.http_calls.specs.declared.members.MemberText.{MemberText}
+use Rattle.http_calls.specs.declared.members.ValueText.{ValueText}
+
+abbrev pub text_view : ValueText → Option (List ℕ)
+text_view ValueText.Missing = None
+text_view (ValueText.Number digits) = Some digits
+text_view (ValueText.String text) = Some text.now
 
 abbrev pub member_view : MemberText → Member
-member_view member = record { name = member.name.items; text = option_map (λ t. t.items) member.text }
+member_view member = record { name = member.name.now; text = text_view member.text }

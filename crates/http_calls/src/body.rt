@@ -1,11 +1,12 @@
 //! What a JSON body asks of a verb.
-ghost use Rattle.std.specs.Prelude.{◌≡◌, ◌++◌, map, option_map, None, IfOk};
+ghost use Rattle.std.specs.Prelude.{◌≡◌, ◌⊎◌, ◌++◌, map, IfOk};
 ghost use Rattle.serde_json.specs.Errors.{IsMemory};
 ghost use Rattle.serde_json.specs.Find.{as_object};
 ghost use Rattle.serde_json.specs.View.{view};
 ghost use Rattle.agent_events.specs.Items as items;
 ghost use Rattle.agent_events.specs.JsonForms as form;
 ghost use Rattle.request_fields.specs.Reading.{Gives};
+ghost use Rattle.request_fields.specs.declared.fault.FormFault.TheVariants as fault;
 ghost use Rattle.http_calls.specs.Bodies as spec;
 ghost use Rattle.http_calls.specs.Views.{member_view};
 
@@ -13,7 +14,7 @@ use crate::members::{MemberText, are_named, members_of, text_named};
 use crate::names::{entry_names, field_names, is_one_of, order_names};
 use agent_events::Request;
 use money_units::NoMemory;
-use request_fields::{FormFault, asked_by, order_count, same_bytes};
+use request_fields::{FormFault, asked_by, is_order, order_count, same_bytes};
 use serde_json::{Error, Value};
 use std::alloc::Global;
 
@@ -51,48 +52,54 @@ pub(crate) fn is_posted(verb: &[u8]) -> bool
 pub fn asked_by_body(alloc: Global, verb: &[u8], body: &[u8]) -> Result<Request, FormFault>
     ensures { Gives result (spec.asked_by_body verb.now body.now) }
 {
-    match object_in(alloc, body)? {
-        Some(members) => asked_by_members(alloc, verb, &members),
+    match Value::from_slice(alloc, body) {
+        Ok(value) => asked_by_value(alloc, verb, &value),
+        Err(error) => Err(unreadable(&error)),
+    }
+}
+
+fn asked_by_value(alloc: Global, verb: &[u8], value: &Value) -> Result<Request, FormFault>
+    ensures { Gives result (spec.asked_by_object verb.now (as_object (view value.now))) }
+{
+    match value.as_object() {
+        Some(object) => {
+            let members = members_of(alloc, object)?;
+            asked_by_members(alloc, verb, &members)
+        }
         None => Err(FormFault::Place(0)),
     }
 }
 
-// The members of the object that a body is.
-fn object_in(alloc: Global, body: &[u8]) -> Result<Option<Vec<MemberText>>, NoMemory>
-    ensures { IfOk result (λ found. option_map (λ members. map member_view members.items) found
-        ≡ option_map spec.members_in (spec.object_in body.now)) }
-{
-    match Value::from_slice(alloc, body) {
-        Ok(value) => members_of_value(alloc, &value),
-        Err(error) => unreadable(&error),
-    }
-}
-
-fn members_of_value(alloc: Global, value: &Value) -> Result<Option<Vec<MemberText>>, NoMemory>
-    ensures { IfOk result (λ found. option_map (λ members. map member_view members.items) found
-        ≡ option_map spec.members_in (as_object (view value.now))) }
-{
-    match value.as_object() {
-        Some(object) => Ok(Some(members_of(alloc, object)?)),
-        None => Ok(None),
-    }
-}
-
 // Only memory is no fault of the body.
-fn unreadable(error: &Error) -> Result<Option<Vec<MemberText>>, NoMemory>
-    ensures { IfOk result (λ found. (found ≡ None) × ¬ (IsMemory error.now)) }
+fn unreadable(error: &Error) -> FormFault
+    ensures { (result ≡ fault.NoMemory)
+        ⊎ ((result ≡ fault.Place 0) × ¬ (IsMemory error.now)) }
 {
     if error.is_memory() {
-        Err(NoMemory)
+        FormFault::NoMemory
     } else {
-        Ok(None)
+        FormFault::Place(0)
     }
 }
 
 fn asked_by_members(
     alloc: Global,
     verb: &[u8],
-    members: &[MemberText],
+    members: &[MemberText<'_>],
+) -> Result<Request, FormFault>
+    ensures { Gives result (form.asked_by_members verb.now (map member_view members.now)) }
+{
+    if is_order(verb) {
+        asked_by_names(alloc, verb, order_names(verb), members)
+    } else {
+        other_members(alloc, verb, members)
+    }
+}
+
+fn other_members(
+    alloc: Global,
+    verb: &[u8],
+    members: &[MemberText<'_>],
 ) -> Result<Request, FormFault>
     ensures { Gives result (form.asked_by_members verb.now (map member_view members.now)) }
 {
@@ -110,7 +117,7 @@ fn entry_members(
     alloc: Global,
     verb: &[u8],
     order_verb: &[u8],
-    members: &[MemberText],
+    members: &[MemberText<'_>],
 ) -> Result<Request, FormFault>
     ensures { Gives result (form.entry_members verb.now order_verb.now
         (map member_view members.now)) }
@@ -125,7 +132,7 @@ fn asked_by_all_names(
     alloc: Global,
     verb: &[u8],
     names: &[&[u8]],
-    members: &[MemberText],
+    members: &[MemberText<'_>],
 ) -> Result<Request, FormFault>
     ensures { Gives result
         (form.asked_by_names verb.now (form.entry_names ++ map (λ name. name.now) names.now)
@@ -151,7 +158,7 @@ fn asked_by_names(
     alloc: Global,
     verb: &[u8],
     names: &[&[u8]],
-    members: &[MemberText],
+    members: &[MemberText<'_>],
 ) -> Result<Request, FormFault>
     ensures { Gives result
         (form.asked_by_names verb.now (map (λ name. name.now) names.now)
@@ -168,7 +175,7 @@ fn asked_by_texts(
     alloc: Global,
     verb: &[u8],
     names: &[&[u8]],
-    members: &[MemberText],
+    members: &[MemberText<'_>],
 ) -> Result<Request, FormFault>
     ensures { Gives result
         (items.asked_by verb.now
@@ -182,7 +189,7 @@ fn asked_by_texts(
 fn texts_named<'a>(
     alloc: Global,
     names: &[&[u8]],
-    members: &'a [MemberText],
+    members: &'a [MemberText<'_>],
 ) -> Result<Vec<&'a [u8]>, NoMemory>
     ensures { IfOk result (λ texts. map (λ text. text.now) texts.items
         ≡ form.texts_named (map member_view members.now) (map (λ name. name.now) names.now)) }

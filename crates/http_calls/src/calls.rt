@@ -34,7 +34,8 @@ pub(crate) fn answered(
     size: Option<usize>,
     body: &[u8],
 ) -> Result<Result<CallAsk, HttpFault>, NoMemory>
-    ensures { IfOk result (λ answer. answer ≡ spec.target_answer target.now method.now size body.now) }
+    ensures { IfOk result
+        (λ answer. answer ≡ spec.target_answer target.now method.now size body.now) }
 {
     let parts = parts_of(alloc, target)?;
     answered_by(alloc, &parts, method, size, body)
@@ -60,6 +61,8 @@ fn answered_by(
     }
 }
 
+// A batch takes much room on the stack, so it stands in a frame of its own.
+#[inline(never)]
 fn batch_answer(
     alloc: Global,
     method: &[u8],
@@ -81,6 +84,7 @@ fn batch_answer(
     }
 }
 
+#[inline(never)]
 fn posted_answer(
     alloc: Global,
     parts: &[&[u8]],
@@ -98,8 +102,11 @@ fn posted_answer(
     } else if size.is_none() {
         Ok(Err(HttpFault::S411))
     } else {
-        let asks = asked(asked_by_body(alloc, part(parts, 3), body))?;
-        Ok(Ok(CallAsk::One(asks)))
+        match asked_by_body(alloc, part(parts, 3), body) {
+            Ok(request) => Ok(Ok(CallAsk::One(Ok(request)))),
+            Err(FormFault::Place(place)) => Ok(Ok(CallAsk::One(Err(place)))),
+            Err(FormFault::NoMemory) => Err(NoMemory),
+        }
     }
 }
 
@@ -116,8 +123,11 @@ fn look_answer(
     if !same_bytes(method, b"GET") {
         return Ok(Err(HttpFault::S405));
     }
-    let asks = asked(asked_by(alloc, part(parts, 3), behind(parts, 3)))?;
-    Ok(Ok(CallAsk::One(asks)))
+    match asked_by(alloc, part(parts, 3), behind(parts, 3)) {
+        Ok(request) => Ok(Ok(CallAsk::One(Ok(request)))),
+        Err(FormFault::Place(place)) => Ok(Ok(CallAsk::One(Err(place)))),
+        Err(FormFault::NoMemory) => Err(NoMemory),
+    }
 }
 
 // What was read is asked, or the place of the field that isn't in its form.

@@ -153,7 +153,7 @@ fn message_key(alloc: Global, rest: &[u8], head: HeadAt) -> Result<KeyText, NoMe
     requires stands { StandsAt rest.now (Some head) }
     ensures { IfOk result (λ key. key ≡ span_bytes rest.now head.key) }
 {
-    key_text(alloc, head.key.of(rest))
+    KeyText::from_slice(alloc, head.key.of(rest))
 }
 
 fn either(a: bool, b: bool) -> bool
@@ -170,14 +170,4 @@ fn fault_closes(fault: HttpFault) -> bool
         HttpFault::S405 => false,
         _ => true,
     }
-}
-
-fn key_text(alloc: Global, bytes: &[u8]) -> Result<KeyText, NoMemory>
-    ensures { IfOk result (λ key. key ≡ bytes.now) }
-{
-    let mut key = KeyText::new(alloc);
-    for byte in bytes {
-        key.push(*byte)?;
-    }
-    Ok(key)
 }

@@ -6,7 +6,7 @@ ghost use Rattle.http_calls.specs.Calls as spec;
 
 use crate::body::is_posted;
 use money_units::NoMemory;
-use request_fields::same_bytes;
+use request_fields::{is_order, same_bytes};
 use std::alloc::{AllocError, Global};
 
 /// What stands at a path.
@@ -136,7 +136,18 @@ fn look_route(verb: &[u8], known: &[u8]) -> Route
     }
 }
 
+// The verbs of orders come most often, so they are tried first.
 fn verb_route(verb: &[u8]) -> Route
+    ensures { result ≡ spec.verb_route verb.now }
+{
+    if is_order(verb) {
+        Route::Posted
+    } else {
+        other_route(verb)
+    }
+}
+
+fn other_route(verb: &[u8]) -> Route
     ensures { result ≡ spec.verb_route verb.now }
 {
     if same_bytes(verb, b"batch") {

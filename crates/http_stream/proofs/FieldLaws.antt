@@ -14,7 +14,7 @@ use Rattle.http_stream.specs.declared.head.HeadAt.{HeadAt}
 use Rattle.http_stream.specs.declared.head.Parsed.{Parsed}
 use Rattle.http_stream.specs.declared.head.Tally.{Tally}
 use Rattle.http_stream.specs.Heads.{Named, Pair, body_length, closes, coding_name, is_close, key_name, key_of, length_by, length_name, fields_named, named_with, only_value, pairs_of, said_length, none_named}
-use Rattle.http_stream.specs.Reading.{AreFactsWithin, FieldFacts, JudgedAs, ParsesAs, facts_of, facts_with, length_said, named_of, no_facts, only_span}
+use Rattle.http_stream.specs.Reading.{AreFactsWithin, FieldFacts, FoundAs, JudgedAs, ParsesAs, facts_of, facts_with, length_said, named_of, no_facts, only_span}
 use Rattle.http_stream.specs.Stream.{Begins, IsHeadAt}
 
 or-false : (a : Bool) → (a || false) ≡ a
@@ -112,14 +112,14 @@ judged-parses text request facts head (Parsed.Head at) is judged =
     (head, is.begins, subst P (sym judged.1) (head-at text request facts head at.length is judged.0))
 
 few-fields : (text : List ℕ) (fields : List HeaderSpan) (count : ℕ) (of_head : List Field)
-    → map (header_bytes text) (take count fields) ≡ map name_and_value of_head → length fields ≡ 64 → length of_head ≤ 64
+    → map (header_bytes text) (take count fields) ≡ map name_and_value of_head → length fields ≤ 64 → length of_head ≤ 64
 few-fields text fields count of_head are all =
     let same : length (take count fields) ≡ length of_head = simp length-map at (ap length are) in
     let taken : length (take count fields) ≡ min count (length fields) = length-take count fields in
     omega arith
 
 pub head-parses : (text : List ℕ) (fields : List HeaderSpan) (request : RequestSpans) (facts : Facts) (result : Parsed) (head : RequestHead)
-    → IsRequestAt text fields request head → IsRequestWithin text fields request → length fields ≡ 64
+    → IsRequestAt text fields request head → IsRequestWithin text fields request → length fields ≤ 64
     → facts_of text facts ≡ fold facts_with no_facts (map (header_bytes text) (take request.headers fields))
     → AreFactsWithin request.len facts → JudgedAs text request facts result → ParsesAs text result
 head-parses text fields request facts result head at within all gathered facts_within judged =
@@ -137,3 +137,9 @@ head-parses text fields request facts result head at within all gathered facts_w
       minor = at.version;
       facts_are = facts-are text facts (pairs_of head) (gathered ∙ pairs);
     }) judged
+
+-- what is read of a text is found in it
+pub found-of : (text : List ℕ) (result : Parsed) → ParsesAs text result → FoundAs text result
+found-of text Parsed.NoHead parses = tt
+found-of text (Parsed.Refused fault) parses = parses
+found-of text (Parsed.Head at) parses = parses

@@ -6,3 +6,4 @@ pub mod FieldLaws
 pub mod MoreLaws
 pub mod LookLaws
 pub mod ItemLaws
+pub mod HeadLines

@@ -76,3 +76,16 @@ abbrev pub ParsesAs : List ℕ → Parsed → Type 0
 ParsesAs text Parsed.NoHead = (head : RequestHead) → ¬ (Begins text head)
 ParsesAs text (Parsed.Refused fault) = (head : RequestHead) × Begins text head × (body_length head ≡ Err fault)
 ParsesAs text (Parsed.Head at) = (head : RequestHead) × Begins text head × IsHeadAt text head at
+
+-- the same where nothing is said of a text without a head
+abbrev pub FoundAs : List ℕ → Parsed → Type 0
+FoundAs text Parsed.NoHead = Unit {0}
+FoundAs text (Parsed.Refused fault) = (head : RequestHead) × Begins text head × (body_length head ≡ Err fault)
+FoundAs text (Parsed.Head at) = (head : RequestHead) × Begins text head × IsHeadAt text head at
+
+-- no name of so many bytes is asked for
+pub record IsNoName (size : ℕ) : Type 0 where
+  pub key : nat_eq size 11 ≡ false
+  pub length : nat_eq size 14 ≡ false
+  pub coding : nat_eq size 17 ≡ false
+  pub connection : nat_eq size 10 ≡ false

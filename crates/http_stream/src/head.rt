@@ -1,12 +1,12 @@
 //! What a head says: where its parts stand, read in one pass over its fields.
-ghost use Rattle.std.specs.Prelude.{◌≡◌, ◌+◌, ◌^◌, ◌<◌, ◌≤◌, if◌then◌else◌, All, IsTrue, length, map};
+ghost use Rattle.std.specs.Prelude.{◌≡◌, ◌+◌, ◌-◌, ◌^◌, ◌<◌, ◌≤◌, if◌then◌else◌, All, IsTrue, false, length, map};
 ghost use Rattle.std.specs.List.{fold, list_all};
 ghost use Rattle.std.specs.Char.{is_ascii_digit};
 ghost use Rattle.std.specs.Str.{str_eq_ignore_ascii_case};
 ghost use Rattle.std.specs.Str.Parse.{digits_value};
 ghost use Rattle.httparse.specs.Spans.{IsHeaderWithin, header_bytes};
 ghost use Rattle.http_stream.specs.Heads as spec;
-ghost use Rattle.http_stream.specs.Reading.{IsTallyWithin, ParsesAs, AreFactsWithin, facts_of, facts_with, no_facts, length_said, only_span, JudgedAs};
+ghost use Rattle.http_stream.specs.Reading.{FoundAs, IsNoName, IsTallyWithin, ParsesAs, AreFactsWithin, facts_of, facts_with, no_facts, length_said, only_span, JudgedAs};
 
 use crate::fault::HttpFault;
 use httparse::Status;
@@ -67,6 +67,20 @@ const NO_FACTS: Facts = Facts {
     closes: false,
 };
 
+/// The head of at most 16 fields at the front of a text, which most heads are; nothing is said where there is none.
+pub(crate) fn parse_short_head(text: &[u8]) -> Parsed
+    ensures { FoundAs text.now result }
+{
+    let mut spans = [EMPTY_HEADER_SPAN; 16];
+    match parse_request(text, &mut spans) {
+        Ok(Status::Complete(request)) => {
+            let facts = facts_of(text, request.len, &spans[..request.headers]);
+            judged(text, request, &facts)
+        }
+        _ => Parsed::NoHead,
+    }
+}
+
 /// The head at the front of a text.
 pub(crate) fn parse_head(text: &[u8]) -> Parsed
     ensures { ParsesAs text.now result }
@@ -75,17 +89,17 @@ pub(crate) fn parse_head(text: &[u8]) -> Parsed
     match parse_request(text, &mut spans) {
         Ok(Status::Complete(request)) => {
             let facts = facts_of(text, request.len, &spans[..request.headers]);
-            judged(text, request, facts)
+            judged(text, request, &facts)
         }
         _ => Parsed::NoHead,
     }
 }
 
 // A head with what its fields say.
-fn judged(text: &[u8], request: RequestSpans, facts: Facts) -> Parsed
-    requires within { AreFactsWithin request.len facts }
+fn judged(text: &[u8], request: RequestSpans, facts: &Facts) -> Parsed
+    requires within { AreFactsWithin request.len facts.now }
     requires in_text { request.len ≤ length text.now }
-    ensures { JudgedAs text.now request facts result }
+    ensures { JudgedAs text.now request facts.now result }
 {
     match said_length(text, facts) {
         Ok(length) => Parsed::Head(HeadAt {
@@ -112,9 +126,9 @@ fn only_value(tally: Tally) -> Span
 }
 
 // How many bytes the body has, where a field says so.
-fn said_length(text: &[u8], facts: Facts) -> Result<Option<usize>, HttpFault>
-    requires in_text { IsTallyWithin (length text.now) facts.length }
-    ensures { result ≡ length_said text.now facts }
+fn said_length(text: &[u8], facts: &Facts) -> Result<Option<usize>, HttpFault>
+    requires in_text { IsTallyWithin (length text.now) facts.now.length }
+    ensures { result ≡ length_said text.now facts.now }
 {
     if facts.coding.count > 0 {
         Err(HttpFault::S501)
@@ -182,49 +196,61 @@ fn facts_of(text: &[u8], size: usize, fields: &[HeaderSpan]) -> Facts
 {
     let mut facts = NO_FACTS;
     for field in fields {
-        facts = with_field(text, size, facts, *field);
+        add_field(text, size, &mut facts, *field);
     }
     facts
 }
 
-fn with_field(text: &[u8], size: usize, facts: Facts, field: HeaderSpan) -> Facts
+// Adds what a field says. The facts stay where they are: to move them costs more than to read a field.
+fn add_field(text: &[u8], size: usize, facts: &mut Facts, field: HeaderSpan)
     requires in_text { size ≤ length text.now }
-    requires within { AreFactsWithin size facts }
+    requires within { AreFactsWithin size facts.old }
     requires field_within { IsHeaderWithin size field }
-    requires few { (facts.key.count < 2 ^ 32) × (facts.length.count < 2 ^ 32)
-        × (facts.coding.count < 2 ^ 32) }
-    ensures value { facts_of text.now result
-        ≡ facts_with (facts_of text.now facts) (header_bytes text.now field) }
-    ensures within { AreFactsWithin size result }
-    ensures few { (result.key.count ≤ facts.key.count + 1)
-        × (result.length.count ≤ facts.length.count + 1)
-        × (result.coding.count ≤ facts.coding.count + 1) }
+    requires few { (facts.old.key.count < 2 ^ 32) × (facts.old.length.count < 2 ^ 32)
+        × (facts.old.coding.count < 2 ^ 32) }
+    ensures value { facts_of text.now facts.new
+        ≡ facts_with (facts_of text.now facts.old) (header_bytes text.now field) }
+    ensures within { AreFactsWithin size facts.new }
+    ensures few { (facts.new.key.count ≤ facts.old.key.count + 1)
+        × (facts.new.length.count ≤ facts.old.length.count + 1)
+        × (facts.new.coding.count ≤ facts.old.coding.count + 1) }
 {
-    let name = field.name.of(text);
-    Facts {
-        key: with_value(facts.key, is_named(name, b"x-agent-key"), field.value),
-        length: with_value(facts.length, is_named(name, b"content-length"), field.value),
-        coding: with_value(
-            facts.coding,
+    if is_asked(field.name) {
+        let name = field.name.of(text);
+        add_value(&mut facts.key, is_named(name, b"x-agent-key"), field.value);
+        add_value(
+            &mut facts.length,
+            is_named(name, b"content-length"),
+            field.value,
+        );
+        add_value(
+            &mut facts.coding,
             is_named(name, b"transfer-encoding"),
             field.value,
-        ),
-        closes: facts.closes || is_close(name, field.value.of(text)),
+        );
+        if is_close(name, field.value.of(text)) {
+            facts.closes = true;
+        }
     }
 }
 
-fn with_value(tally: Tally, counts: bool, value: Span) -> Tally
-    requires { tally.count < 2 ^ 32 }
-    ensures { result ≡ (if counts then record { count = tally.count + 1; value = value }
-        else tally) }
+// Whether a name is as long as one that is asked for.
+fn is_asked(name: Span) -> bool
+    requires { name.start ≤ name.end }
+    ensures { result ≡ false → IsNoName (name.end - name.start) }
+{
+    let size = name.end - name.start;
+    size == 10 || size == 11 || size == 14 || size == 17
+}
+
+fn add_value(tally: &mut Tally, counts: bool, value: Span)
+    requires { tally.old.count < 2 ^ 32 }
+    ensures { tally.new ≡ (if counts then record { count = tally.old.count + 1; value = value }
+        else tally.old) }
 {
     if counts {
-        Tally {
-            count: tally.count + 1,
-            value,
-        }
-    } else {
-        tally
+        tally.count += 1;
+        tally.value = value;
     }
 }
 

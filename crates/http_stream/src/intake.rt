@@ -5,7 +5,7 @@ ghost use Rattle.http_stream.specs.Lines.{Front as Shape, front, head_limit};
 ghost use Rattle.http_stream.specs.Stream.{LooksAs, after_item, with_more};
 
 use crate::fault::HttpFault;
-use crate::head::{HeadAt, Parsed, parse_head};
+use crate::head::{HeadAt, Parsed, parse_head, parse_short_head};
 use crate::scan::{Scan, UNSCANNED, scan_on};
 use money_units::NoMemory;
 use std::alloc::Global;
@@ -189,6 +189,28 @@ fn whole_or_nothing(left: usize, head: HeadAt) -> Front
 
 // What is seen at the front of what is left, where the lines were scanned so far.
 fn seen_at(rest: &[u8], scan: Scan) -> Seen
+    requires { IsScanned rest.now scan }
+    ensures { SeenAs rest.now result }
+{
+    if scan.size == 0 {
+        seen_first(rest, scan)
+    } else {
+        seen_by_lines(rest, scan)
+    }
+}
+
+// The same at the first look: the lines of a short head that is there as a whole need no scan.
+fn seen_first(rest: &[u8], scan: Scan) -> Seen
+    requires { IsScanned rest.now scan }
+    ensures { SeenAs rest.now result }
+{
+    match parse_short_head(window_of(rest)) {
+        Parsed::Head(head) => Seen::Head(head),
+        _ => seen_by_lines(rest, scan),
+    }
+}
+
+fn seen_by_lines(rest: &[u8], scan: Scan) -> Seen
     requires { IsScanned rest.now scan }
     ensures { SeenAs rest.now result }
 {

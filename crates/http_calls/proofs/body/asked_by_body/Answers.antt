@@ -1,8 +1,13 @@
-use Rattle.http_calls.specs.Bodies.{object_in}
-use Rattle.http_calls.proofs.MemberLaws.{asked-some}
+use Rattle.serde_json.specs.Errors.{IsMemory}
+use Rattle.http_calls.proofs.MemberLaws.{object-read, object-unread, unread-fails}
 use Rattle.http_calls.proofs.body.asked_by_body.Goals as goal
 
-pub returns-in-Some : goal.returns-in-Some
-returns-in-Some c =
-    let found = rw c.in-Some.is at c.in_ok-members.ensures in
-    rw (asked-some c.args.verb.now (object_in c.args.body.now) _ found, ← c.deref.ensures.value) c.asked_by_members.ensures
+pub returns-in-Ok : goal.returns-in-Ok
+returns-in-Ok c =
+    let read = c.in-Ok.ensures.ok in
+    rw (object-read c.args.body.now _ read.0 read.1) c.asked_by_value.ensures
+
+pub returns-in-Err : goal.returns-in-Err
+returns-in-Err c =
+    unread-fails c.unreadable.result c.args.verb.now c.args.body.now (¬ (IsMemory c.in-Err.error))
+    c.unreadable.ensures (λ m. object-unread c.args.body.now (c.in-Err.ensures.err m))

@@ -1,5 +1,5 @@
 use Rattle.http_stream.proofs.FrontLaws.{seen-open}
-use Rattle.http_stream.proofs.intake.seen_at.Goals as goal
+use Rattle.http_stream.proofs.intake.seen_by_lines.Goals as goal
 
 pub returns-else-scan : goal.returns-else-scan
 returns-else-scan c =
