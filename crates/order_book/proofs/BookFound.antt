@@ -1,6 +1,7 @@
 -- What a book finds in its indexes.
-use Rattle.std.proofs.Common.{Bool, List, None, Option, Some, [], ap, cond, false, find, length, nat_eq, refl, suc, sym, take, true, ℕ, ◌++◌, ◌+◌, ◌∙◌, ◌∷◌, ◌≡◌}
+use Rattle.std.proofs.Common.{All, Bool, List, None, Option, Some, [], ap, cond, false, find, length, nat_eq, refl, subst, suc, sym, take, true, ℕ, ◌++◌, ◌+◌, ◌<◌, ◌∙◌, ◌∷◌, ◌≡◌}
 use Rattle.std.proofs.lemmas.Bool.{leb-true}
+use Rattle.std.proofs.lemmas.List.Elements.{All-cons, All-head, All-nil, All-tail}
 use Rattle.std.specs.HashMap.{get}
 use Rattle.std.specs.List.{cons_option, position, slice_get}
 use Rattle.std.specs.Prelude.{is_some, nat_le, option_and_then}
@@ -16,7 +17,7 @@ use Rattle.order_book.specs.Indexes.{place_of, place_of_key}
 use Rattle.order_book.specs.Kept.{KeepsKeys, KeepsPlaces}
 use Rattle.order_book.specs.LastPlaces.{is_order_of, last_place, places_from}
 use Rattle.order_book.specs.Numbers.{KeepsNumbers}
-use Rattle.order_book.specs.Orders.{KeepsOrders, name_of, same_name}
+use Rattle.order_book.specs.Orders.{KeepsOrders, name_of, names_of, same_name}
 use Rattle.order_book.specs.declared.identities.Identities.{Identities}
 use Rattle.order_book.specs.declared.identity.Identity.{Identity}
 use Rattle.order_book.specs.declared.keys.Keys.{Keys}
@@ -87,6 +88,18 @@ got-earlier orders events journal index found events_are kept found_is row row_i
   where
     rows_are : orders.rows.items ≡ orders_of journal
     rows_are = kept.rows ∙ ap orders_of events_are
+
+references-of-names : (rows : List OrderRow) → All (λ (name : OrderName). 0 < name.ref_no) (names_of rows) → All (λ (row : OrderRow). 0 < row.order.ref_no) rows
+references-of-names [] above = All-nil (λ (row : OrderRow). 0 < row.order.ref_no)
+references-of-names (row ∷ rows) above =
+    All-cons (λ (own : OrderRow). 0 < own.order.ref_no) row rows (All-head (λ (name : OrderName). 0 < name.ref_no) (name_of row) (names_of rows) above)
+    (references-of-names rows (All-tail (λ (name : OrderName). 0 < name.ref_no) (name_of row) (names_of rows) above))
+
+pub references-above : (orders : Orders) (events : List Event) (journal : Journal)
+    → events ≡ journal → KeepsOrders orders events → All (λ (row : OrderRow). 0 < row.order.ref_no) (orders_of journal)
+references-above orders events journal events_are kept =
+    subst (λ (rows : List OrderRow). All (λ (row : OrderRow). 0 < row.order.ref_no) rows) (kept.rows ∙ ap orders_of events_are)
+    (references-of-names orders.rows.items kept.references)
 
 places-length : {X : Type 0} (chosen : EventKind → Option X) (place : ℕ) (journal : Journal) → length (places_from (λ kind. is_some (chosen kind)) place journal) ≡ length (each_in chosen journal)
 places-length chosen place [] = refl

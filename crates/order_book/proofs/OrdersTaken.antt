@@ -1,8 +1,9 @@
 -- The orders once an event is taken in that begins, strikes or replaces one.
-use Rattle.std.proofs.Common.{Bool, List, None, Option, Some, [], ap, arith, cond, false, filter, find, is_none, is_some, length, map, refl, subst, suc, sym, true, zero, ℕ, ◌&&◌, ◌++◌, ◌+◌, ◌<◌, ◌==◌, ◌∙◌, ◌∷◌, ◌≡◌, ◌≤◌}
+use Rattle.std.proofs.Common.{All, Bool, List, None, Option, Some, [], ap, arith, cond, false, filter, find, is_none, is_some, length, map, refl, subst, suc, sym, true, zero, ℕ, ◌&&◌, ◌++◌, ◌+◌, ◌<◌, ◌==◌, ◌∙◌, ◌∷◌, ◌≡◌, ◌≤◌}
 use Rattle.std.proofs.lemmas.Bool.{and_parts, eqb-false, eqb-true}
 use Rattle.std.proofs.lemmas.Iterator.Adapters.{position_from-zero}
 use Rattle.std.proofs.lemmas.List.{map-append}
+use Rattle.std.proofs.lemmas.List.Elements.{All-push}
 use Rattle.std.specs.HashMap.{get}
 use Rattle.std.specs.List.{list_any, position, position_from, slice_index_or, slice_set}
 use Rattle.std.specs.Prelude.{option_map}
@@ -120,12 +121,15 @@ pub order-begun : (old new : Orders) (journal : Journal) (event : Event) (row : 
     → KeepsOrders old journal → begins_untouched journal event.kind ≡ true
     → is_none (order_named (orders_of journal) row.order.account row.order.ref_no) ≡ true
     → orders_after (length journal) (orders_of journal) event.kind ≡ orders_of journal ++ row ∷ []
+    → 0 < row.order.ref_no
     → KeepsOrders new (with_event journal event)
-order-begun old new journal event row pushed named kept untouched new_name after = record {
+order-begun old new journal event row pushed named kept untouched new_name after above = record {
   rows = pushed ∙ (ap (λ (rows : List OrderRow). rows ++ row ∷ []) kept.rows ∙ (sym after ∙ sym (orders_go_on journal event untouched)));
   names = subst (λ (names : List OrderName). KeepsNames new.index names) (sym names_are) (named (names_of old.rows.items) (same-length old.rows.items) kept.names);
   once = λ q. subst (λ (names : List OrderName). length (filter (λ name. same_name name q) names) ≤ 1) (sym names_are)
       (at_most_one (λ name. same_name name q) (names_of old.rows.items) (name_of row) (kept.once q) (none_before q));
+  references = subst (λ (names : List OrderName). All (λ (name : OrderName). 0 < name.ref_no) names) (sym names_are)
+      (All-push (λ (name : OrderName). 0 < name.ref_no) (names_of old.rows.items) (name_of row) kept.references above);
 }
   where
     names_are : names_of new.rows.items ≡ names_of old.rows.items ++ name_of row ∷ []
@@ -155,6 +159,7 @@ order-changed old new journal event name change test rows_are index_is kept unto
   names = subst (λ (index : OrderIndex). KeepsNames index (names_of new.rows.items)) (sym index_is)
       (subst (λ (names : List OrderName). KeepsNames old.index names) (sym names_are) kept.names);
   once = λ q. subst (λ (names : List OrderName). length (filter (λ other. same_name other q) names) ≤ 1) (sym names_are) (kept.once q);
+  references = subst (λ (names : List OrderName). All (λ (other : OrderName). 0 < other.ref_no) names) (sym names_are) kept.references;
 }
   where
     tests_are : test ≡ (λ (row : OrderRow). same_name (name_of row) name)
@@ -204,6 +209,7 @@ begun-by : (old new : Orders) (journal : Journal) (event : Event) (place receipt
     → ((names : List OrderName) → length old.rows.items ≡ length names → KeepsNames old.index names → KeepsNames new.index (names ++ name_of row ∷ []))
     → KeepsOrders old journal → begins_untouched journal event.kind ≡ true → is_new_order journal order ≡ true
     → orders_after (length journal) (orders_of journal) event.kind ≡ orders_of journal ++ row_as_sent (length journal) receipt order ∷ []
+    → 0 < row.order.ref_no
     → KeepsOrders new (with_event journal event)
 begun-by old new journal event place receipt order row row_is at pushed named kept untouched new_name after =
     order-begun old new journal event row pushed named kept untouched
@@ -214,21 +220,21 @@ pub order-taken : (old new : Orders) (journal : Journal) (moment place : ℕ) (k
     → kind ≡ EventKind.Order placed → row ≡ row_as_sent place placed.receipt placed.order → place ≡ length journal
     → new.rows.items ≡ old.rows.items ++ row ∷ []
     → ((names : List OrderName) → length old.rows.items ≡ length names → KeepsNames old.index names → KeepsNames new.index (names ++ name_of row ∷ []))
-    → KeepsOrders old journal → Fits journal (record { moment = moment; kind = kind })
+    → KeepsOrders old journal → 0 < row.order.ref_no → Fits journal (record { moment = moment; kind = kind })
     → KeepsOrders new (with_event journal (record { moment = moment; kind = kind }))
-order-taken old new journal moment place kind placed row kind_is row_is at pushed named kept =
+order-taken old new journal moment place kind placed row kind_is row_is at pushed named kept above =
     subst (λ (k : EventKind). Fits journal (record { moment = moment; kind = k }) → KeepsOrders new (with_event journal (record { moment = moment; kind = k }))) (sym kind_is)
-    (λ (fits : Fits journal (record { moment = moment; kind = EventKind.Order placed })). begun-by old new journal (record { moment = moment; kind = EventKind.Order placed }) place placed.receipt placed.order row row_is at pushed named kept fits.untouched fits.new refl)
+    (λ (fits : Fits journal (record { moment = moment; kind = EventKind.Order placed })). begun-by old new journal (record { moment = moment; kind = EventKind.Order placed }) place placed.receipt placed.order row row_is at pushed named kept fits.untouched fits.new refl above)
 
 pub entry-taken : (old new : Orders) (journal : Journal) (moment place : ℕ) (kind : EventKind) (form : EntryForm) (row : OrderRow)
     → kind ≡ EventKind.Enter form → row ≡ row_as_sent place form.receipt form.order → place ≡ length journal
     → new.rows.items ≡ old.rows.items ++ row ∷ []
     → ((names : List OrderName) → length old.rows.items ≡ length names → KeepsNames old.index names → KeepsNames new.index (names ++ name_of row ∷ []))
-    → KeepsOrders old journal → Fits journal (record { moment = moment; kind = kind })
+    → KeepsOrders old journal → 0 < row.order.ref_no → Fits journal (record { moment = moment; kind = kind })
     → KeepsOrders new (with_event journal (record { moment = moment; kind = kind }))
-entry-taken old new journal moment place kind form row kind_is row_is at pushed named kept =
+entry-taken old new journal moment place kind form row kind_is row_is at pushed named kept above =
     subst (λ (k : EventKind). Fits journal (record { moment = moment; kind = k }) → KeepsOrders new (with_event journal (record { moment = moment; kind = k }))) (sym kind_is)
-    (λ (fits : Fits journal (record { moment = moment; kind = EventKind.Enter form })). begun-by old new journal (record { moment = moment; kind = EventKind.Enter form }) place form.receipt form.order row row_is at pushed named kept fits.untouched fits.new refl)
+    (λ (fits : Fits journal (record { moment = moment; kind = EventKind.Enter form })). begun-by old new journal (record { moment = moment; kind = EventKind.Enter form }) place form.receipt form.order row row_is at pushed named kept fits.untouched fits.new refl above)
 
 -- a strike of the order of a name
 struck-name : (account ref_no : ℕ) (row : OrderRow) → name_of (struck_by (account, ref_no) row) ≡ name_of row
@@ -313,7 +319,7 @@ left-alike journal _ e = (refl, refl)
 pub orders-left : (orders : Orders) (journal : Journal) (event : Event) → leaves_orders event.kind ≡ true → KeepsOrders orders journal → KeepsOrders orders (with_event journal event)
 orders-left orders journal event leaves kept =
     let alike = left-alike journal event.kind leaves in
-    record { rows = kept.rows ∙ (sym alike.1 ∙ sym (orders_go_on journal event alike.0)); names = kept.names; once = kept.once }
+    record { rows = kept.rows ∙ (sym alike.1 ∙ sym (orders_go_on journal event alike.0)); names = kept.names; once = kept.once; references = kept.references }
 
 pub left-by : (kind : EventKind)
     → ((placed : Placed) → kind ≡ EventKind.Order placed → ⊥) → ((form : CancelForm) → kind ≡ EventKind.Cancel form → ⊥)

@@ -1,6 +1,6 @@
 -- The index of the orders by name and account, over the list of their names.
 use Rattle.std.specs.HashMap.{get, spare}
-use Rattle.std.specs.Prelude.{Bool, List, None, Option, Some, [], filter, length, map, nat_eq, position, suc, true, vec_capacity, vec_len, zero, ℕ, ◌&&◌, ◌++◌, ◌+◌, ◌==◌, ◌∷◌, ◌≡◌, ◌≤◌}
+use Rattle.std.specs.Prelude.{All, Bool, List, None, Option, Some, [], filter, length, map, nat_eq, position, suc, true, vec_capacity, vec_len, zero, ℕ, ◌&&◌, ◌++◌, ◌+◌, ◌==◌, ◌<◌, ◌∷◌, ◌≡◌, ◌≤◌}
 use Rattle.agent_events.specs.declared.order.OrderRow.{OrderRow}
 use Rattle.agent_events.specs.declared.request.EntryForm.{EntryForm}
 use Rattle.order_book.specs.LastPlaces.{last_place}
@@ -41,11 +41,12 @@ pub record HasNameRoom (index : OrderIndex) (names : ℕ) : Type 0 where
   pub last : names ≤ spare index.last
   pub earlier : vec_len index.earlier + names ≤ vec_capacity index.earlier
 
--- What the orders keep of a journal: its orders as corrected, each of a name of its own.
+-- What the orders keep of a journal: its orders as corrected, each of a name of its own, whose reference is above 0.
 pub record KeepsOrders (orders : Orders) (journal : Journal) : Type 0 where
   pub rows : orders.rows.items ≡ orders_of journal
   pub names : KeepsNames orders.index (names_of orders.rows.items)
   pub once : (q : OrderName) → length (filter (λ name. same_name name q) (names_of orders.rows.items)) ≤ 1
+  pub references : All (λ name. 0 < name.ref_no) (names_of orders.rows.items)
 
 pub record HasOrderRoom (orders : Orders) (events : ℕ) : Type 0 where
   pub rows : vec_len orders.rows + events ≤ vec_capacity orders.rows

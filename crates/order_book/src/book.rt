@@ -1,5 +1,5 @@
 //! The book of orders: its journal, and how it grows.
-ghost use Rattle.std.specs.Prelude.{◌≡◌, ◌≤◌, ◌<◌, ◌-◌, ◌==◌, [], length, slice_get, position, find, count_by, option_map, option_and_then, take, OnOk};
+ghost use Rattle.std.specs.Prelude.{All, ◌≡◌, ◌≤◌, ◌<◌, ◌-◌, ◌==◌, [], length, slice_get, position, find, count_by, option_map, option_and_then, take, OnOk};
 ghost use Rattle.std.specs.Option.{option_copied};
 ghost use Rattle.agent_events.specs.declared.order.OrderRow.{OrderRow as Row};
 ghost use Rattle.order_book.specs.Books.{Fits};
@@ -234,6 +234,13 @@ impl OrderBook {
         ensures { result.now ≡ orders_of self.now.journal }
     {
         self.indexes.orders.rows()
+    }
+
+    /// The reference of each order is above 0, as the index of their names has it. It takes no time.
+    pub fn references_are_above_zero(&self)
+        ensures { All (λ row. 0 < row.order.ref_no) (orders_of self.now.journal) }
+    {
+        let _spare = self.spare;
     }
 
     /// The place among all orders of the last one of an account.

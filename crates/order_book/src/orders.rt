@@ -1,5 +1,5 @@
 //! The orders as corrected, in the order of their first events.
-ghost use Rattle.std.specs.Prelude.{◌≡◌, ◌≤◌, ◌+◌, ◌++◌, ◌∷◌, [], ℕ, List, OnOk, false, length, nat_eq, option_and_then, slice_get};
+ghost use Rattle.std.specs.Prelude.{◌≡◌, ◌≤◌, ◌<◌, ◌+◌, ◌++◌, ◌∷◌, [], ℕ, List, OnOk, false, length, nat_eq, option_and_then, slice_get};
 ghost use Rattle.std.specs.HashMap.{get};
 ghost use Rattle.order_book.specs.Books.{Fits};
 ghost use Rattle.order_book.specs.Orders.{KeepsOrders, KeepsNames, HasOrderRoom, as_struck, as_replaced, changed_at, changed_where, name_of, same_name};
@@ -97,6 +97,7 @@ impl Orders {
         ensures rows { self.new.rows.items ≡ self.old.rows.items ++ row.now ∷ [] }
         ensures names { (names : List Name) → length self.old.rows.items ≡ length names
             → KeepsNames self.old.index names → KeepsNames self.new.index (names ++ name_of row.now ∷ []) }
+        ensures above { 0 < row.now.order.ref_no }
         ensures room { (n : ℕ) → HasOrderRoom self.old (n + 1) → HasOrderRoom self.new n }
     {
         let name = name_by(row.order.account, row.order.ref_no);
@@ -146,7 +147,8 @@ fn row_as_sent(place: u64, receipt: Moment, order: Order) -> OrderRow
 }
 
 fn name_by(account: Identifier, ref_no: Reference) -> OrderName
-    ensures { result ≡ record { account = account; ref_no = ref_no } }
+    ensures same { result ≡ record { account = account; ref_no = ref_no } }
+    ensures above { 0 < ref_no }
 {
     OrderName {
         account: account.number(),
