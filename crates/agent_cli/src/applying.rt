@@ -14,7 +14,7 @@ ghost use Rattle.register_machine.specs.journal.Lawful.{IsLawful};
 ghost use Rattle.register_machine.specs.run.Scripts.{script_items};
 
 use crate::ends::{Status, damaged, end, keeper_fault, no_memory};
-use crate::opening::{close, open};
+use crate::opening::open;
 use agent_edge::{ReadFault, Sink, Source, read_up_to};
 use agent_keeper::Keeper;
 use household_fold::Steps;
@@ -77,7 +77,7 @@ fn answered<K: Keeper, O: Sink, L: StepLedger>(
 {
     let ends = answer_script(alloc, operator, &mut desk, keeper, script, out, steps);
     desk.journal_is_lawful();
-    close(desk);
+    desk.close();
     match ends {
         Ok(()) => Status(0),
         Err(fault) => ended(fault, out),
@@ -134,15 +134,15 @@ fn read_and_answer<K: Keeper, S: Source, O: Sink, L: StepLedger>(
     match read_up_to(alloc, input, MAX_SCRIPT) {
         Ok(script) => answered(alloc, operator, desk, keeper, &script, out, steps),
         Err(ReadFault::TooLong) => {
-            close(desk);
+            desk.close();
             end(out, 2, b"input too long\n")
         }
         Err(ReadFault::Fault) => {
-            close(desk);
+            desk.close();
             end(out, 3, b"read fault\n")
         }
         Err(ReadFault::NoMemory) => {
-            close(desk);
+            desk.close();
             no_memory(out)
         }
     }

@@ -83,6 +83,3 @@ pub fn open<K: Keeper, L: StepLedger>(
     attach(path, keeper)?;
     started(alloc, keeper, steps)
 }
-
-/// Gives the desk up, whose journal lies in the store.
-pub(crate) fn close(_desk: Desk) {}

@@ -14,7 +14,7 @@ ghost use Rattle.register_machine.specs.journal.Lawful.{IsLawful};
 ghost use Rattle.script_answers.specs.Runs.{AppendsFront};
 
 use crate::ends::{Status, damaged, end, keeper_fault, no_memory};
-use crate::opening::{close, open};
+use crate::opening::open;
 use agent_edge::{Clock, Door, DoorFault, Sink};
 use agent_keeper::Keeper;
 use connection_service::serve_connections;
@@ -106,7 +106,7 @@ fn serve_opened<K: Keeper, D: Door, C: Clock, O: Sink, L: StepLedger>(
         steps,
     );
     desk.journal_is_lawful();
-    close(desk);
+    desk.close();
     match ends {
         Ok(()) => Status(0),
         Err(DoorFault) => end(out, 8, b"door fault\n"),

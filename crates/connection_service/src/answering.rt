@@ -4,7 +4,7 @@ ghost use Rattle.agent_keeper.specs.Calls.{Counts, GoesOn};
 ghost use Rattle.agent_keeper.specs.declared.fault.KeepFault.{KeepFault as Fault};
 ghost use Rattle.connection_service.specs.Answers.{AnswersAsk, AnswersOne, Gets, IsAnswered, batch_asks_lines, kept_at, said_to_bad_form, said_to_request, text_of};
 ghost use Rattle.connection_service.specs.Serving.{at_of};
-ghost use Rattle.desk_answers.specs.Answered.{IsCaller};
+ghost use Rattle.register_desk.specs.desk_answers.Answered.{IsCaller};
 ghost use Rattle.http_replies.specs.Bytes.{bytes_of};
 ghost use Rattle.register_desk.specs.Rows.{TellsRowsOf};
 ghost use Rattle.register_laws.specs.Lawful.{own_at};
@@ -19,7 +19,7 @@ use agent_keeper::{KeepFault, Keeper};
 use household_fold::Steps;
 use http_calls::{Call, CallAsk};
 use http_stream::HttpFault;
-use money_units::{Bytes, Moment};
+use money_units::{Bytes, Moment, NoMemory};
 use register_desk::{Desk, LedgerFault};
 use std::alloc::Global;
 use std::sync::ledger::Ledger as StepLedger;
@@ -59,7 +59,13 @@ fn kept_reply<K: Keeper, L: StepLedger>(
         Ok(prepared) => prepared,
         Err(LedgerFault::NoMemory) => return Err(KeepFault::NoMemory),
     };
-    let bytes = reply_text(alloc, prepared.reply(), last)?;
+    let bytes = match reply_text(alloc, prepared.reply(), last) {
+        Ok(bytes) => bytes,
+        Err(NoMemory) => {
+            prepared.discard();
+            return Err(KeepFault::NoMemory);
+        }
+    };
     desk.commit(keeper, prepared)?;
     Ok(bytes)
 }

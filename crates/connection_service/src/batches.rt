@@ -5,7 +5,7 @@ ghost use Rattle.agent_keeper.specs.declared.fault.KeepFault.{KeepFault as Fault
 ghost use Rattle.connection_service.specs.Answers.{Gets, IsAnswered, batch_text, kept_at, said_to_batch, text_of};
 ghost use Rattle.connection_service.specs.Serving.{at_of};
 ghost use Rattle.dealer_lines.specs.Lines.{all_lines};
-ghost use Rattle.desk_answers.specs.Answered.{IsCaller};
+ghost use Rattle.register_desk.specs.desk_answers.Answered.{IsCaller};
 ghost use Rattle.register_desk.specs.Rows.{TellsRowsOf};
 ghost use Rattle.register_laws.specs.Lawful.{own_at};
 ghost use Rattle.register_machine.specs.journal.Journals.{Journal, last_moment};
@@ -85,7 +85,13 @@ fn kept_lines<K: Keeper>(
         Ok(prepared) => prepared,
         Err(LedgerFault::NoMemory) => return Err(KeepFault::NoMemory),
     };
-    let bytes = batch_text(alloc, caller, prepared.replies(), last)?;
+    let bytes = match batch_text(alloc, caller, prepared.replies(), last) {
+        Ok(bytes) => bytes,
+        Err(NoMemory) => {
+            prepared.discard();
+            return Err(KeepFault::NoMemory);
+        }
+    };
     desk.commit_batch(keeper, prepared)?;
     Ok(bytes)
 }

@@ -18,7 +18,7 @@ use Rattle.correction_effects.proofs.FirstOfAll.{least_is_first, none_is_broken}
 use Rattle.correction_effects.proofs.UnreachedLeft.{leaves_unreached}
 use Rattle.correction_effects.specs.FirstOfAll.{AreFirstOfParts, IsOwned}
 use Rattle.correction_effects.specs.Least.{IsLeastOf}
-use Rattle.waiting_laws.specs.SettledOrders.{ReplacesNone}
+use Rattle.desk_books.specs.waiting_laws.SettledOrders.{ReplacesNone}
 use Rattle.correction_effects.specs.Reached.{AreReached}
 use Rattle.correction_effects.specs.declared.least.BrokenTrade.{BrokenTrade}
 use Rattle.correction_trials.specs.Fresh.{KnowsItsAccount}
@@ -27,7 +27,7 @@ use Rattle.correction_trials.specs.Trials.{last_says}
 use Rattle.desk_books.specs.declared.books.DeskBooks.{DeskBooks}
 use Rattle.household_fold.specs.Facts.{Known}
 use Rattle.checkpoint_replay.specs.Moves.{Moves}
-use Rattle.ledger_of_journals.proofs.LedgerTotals.{is_of_households}
+use Rattle.desk_books.proofs.ledger_of_journals.LedgerTotals.{is_of_households}
 use Rattle.register_laws.proofs.BrokenByParts.{breaks_by_parts}
 use Rattle.register_laws.proofs.KnownAccounts.{known-replay}
 use Rattle.register_laws.proofs.Unreached.{unreached_is_unbroken}

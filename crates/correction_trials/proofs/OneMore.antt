@@ -17,7 +17,7 @@ use Rattle.household_fold.specs.Facts.{Known}
 use Rattle.household_fold.specs.Households.{IsOrderOf, IsOwnPlace}
 use Rattle.household_fold.specs.Numbers.{AreNumbersWithin}
 use Rattle.household_replay.specs.Replays.{NumberedOrder, days_behind}
-use Rattle.ledger_laws.specs.PartsByFacts.{AreRowsOf}
+use Rattle.desk_books.specs.ledger_laws.PartsByFacts.{AreRowsOf}
 use Rattle.register_laws.specs.Lawful.{book_behind}
 use Rattle.register_machine.specs.journal.Journals.{with_event}
 use Rattle.register_machine.specs.replay.Positions.{Position}

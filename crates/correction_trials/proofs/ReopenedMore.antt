@@ -25,8 +25,8 @@ use Rattle.gain_loss_book.specs.Flows.{net, no_flow}
 use Rattle.gain_loss_book.specs.Posted.{cash_change}
 use Rattle.gain_loss_book.specs.declared.flows.Flow.{Flow}
 use Rattle.household_fold.specs.Facts.{Known}
-use Rattle.ledger_of_journals.specs.CorrectedLedgers.{AreReopenings}
-use Rattle.ledger_of_journals.proofs.Reopenings.{none_reopened, one_reopened, reopenings_join}
+use Rattle.desk_books.specs.ledger_of_journals.CorrectedLedgers.{AreReopenings}
+use Rattle.desk_books.proofs.ledger_of_journals.Reopenings.{none_reopened, one_reopened, reopenings_join}
 use Rattle.register_laws.specs.Lawful.{book_behind}
 use Rattle.register_machine.specs.journal.Journals.{with_event}
 use Rattle.register_machine.specs.journal.Kinds.{accounts_of}

@@ -18,9 +18,9 @@ use Rattle.forward_price.specs.declared.price_sheet.Sheet.{Sheet}
 use Rattle.household_fold.specs.Facts.{Known}
 use Rattle.journal_tables.specs.Tables.{row_of_fix, with_fixed_rate}
 use Rattle.journal_tables.specs.TablesOfJournals.{IsPricedOn, patch_by, patch_on}
-use Rattle.ledger_of_journals.proofs.FixedPrices.{price_of_one_sheet}
-use Rattle.ledger_of_journals.proofs.ServedBooks.{order_correction_served, price_correction_served, rate_correction_served}
-use Rattle.ledger_of_journals.specs.TableFacts.{IsOnTrial as IsTrialOf}
+use Rattle.desk_books.proofs.ledger_of_journals.FixedPrices.{price_of_one_sheet}
+use Rattle.desk_books.proofs.ledger_of_journals.ServedBooks.{order_correction_served, price_correction_served, rate_correction_served}
+use Rattle.desk_books.specs.ledger_of_journals.TableFacts.{IsOnTrial as IsTrialOf}
 use Rattle.register_laws.specs.CorrectionReach.{IsListedOn, order_changed}
 use Rattle.register_laws.specs.Lawful.{book_behind}
 use Rattle.register_laws.specs.OneEventMore.{FixesOnePrice, corrected_table, corrected_table_by}

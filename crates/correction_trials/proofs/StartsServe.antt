@@ -34,16 +34,16 @@ use Rattle.forward_price.specs.declared.price_sheet.Sheet.{Sheet}
 use Rattle.journal_tables.specs.TablesOfJournals.{patch_by, patch_on}
 use Rattle.household_fold.specs.Facts.{Known}
 use Rattle.household_replay.specs.Replays.{NumberedOrder}
-use Rattle.kept_of_journals.proofs.StatesStay.{left_is_as_of, no_fewer}
-use Rattle.kept_of_journals.proofs.TradesLead.{trades_lead}
-use Rattle.kept_of_journals.specs.KeptOfBooks.{AreKeptOf, AreLikeLong, IsAsOf, part_to}
+use Rattle.desk_books.proofs.kept_of_journals.StatesStay.{left_is_as_of, no_fewer}
+use Rattle.desk_books.proofs.kept_of_journals.TradesLead.{trades_lead}
+use Rattle.desk_books.specs.kept_of_journals.KeptOfBooks.{AreKeptOf, AreLikeLong, IsAsOf, part_to}
 use Rattle.kept_states.proofs.StateFacts.{found-before}
 use Rattle.kept_states.specs.KeptStates.{last_before, states_in}
 use Rattle.kept_states.specs.declared.states.HouseholdStates.{HouseholdStates}
 use Rattle.kept_states.specs.declared.states.KeptState.{KeptState}
-use Rattle.ledger_laws.proofs.ReplaysAsPart.{replays_as_part}
-use Rattle.ledger_laws.specs.PartsByFacts.{AreRowsOf}
-use Rattle.ledger_of_journals.proofs.CorrectedParts.{keeps_accounts}
+use Rattle.desk_books.proofs.ledger_laws.ReplaysAsPart.{replays_as_part}
+use Rattle.desk_books.specs.ledger_laws.PartsByFacts.{AreRowsOf}
+use Rattle.desk_books.proofs.ledger_of_journals.CorrectedParts.{keeps_accounts}
 use Rattle.register_laws.specs.CorrectionReach.{IsListedOn, order_changed}
 use Rattle.register_laws.specs.Households.{part_of}
 use Rattle.register_laws.specs.Lawful.{book_behind}
@@ -58,9 +58,9 @@ use Rattle.register_machine.specs.replay.Trades.{Day}
 use Rattle.register_machine.specs.rules.NamedThings.{lists_at}
 use Rattle.standing_orders.specs.Priced.{AreSettledOnTrial}
 use Rattle.standing_orders.specs.Rows.{is_settled}
-use Rattle.waiting_laws.proofs.SettledStay.{correction_leaves_settled}
-use Rattle.waiting_laws.specs.IndexOfJournals.{sheets_of}
-use Rattle.waiting_laws.specs.SettledOrders.{ReplacesNone}
+use Rattle.desk_books.proofs.waiting_laws.SettledStay.{correction_leaves_settled}
+use Rattle.desk_books.specs.waiting_laws.IndexOfJournals.{sheets_of}
+use Rattle.desk_books.specs.waiting_laws.SettledOrders.{ReplacesNone}
 
 -- ---- the two books
 

@@ -27,10 +27,10 @@ use Rattle.gain_loss_book.specs.Booked as booked
 use Rattle.gain_loss_book.specs.ClassGains.{gains_in}
 use Rattle.gain_loss_book.specs.declared.posting.Correction.{Correction}
 use Rattle.household_fold.specs.Facts.{Known, sheets_known}
-use Rattle.ledger_of_journals.proofs.CorrectedParts.{keeps_accounts, reopens}
-use Rattle.ledger_of_journals.proofs.LedgerTotals.{is_of_households}
-use Rattle.ledger_of_journals.proofs.Reopenings.{reopenings_correct}
-use Rattle.ledger_of_journals.specs.CorrectedLedgers.{LeavesUnmoved, is_moved}
+use Rattle.desk_books.proofs.ledger_of_journals.CorrectedParts.{keeps_accounts, reopens}
+use Rattle.desk_books.proofs.ledger_of_journals.LedgerTotals.{is_of_households}
+use Rattle.desk_books.proofs.ledger_of_journals.Reopenings.{reopenings_correct}
+use Rattle.desk_books.specs.ledger_of_journals.CorrectedLedgers.{LeavesUnmoved, is_moved}
 use Rattle.register_laws.proofs.OneEventMore.{table_goes_on}
 use Rattle.register_laws.specs.Households.{part_of}
 use Rattle.register_laws.specs.Lawful.{book_behind}

@@ -10,8 +10,8 @@ use Rattle.event_laws.specs.EventReplays.{is_correction}
 use Rattle.forward_price.specs.PriceTables.{Table, sheet_published}
 use Rattle.forward_price.specs.declared.price_sheet.Sheet.{Sheet}
 use Rattle.household_replay.specs.Replays.{NumberedOrder, orders_under}
-use Rattle.ledger_laws.specs.PartsByFacts.{AreRowsOf}
-use Rattle.ledger_of_journals.proofs.CorrectedParts.{keeps_accounts}
+use Rattle.desk_books.specs.ledger_laws.PartsByFacts.{AreRowsOf}
+use Rattle.desk_books.proofs.ledger_of_journals.CorrectedParts.{keeps_accounts}
 use Rattle.register_laws.proofs.CorrectionReach.{price-orders}
 use Rattle.register_laws.specs.Households.{own_orders}
 use Rattle.register_laws.specs.Lawful.{book_behind}
@@ -23,7 +23,7 @@ use Rattle.register_machine.specs.pricing.CorrectedOrders.{orders_of}
 use Rattle.register_machine.specs.replay.Replay.{Priced, orders_on, priced_orders}
 use Rattle.standing_orders.specs.Priced.{AreOwnBehind, AreOwnOnTrial, AreSettledOnTrial}
 use Rattle.standing_orders.specs.Rows.{AreOwners}
-use Rattle.waiting_laws.specs.IndexOfJournals.{sheets_of}
+use Rattle.desk_books.specs.waiting_laws.IndexOfJournals.{sheets_of}
 
 -- a book with another table
 abbrev with_table : Table → Book → Book

@@ -19,7 +19,7 @@ use Rattle.desk_books.specs.LedgerChanges.{IsLedgerChange}
 use Rattle.desk_books.specs.declared.books.DeskBooks.{DeskBooks}
 use Rattle.desk_books.specs.declared.change.LedgerChange.{LedgerChange}
 use Rattle.household_fold.specs.Facts.{Known, sheets_known}
-use Rattle.ledger_of_journals.specs.CorrectedLedgers.{AreReopenings}
+use Rattle.desk_books.specs.ledger_of_journals.CorrectedLedgers.{AreReopenings}
 use Rattle.register_laws.specs.Lawful.{book_behind}
 use Rattle.register_machine.specs.corrections.Payments.{bearer_in}
 use Rattle.register_machine.specs.journal.Journals.{with_event}

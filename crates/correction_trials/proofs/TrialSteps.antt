@@ -24,10 +24,10 @@ use Rattle.forward_price.specs.PriceTables.{Table}
 use Rattle.household_fold.specs.Facts.{FactsFit, Known}
 use Rattle.household_replay.specs.Premises.{CanBeReplayed}
 use Rattle.household_replay.specs.Replays.{NumberedOrder}
-use Rattle.ledger_laws.proofs.OrderRows.{rows_by_sheets}
-use Rattle.ledger_laws.specs.OrderRows.{rows_of_part}
-use Rattle.ledger_laws.specs.PartsByFacts.{AreRowsOf}
-use Rattle.ledger_of_journals.proofs.CorrectedParts.{keeps_accounts, reopens}
+use Rattle.desk_books.proofs.ledger_laws.OrderRows.{rows_by_sheets}
+use Rattle.desk_books.specs.ledger_laws.OrderRows.{rows_of_part}
+use Rattle.desk_books.specs.ledger_laws.PartsByFacts.{AreRowsOf}
+use Rattle.desk_books.proofs.ledger_of_journals.CorrectedParts.{keeps_accounts, reopens}
 use Rattle.register_laws.specs.Households.{part_of}
 use Rattle.register_laws.specs.Lawful.{book_behind}
 use Rattle.register_machine.specs.journal.Journals.{with_event}
@@ -38,7 +38,7 @@ use Rattle.register_machine.specs.replay.Replay.{replay}
 use Rattle.register_machine.specs.replay.Trades.{Day}
 use Rattle.register_machine.specs.rules.Breaks.{is_broken, order_corrected}
 use Rattle.standing_orders.specs.Priced.{AreOwnOnTrial, AreSettledOnTrial}
-use Rattle.waiting_laws.specs.IndexOfJournals.{sheets_of}
+use Rattle.desk_books.specs.waiting_laws.IndexOfJournals.{sheets_of}
 
 -- ---- households that rise are different
 

@@ -6,7 +6,7 @@ use Rattle.agent_events.specs.declared.order.Order.{Order}
 use Rattle.correction_trials.specs.Trials.{IsFresh}
 use Rattle.event_laws.specs.EventReplays.{is_correction}
 use Rattle.event_laws.specs.TriedCorrections.{HasABookOnTrial}
-use Rattle.ledger_laws.specs.TrialBooks.{IsSoundOnTrial}
+use Rattle.desk_books.specs.ledger_laws.TrialBooks.{IsSoundOnTrial}
 use Rattle.order_book.specs.Books.{Fits}
 use Rattle.register_laws.specs.CorrectionReach.{EventReach}
 use Rattle.register_machine.specs.journal.Journals.{Journal}

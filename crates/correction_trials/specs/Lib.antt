@@ -12,3 +12,7 @@ pub mod Reopened
 pub mod Settled
 -- what the trial makes of the ledger
 pub mod Changed
+-- passed on to the crates above, which so needn't name the libraries below
+pub use Rattle.correction_effects.specs as correction_effects
+pub use Rattle.desk_books.specs as desk_books
+pub use Rattle.desk_books.specs.kept_of_journals as kept_of_journals

@@ -27,8 +27,8 @@ use Rattle.gain_loss_book.specs.ClassGains.{mils_change}
 use Rattle.gain_loss_book.specs.Posted.{cash_change}
 use Rattle.household_fold.specs.Facts.{Known}
 use Rattle.household_replay.specs.Replays.{NumberedOrder, days_behind}
-use Rattle.ledger_laws.specs.PartsByFacts.{AreRowsOf}
-use Rattle.ledger_of_journals.specs.CorrectedLedgers.{AreReopenings}
+use Rattle.desk_books.specs.ledger_laws.PartsByFacts.{AreRowsOf}
+use Rattle.desk_books.specs.ledger_of_journals.CorrectedLedgers.{AreReopenings}
 use Rattle.register_laws.specs.Lawful.{book_behind}
 use Rattle.register_machine.specs.journal.Journals.{Journal, with_event}
 use Rattle.register_machine.specs.journal.Kinds.{accounts_of}
@@ -109,10 +109,11 @@ pub record IsReopenedWhole (books : DeskBooks) (event : Event) (known : Known) (
   pub reached : AreReached books.book.journal books.orders.owners event.kind households
   pub all : AreReopened books event known households change first
 
--- For each household that the correction reaches, at most as many steps as there are sheets; and no more than there are behind the
+-- For each household that the correction reaches, each once, at most as many steps as there are sheets; and no more than there are behind the
 -- last state that is kept of it behind a sheet before this one.
 pub record TakesFewSteps (books : DeskBooks) (event : Event) (touched before after : ℕ) : Type 0 where
   pub households : List ℕ
+  pub rising : IsStrictlyIncreasing households
   pub reached : AreReached books.book.journal books.orders.owners event.kind households
   pub few : after ≤ before + length households * length (book_behind books.book.journal).table.sheets
   pub behind : after ≤ before + sum_by (sheets_replayed books.kept touched (length books.prices.table.sheets)) households

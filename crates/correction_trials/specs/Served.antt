@@ -14,7 +14,7 @@ use Rattle.forward_price.specs.declared.price_sheet.Patch.{Patch}
 use Rattle.household_fold.specs.Facts.{Known, sheets_known}
 use Rattle.journal_tables.specs.Tables.{row_of_fix, with_fixed_rate}
 use Rattle.journal_tables.specs.TablesOfJournals.{patch_on}
-use Rattle.ledger_of_journals.specs.BookFacts.{ServeLastSheet}
+use Rattle.desk_books.specs.ledger_of_journals.BookFacts.{ServeLastSheet}
 use Rattle.register_laws.specs.CorrectionReach.{order_changed}
 use Rattle.register_laws.specs.Lawful.{book_behind}
 use Rattle.register_machine.specs.journal.Journals.{Journal, with_event}

@@ -8,7 +8,7 @@ use Rattle.correction_trials.specs.declared.trial.Trial.{Trial}
 use Rattle.correction_trials.specs.declared.trial.Tried.{Tried}
 use Rattle.desk_books.specs.declared.books.DeskBooks.{DeskBooks}
 use Rattle.event_laws.specs.EventReplays.{is_correction}
-use Rattle.kept_of_journals.specs.KeptOfBooks.{AreKeptOf, AreLikeLong}
+use Rattle.desk_books.specs.kept_of_journals.KeptOfBooks.{AreKeptOf, AreLikeLong}
 use Rattle.kept_states.specs.KeptStates.{states_in}
 use Rattle.kept_states.specs.declared.states.HouseholdStates.{HouseholdStates}
 use Rattle.kept_states.specs.declared.states.KeptState.{KeptState}
@@ -16,7 +16,7 @@ use Rattle.register_laws.specs.CorrectionReach.{LeavesPart}
 use Rattle.register_laws.specs.Lawful.{book_behind}
 use Rattle.register_laws.specs.OneEventMore.{book_after}
 use Rattle.register_machine.specs.journal.Journals.{Journal, with_event}
-use Rattle.waiting_laws.specs.SettledOrders.{ReplacesNone}
+use Rattle.desk_books.specs.waiting_laws.SettledOrders.{ReplacesNone}
 
 -- The trial of a correction: what it says, whose parts and orders stay, and before which sheet nothing changes.
 pub record IsTrialOf (books : DeskBooks) (event : Event) (trial : Trial) : Type 0 where

@@ -7,7 +7,7 @@ use Rattle.agent_events.specs.declared.event.EventKind.{EventKind}
 use Rattle.checkpoint_replay.specs.declared.reopening.ReplayStart.{ReplayStart}
 use Rattle.correction_trials.specs.declared.starts.KeptStart.{KeptStart}
 use Rattle.forward_price.specs.declared.price_sheet.Sheet.{Sheet}
-use Rattle.kept_of_journals.specs.KeptOfBooks.{part_to}
+use Rattle.desk_books.specs.kept_of_journals.KeptOfBooks.{part_to}
 use Rattle.kept_states.specs.KeptStates.{last_before, states_in}
 use Rattle.kept_states.specs.declared.states.HouseholdStates.{HouseholdStates}
 use Rattle.kept_states.specs.declared.states.KeptState.{KeptState}
@@ -15,8 +15,8 @@ use Rattle.register_laws.specs.Lawful.{book_behind}
 use Rattle.register_machine.specs.journal.Journals.{Journal, with_event}
 use Rattle.register_machine.specs.rules.NamedThings.{lists_at}
 use Rattle.standing_orders.specs.Priced.{AreSettledOnTrial}
-use Rattle.waiting_laws.specs.IndexOfJournals.{sheets_of}
-use Rattle.waiting_laws.specs.SettledOrders.{AreSettled}
+use Rattle.desk_books.specs.waiting_laws.IndexOfJournals.{sheets_of}
+use Rattle.desk_books.specs.waiting_laws.SettledOrders.{AreSettled}
 
 -- no part changes behind a sheet before this one
 abbrev pub LeavesPartsBefore : Journal → Event → ℕ → Type 0

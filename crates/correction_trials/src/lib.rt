@@ -11,3 +11,4 @@ mod starts;
 mod trial;
 
 pub use crate::trial::{Tried, try_correction};
+pub use desk_books::{DeskBooks, EventChange, LedgerChange};

@@ -24,7 +24,8 @@ pub(crate) fn with_gains(
     prices: &PriceBook,
     patch: Option<Patch>,
 ) -> Result<LedgerChange, NoMemory>
-    ensures { IfOk result (IsChangeWith change bearer (sheets_on_trial patch prices.now.table.sheets)) }
+    ensures { IfOk result
+        (IsChangeWith change bearer (sheets_on_trial patch prices.now.table.sheets)) }
 {
     let gains = gains_within_limits(alloc, change.changes(), prices, patch)?;
     Ok(LedgerChange {
@@ -40,7 +41,8 @@ fn gains_within_limits(
     patch: Option<Patch>,
 ) -> Result<ClassGains, NoMemory>
     ensures within { IfOk result (AreWithin changes.now) }
-    ensures gains { IfOk result (AreGainsOf changes.now (sheets_on_trial patch prices.now.table.sheets)) }
+    ensures gains { IfOk result
+        (AreGainsOf changes.now (sheets_on_trial patch prices.now.table.sheets)) }
 {
     if are_within(changes) {
         let gains = gains(alloc, changes, prices, patch)?;

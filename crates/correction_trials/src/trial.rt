@@ -1,6 +1,7 @@
 //! The trial of a correction.
 ghost use Rattle.std.specs.Prelude.{◌≡◌, ◌≤◌, ◌+◌, ◌*◌, IfOk, OnOk, is_some, true, length, ℕ, List};
 ghost use Rattle.std.specs.List.{sum_by};
+ghost use Rattle.std.specs.List.Sorted.{IsStrictlyIncreasing};
 ghost use Rattle.agent_events.specs.declared.event.EventKind.{EventKind as Kind};
 ghost use Rattle.agent_events.specs.declared.reply.Refusal.{Refusal as AnyRefusal};
 ghost use Rattle.checkpoint_replay.specs.Differences.{AreChangesOf};
@@ -76,10 +77,12 @@ pub fn try_correction<L: StepLedger>(
     ensures says { IfOk result (Says books.old.book.journal event.now books.old.ledger.parts) }
     ensures kept { IfOk result (KeepsStates books.old.book.journal event.now books.new.kept) }
     ensures steps { OnOk result ((households : List ℕ)
+        × IsStrictlyIncreasing households
         × AreReached books.old.book.journal books.old.orders.owners event.now.kind households
         × (steps.new ≤ steps.old
         + length households * length (book_behind books.old.book.journal).table.sheets)) }
     ensures behind { OnOk result ((households : List ℕ)
+        × IsStrictlyIncreasing households
         × AreReached books.old.book.journal books.old.orders.owners event.now.kind households
         × (steps.new ≤ steps.old
         + sum_by (sheets_replayed books.old.kept
@@ -332,7 +335,8 @@ fn moved_with(
     prices: &PriceBook,
     patch: Option<Patch>,
 ) -> Result<Tried, NoMemory>
-    ensures { IfOk result (IsMovedWith made bearer (sheets_on_trial patch prices.now.table.sheets)) }
+    ensures { IfOk result
+        (IsMovedWith made bearer (sheets_on_trial patch prices.now.table.sheets)) }
 {
     let moved = with_gains(alloc, made, bearer, prices, patch)?;
     Ok(Tried::Moves(moved))

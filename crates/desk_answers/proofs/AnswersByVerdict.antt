@@ -12,7 +12,7 @@ use Rattle.desk_answers.specs.Answered.{IsAnswer, answer_given}
 use Rattle.desk_answers.specs.Fresh.{first_answer}
 use Rattle.desk_answers.specs.Steps.{AreStepsOf, TakesSteps}
 use Rattle.desk_answers.specs.declared.answering.Answered.{Answered}
-use Rattle.desk_books.specs.declared.change.EventChange.{EventChange}
+use Rattle.correction_trials.specs.desk_books.declared.change.EventChange.{EventChange}
 use Rattle.register_laws.specs.Lawful.{own_at}
 use Rattle.register_machine.specs.journal.Journals.{Journal}
 use Rattle.register_machine.specs.run.Answers.{answer_by, query_reply, repeat_answer, says}

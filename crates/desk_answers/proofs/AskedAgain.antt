@@ -16,10 +16,11 @@ use Rattle.agent_events.specs.declared.request.DealerForm.{DealerForm}
 use Rattle.agent_events.specs.declared.verdict.Caller.{Caller}
 use Rattle.desk_answers.specs.Answered.{IsAnswer, IsCaller, IsReadyToNote, events_of}
 use Rattle.desk_answers.specs.Asked.{IsAskedAgain, change_to, keeps_moments, moments_kept}
+use Rattle.desk_answers.specs.Steps.{AreStepsAsked, AreStepsOf}
 use Rattle.desk_answers.specs.declared.answering.Answered.{Answered}
-use Rattle.desk_books.specs.ReadyChanges.{IsReady}
-use Rattle.desk_books.specs.declared.books.DeskBooks.{DeskBooks}
-use Rattle.desk_books.specs.declared.change.EventChange.{EventChange}
+use Rattle.correction_trials.specs.desk_books.ReadyChanges.{IsReady}
+use Rattle.correction_trials.specs.desk_books.declared.books.DeskBooks.{DeskBooks}
+use Rattle.correction_trials.specs.desk_books.declared.change.EventChange.{EventChange}
 use Rattle.fund_calendar.proofs.LookUpLemmas.{find_passes}
 use Rattle.register_laws.proofs.AnswersByCases.{each-answer}
 use Rattle.register_laws.proofs.Choosing.{none_some, some_none}
@@ -30,7 +31,7 @@ use Rattle.register_machine.specs.journal.Kinds.{account_numbered, accounts_of, 
 use Rattle.register_machine.specs.journal.Lawful.{AllFollow, Follows, IsLawful, answer_again, asker_by, asker_of}
 use Rattle.register_machine.specs.rules.Situations.{Situation, event_at}
 use Rattle.register_machine.specs.run.Answers.{Answer}
-use Rattle.register_machine.specs.run.Verdicts.{due_now}
+use Rattle.register_machine.specs.run.Verdicts.{due_now, verdict}
 
 -- ---- the last event of a lawful journal
 
@@ -103,7 +104,7 @@ same-kind (EventKind.Order placed) other now due e kept = by_source placed.sourc
     by_source Source.Dealer is h = made Source.Dealer placed.receipt is (unsome h)
 same-kind _ other now due e kept = unsome e
 
-keeps-itself : (kind : EventKind) → keeps_moments kind kind ≡ true
+pub keeps-itself : (kind : EventKind) → keeps_moments kind kind ≡ true
 keeps-itself kind =
     ap (λ b. b && (moments_kept kind).1 == (moments_kept kind).1) (eq-eqb (moments_kept kind).0 (moments_kept kind).0 refl)
     ∙ eq-eqb (moments_kept kind).1 (moments_kept kind).1 refl
@@ -115,7 +116,7 @@ first-same : (event other : Event) → event ∷ [] ≡ other ∷ [] → event �
 first-same event other e = ap (λ (events : List Event). get_or events 0 other) e
 
 -- what is brought again is this event
-brought-again : (journal : Journal) (event other : Event) → (answer_again journal event).events ≡ other ∷ [] → keeps_moments other.kind event.kind ≡ true → other ≡ event
+pub brought-again : (journal : Journal) (event other : Event) → (answer_again journal event).events ≡ other ∷ [] → keeps_moments other.kind event.kind ≡ true → other ≡ event
 brought-again journal event other =
     each-answer (λ (said : Answer). said.events ≡ other ∷ [] → keeps_moments other.kind event.kind ≡ true → other ≡ event) situation (request_of event.kind)
     (λ reply none. absurd (no-event none)) one
@@ -178,3 +179,11 @@ asked_as journal known event {moment = moment} {caller = caller} {request = requ
     (subst (λ (c : Caller). IfOk result (IsAnswer journal event.moment c request)) who
     (subst (λ (m : ℕ). IfOk result (IsAnswer journal m caller request)) then_too
     (subst (λ (j : Journal). IfOk result (IsAnswer j moment caller request)) same given)))
+
+-- and so are its steps
+pub steps_asked : {E : Type 0} (journal : Journal) (owners : List ℕ) (event : Event) {moment : ℕ} {caller : Caller} {request : Request} (before after : ℕ) (result : Result Answered E) → moment ≡ event.moment → caller ≡ asker_of journal event.kind → request ≡ request_of event.kind
+    → IfOk result (λ answered. AreStepsOf journal owners (verdict (own_at journal moment caller) request) answered.change before after) → IfOk result (λ answered. AreStepsAsked journal owners event answered.change before after)
+steps_asked journal owners event {moment = moment} {caller = caller} {request = request} before after result then_too who asks given =
+    subst (λ (r : Request). IfOk result (λ (answered : Answered). AreStepsOf journal owners (verdict (own_at journal event.moment (asker_of journal event.kind)) r) answered.change before after)) asks
+    (subst (λ (c : Caller). IfOk result (λ (answered : Answered). AreStepsOf journal owners (verdict (own_at journal event.moment c) request) answered.change before after)) who
+    (subst (λ (m : ℕ). IfOk result (λ (answered : Answered). AreStepsOf journal owners (verdict (own_at journal m caller) request) answered.change before after)) then_too given))

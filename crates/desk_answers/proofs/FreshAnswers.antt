@@ -16,7 +16,7 @@ use Rattle.desk_answers.proofs.Verdicts.{fresh_moment}
 use Rattle.desk_answers.specs.Answered.{IsCaller}
 use Rattle.desk_answers.specs.Fresh.{FollowsUnlessBroken, first_answer, ledger_of, moves_in}
 use Rattle.desk_answers.specs.Steps.{TakesSteps}
-use Rattle.desk_books.specs.declared.change.EventChange.{EventChange}
+use Rattle.correction_trials.specs.desk_books.declared.change.EventChange.{EventChange}
 use Rattle.event_laws.specs.EventReplays.{is_correction, is_sheet}
 use Rattle.register_laws.proofs.CorrectedAgain.{reply-again}
 use Rattle.register_laws.proofs.RunsAreLawful.{IsAmong, answer_is_lawful}

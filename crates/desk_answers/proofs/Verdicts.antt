@@ -54,6 +54,21 @@ fresh_moment situation request event =
     look : Verdict.Query ≡ Verdict.Fresh event → ⊥
     look h = cc
 
+-- a new event is the request's own
+pub fresh_brings : (situation : Situation) (request : Request) (event : Event) → verdict situation request ≡ Verdict.Fresh event → (kind : EventKind) × (event_of request situation.now (due_now situation request) ≡ Some kind) × (event_at situation kind ≡ event)
+fresh_brings situation request event =
+    each-verdict (λ said. said ≡ Verdict.Fresh event → (kind : EventKind) × (event_of request situation.now (due_now situation request) ≡ Some kind) × (event_at situation kind ≡ event)) situation request
+    (λ why e. absurd (refused why e)) (λ place found e. absurd (again place e)) (λ e. absurd (look e)) (λ kind brings e. (kind, brings, cc))
+  where
+    refused : (why : Refusal) → Verdict.Refused why ≡ Verdict.Fresh event → ⊥
+    refused why h = cc
+
+    again : (place : ℕ) → Verdict.Again place ≡ Verdict.Fresh event → ⊥
+    again place h = cc
+
+    look : Verdict.Query ≡ Verdict.Fresh event → ⊥
+    look h = cc
+
 -- what is repeated is there
 pub again_there : (situation : Situation) (request : Request) (place : ℕ) → verdict situation request ≡ Verdict.Again place → is_some (slice_get situation.journal place) ≡ true
 again_there situation request place =

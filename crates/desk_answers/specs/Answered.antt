@@ -4,9 +4,9 @@ use Rattle.agent_events.specs.Events.{Event}
 use Rattle.agent_events.specs.declared.request.Request.{Request}
 use Rattle.agent_events.specs.declared.verdict.Caller.{Caller}
 use Rattle.desk_answers.specs.declared.answering.Answered.{Answered}
-use Rattle.desk_books.specs.ReadyChanges.{IsReady}
-use Rattle.desk_books.specs.declared.books.DeskBooks.{DeskBooks}
-use Rattle.desk_books.specs.declared.change.EventChange.{EventChange}
+use Rattle.correction_trials.specs.desk_books.ReadyChanges.{IsReady}
+use Rattle.correction_trials.specs.desk_books.declared.books.DeskBooks.{DeskBooks}
+use Rattle.correction_trials.specs.desk_books.declared.change.EventChange.{EventChange}
 use Rattle.register_laws.specs.Lawful.{own_at}
 use Rattle.register_machine.specs.journal.Journals.{Journal}
 use Rattle.register_machine.specs.journal.Kinds.{dealer_numbered, dealers_of}

@@ -4,8 +4,8 @@ use Rattle.agent_events.specs.Events.{Event}
 use Rattle.agent_events.specs.declared.reply.Refusal.{Refusal}
 use Rattle.checkpoint_replay.specs.declared.change.HouseholdMove.{HouseholdMove}
 use Rattle.correction_trials.specs.Trials.{last_says}
-use Rattle.desk_books.specs.declared.change.EventChange.{EventChange}
-use Rattle.desk_books.specs.declared.change.LedgerChange.{LedgerChange}
+use Rattle.correction_trials.specs.desk_books.declared.change.EventChange.{EventChange}
+use Rattle.correction_trials.specs.desk_books.declared.change.LedgerChange.{LedgerChange}
 use Rattle.register_machine.specs.journal.Journals.{Journal, with_event}
 use Rattle.register_machine.specs.journal.Lawful.{IsLawful}
 use Rattle.register_machine.specs.run.Answers.{Answer, refuses}

@@ -4,5 +4,9 @@ pub mod Answered
 pub mod Fresh
 -- how many steps an answer takes
 pub mod Steps
+-- how many steps an event takes at most
+pub mod StepBounds
 -- an event that is asked for again
 pub mod Asked
+-- passed on to the crates above, which so needn't name the libraries below
+pub use Rattle.correction_trials.specs.desk_books as desk_books

@@ -1,21 +1,24 @@
 -- How many households are taken over a sheet for an answer: none but for a new sheet and a new correction.
-use Rattle.std.specs.Prelude.{List, Option, false, length, true, ℕ, ◌*◌, ◌+◌, ◌||◌, ◌≡◌, ◌≤◌}
-use Rattle.agent_events.specs.Events.{Event}
+use Rattle.std.specs.List.Sorted.{IsStrictlyIncreasing}
+use Rattle.std.specs.Prelude.{List, None, Option, Some, false, length, true, ℕ, ◌*◌, ◌+◌, ◌||◌, ◌≡◌, ◌≤◌, ◌⊎◌}
+use Rattle.agent_events.specs.Events.{Event, request_of}
 use Rattle.agent_events.specs.declared.event.EventKind.{EventKind}
 use Rattle.agent_events.specs.declared.verdict.Verdict.{Verdict}
 use Rattle.checkpoint_replay.specs.Moves.{households_of}
-use Rattle.correction_effects.specs.Reached.{AreReached}
+use Rattle.correction_trials.specs.correction_effects.Reached.{AreReached}
 use Rattle.desk_answers.specs.Fresh.{ledger_of, moves_in}
-use Rattle.desk_books.specs.declared.change.EventChange.{EventChange}
+use Rattle.correction_trials.specs.desk_books.declared.change.EventChange.{EventChange}
 use Rattle.event_laws.specs.EventReplays.{is_correction, is_sheet}
-use Rattle.register_laws.specs.Lawful.{book_behind}
+use Rattle.register_laws.specs.Lawful.{book_behind, own_at}
 use Rattle.register_machine.specs.journal.Journals.{Journal}
+use Rattle.register_machine.specs.journal.Lawful.{asker_of}
+use Rattle.register_machine.specs.run.Verdicts.{verdict}
 use Rattle.sheet_trials.specs.Reached.{TakeOneStepEach}
 
--- at most as many steps as there are sheets, for each household that a correction can reach
+-- at most as many steps as there are sheets, for each household that a correction can reach, each once
 abbrev pub StepsWhereReached : Journal → List ℕ → EventKind → ℕ → ℕ → Type 0
 StepsWhereReached journal owners kind before after =
-    (households : List ℕ) × AreReached journal owners kind households
+    (households : List ℕ) × IsStrictlyIncreasing households × AreReached journal owners kind households
     × (after ≤ before + length households * length (book_behind journal).table.sheets)
 
 -- a new sheet takes one step for each household that it moves, for which it isn't quiet, a new correction those of the households that it can reach, and
@@ -32,3 +35,19 @@ AreStepsOf journal owners (Verdict.Fresh event) change before after =
 AreStepsOf journal owners (Verdict.Again place) change before after = after ≡ before
 AreStepsOf journal owners Verdict.Query change before after = after ≡ before
 AreStepsOf journal owners (Verdict.Refused why) change before after = after ≡ before
+
+-- ---- An event that is asked for again.
+
+-- by its own request, its asker and its moment
+abbrev pub AreStepsAsked : Journal → List ℕ → Event → Option EventChange → ℕ → ℕ → Type 0
+AreStepsAsked journal owners event change before after =
+    AreStepsOf journal owners (verdict (own_at journal event.moment (asker_of journal event.kind)) (request_of event.kind))
+    change before after
+
+-- One that follows the journal takes the steps of a new event; one that doesn't takes those of a correction, or none.
+abbrev pub AreStepsFound : Journal → List ℕ → Event → Option EventChange → ℕ → ℕ → Type 0
+AreStepsFound journal owners event (Some change) before after =
+    TakesSteps journal owners event (Some change) before after
+AreStepsFound journal owners event None before after =
+    (after ≡ before)
+    ⊎ ((is_correction event.kind ≡ true) × StepsWhereReached journal owners event.kind before after)

@@ -3,7 +3,7 @@ ghost use Rattle.std.specs.Prelude.{◌≡◌, ◌≤◌, IfOk, None, is_some, s
 ghost use Rattle.agent_events.specs.declared.verdict.Caller.{Caller as AnyCaller};
 ghost use Rattle.desk_answers.specs.Answered.{IsAnswer, IsCaller, IsReadyToNote, answer_given};
 ghost use Rattle.desk_answers.specs.Steps.{AreStepsOf};
-ghost use Rattle.desk_books.specs.BooksOfJournals.{AreBooksOf, ShowTheSame};
+ghost use Rattle.correction_trials.specs.desk_books.BooksOfJournals.{AreBooksOf, ShowTheSame};
 ghost use Rattle.desk_replies.specs.Replies.{IsLook};
 ghost use Rattle.register_laws.specs.Lawful.{own_at};
 ghost use Rattle.register_machine.specs.journal.Journals.{last_moment};
@@ -12,7 +12,7 @@ ghost use Rattle.register_machine.specs.run.Verdicts.{verdict};
 
 use crate::fresh::answer_fresh;
 use agent_events::{Caller, Reply, Request, Verdict};
-use desk_books::{DeskBooks, EventChange};
+use correction_trials::{DeskBooks, EventChange};
 use desk_replies::{look_reply, repeat_reply};
 use household_fold::Steps;
 use money_units::{Moment, NoMemory};

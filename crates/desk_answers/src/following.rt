@@ -2,8 +2,10 @@
 ghost use Rattle.std.specs.Prelude.{◌≡◌, ◌≤◌, IfOk, IfSome, None, nat_lt};
 ghost use Rattle.desk_answers.specs.Answered.{IsReadyToNote};
 ghost use Rattle.desk_answers.specs.Asked.{IsAskedAgain, change_to, keeps_moments, moments_kept};
-ghost use Rattle.desk_books.specs.BooksOfJournals.{AreBooksOf, ShowTheSame};
-ghost use Rattle.desk_books.specs.ReadyChanges.{IsReady};
+ghost use Rattle.desk_answers.specs.StepBounds.{AreFewSteps};
+ghost use Rattle.desk_answers.specs.Steps.{AreStepsAsked, AreStepsFound};
+ghost use Rattle.correction_trials.specs.desk_books.BooksOfJournals.{AreBooksOf, ShowTheSame};
+ghost use Rattle.correction_trials.specs.desk_books.ReadyChanges.{IsReady};
 ghost use Rattle.register_machine.specs.journal.Choices.{when};
 ghost use Rattle.register_machine.specs.journal.Journals.{last_moment, with_event};
 ghost use Rattle.register_machine.specs.journal.Lawful.{IsLawful};
@@ -11,7 +13,7 @@ ghost use Rattle.register_machine.specs.journal.Lawful.{IsLawful};
 use crate::answering::{Answered, answer_request};
 use crate::asking::{asker_of, request_of};
 use agent_events::{Event, EventKind};
-use desk_books::{DeskBooks, EventChange};
+use correction_trials::{DeskBooks, EventChange};
 use household_fold::Steps;
 use money_units::NoMemory;
 use order_intake::Book;
@@ -78,6 +80,8 @@ fn asked_again<L: StepLedger>(
     ensures journal { books.new.book.journal ≡ books.old.book.journal }
     ensures answer { IfOk result (IsAskedAgain books.old.book.journal event.now) }
     ensures ready { IfOk result (λ answered. IsReadyToNote books.new answered.change) }
+    ensures steps { IfOk result (λ answered. AreStepsAsked books.old.book.journal
+        books.old.orders.owners event.now answered.change steps.old steps.new) }
 {
     let moment = event.moment();
     let kind = event.kind();
@@ -88,6 +92,9 @@ fn asked_again<L: StepLedger>(
 
 /// All that a stored event changes, exactly where it follows the books' journal; `None` exactly where it doesn't. The books show
 /// what they showed before, after `NoMemory` too; the event that is found is ready to be noted in them.
+///
+/// A sheet that follows takes one step for each household that it moves, a correction at most those of the households that it can
+/// reach, whether it follows or breaks an order, and any other event none.
 pub fn follows<L: StepLedger>(
     alloc: Global,
     books: &mut DeskBooks,
@@ -101,6 +108,10 @@ pub fn follows<L: StepLedger>(
         (change.event ≡ event.now) × IsReady books.new change)) }
     ensures none { IfOk result (λ found. found ≡ None
         → IsLawful (with_event books.old.book.journal event.now) → ⊥) }
+    ensures steps { IfOk result (λ found. AreStepsFound books.old.book.journal
+        books.old.orders.owners event.now found steps.old steps.new) }
+    ensures few { IfOk result (λ found. AreFewSteps books.old.book.journal
+        event.now found steps.old steps.new) }
 {
     if is_before(&books.book, event) {
         return Ok(None);

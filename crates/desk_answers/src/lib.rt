@@ -11,3 +11,4 @@ mod noting;
 pub use crate::answering::{Answered, answer_request};
 pub use crate::asking::{asker_of, request_of};
 pub use crate::following::follows;
+pub use correction_trials::{DeskBooks, EventChange};

@@ -26,7 +26,7 @@ use Rattle.register_machine.specs.journal.Journals.{Journal, with_event}
 use Rattle.register_machine.specs.journal.Kinds.{calendar_in, calendars_of}
 use Rattle.register_machine.specs.pricing.CorrectedOrders.{orders_of}
 use Rattle.statement_laws.specs.LawfulStatements.{IsTimely}
-use Rattle.waiting_laws.specs.IndexOfJournals.{IsIndexOf}
+use Rattle.kept_of_journals.specs.waiting_laws.IndexOfJournals.{IsIndexOf}
 
 timely-kind : (kind : EventKind) → HasItsMinute kind → All (λ (form : CalendarForm). form.minute ≤ 1439) (option_to_list (calendar_in kind))
 timely-kind (EventKind.Calendar form) minute = All-cons (λ (form : CalendarForm). form.minute ≤ 1439) form [] minute (All-nil (λ (form : CalendarForm). form.minute ≤ 1439))

@@ -20,7 +20,7 @@ use Rattle.register_laws.specs.Lawful.{book_behind}
 use Rattle.register_laws.specs.OneEventMore.{corrected_table}
 use Rattle.register_machine.specs.pricing.PublishedTable.{table_behind}
 use Rattle.register_machine.specs.replay.Replay.{replay}
-use Rattle.waiting_laws.specs.IndexOfJournals.{IsIndexOf}
+use Rattle.kept_of_journals.specs.waiting_laws.IndexOfJournals.{IsIndexOf}
 
 no-row : {X : Type 0} {x : X} → None ≡ Some x → ⊥
 no-row e = cc

@@ -19,8 +19,8 @@ use Rattle.register_machine.specs.pricing.CorrectedOrders.{orders_of}
 use Rattle.standing_orders.specs.Places.{passes_at}
 use Rattle.standing_orders.specs.Rows.{stays}
 use Rattle.std.specs.Prelude.{filter}
-use Rattle.waiting_laws.proofs.IndexSteps.{begins_order, enters_order, leaves_the_index, replaces_order, sheet_takes}
-use Rattle.waiting_laws.specs.IndexOfJournals.{IsIndexOf, leaves_index, sheets_of}
+use Rattle.kept_of_journals.proofs.waiting_laws.IndexSteps.{begins_order, enters_order, leaves_the_index, replaces_order, sheet_takes}
+use Rattle.kept_of_journals.specs.waiting_laws.IndexOfJournals.{IsIndexOf, leaves_index, sheets_of}
 
 -- the last of some sheets
 last-of : (sheets : List Sheet) (sheet : Sheet) → last_number (sheets ++ sheet ∷ []) ≡ sheet.number

@@ -14,3 +14,8 @@ pub mod BooksAfter
 pub mod MovesStay
 -- the orders that an event names stand
 pub mod NamedOrders
+-- passed on to the crates above, which so needn't name the libraries below
+pub use Rattle.kept_of_journals.proofs as kept_of_journals
+pub use Rattle.ledger_of_journals.proofs.ledger_laws as ledger_laws
+pub use Rattle.ledger_of_journals.proofs as ledger_of_journals
+pub use Rattle.kept_of_journals.proofs.waiting_laws as waiting_laws

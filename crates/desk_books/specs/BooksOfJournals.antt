@@ -17,7 +17,7 @@ use Rattle.register_machine.specs.journal.Journals.{Journal}
 use Rattle.register_machine.specs.journal.Lawful.{IsLawful}
 use Rattle.register_machine.specs.replay.Replay.{replay}
 use Rattle.statement_laws.specs.LawfulStatements.{IsTimely}
-use Rattle.waiting_laws.specs.IndexOfJournals.{IsIndexOf}
+use Rattle.kept_of_journals.specs.waiting_laws.IndexOfJournals.{IsIndexOf}
 
 -- the cash of each party as it is booked, the gains of each correction as they were at its event, and no others
 pub record IsCashOf (journal : Journal) (cash : Books) : Type 0 where

@@ -6,3 +6,8 @@ pub mod OrderChanges
 pub mod LedgerChanges
 -- when an event is ready to be noted in the books
 pub mod ReadyChanges
+-- passed on to the crates above, which so needn't name the libraries below
+pub use Rattle.kept_of_journals.specs as kept_of_journals
+pub use Rattle.ledger_of_journals.specs.ledger_laws as ledger_laws
+pub use Rattle.ledger_of_journals.specs as ledger_of_journals
+pub use Rattle.kept_of_journals.specs.waiting_laws as waiting_laws

@@ -14,7 +14,7 @@ use Rattle.household_fold.specs.Facts.{row_numbered}
 use Rattle.household_fold.specs.Households.{Household}
 use Rattle.journal_tables.specs.Tables.{Tables, row_of_account}
 use Rattle.journal_tables.specs.TablesOfJournals.{AreTablesOf}
-use Rattle.ledger_of_journals.specs.Ledgers.{IsLedgerOf}
+use Rattle.desk_books.specs.ledger_of_journals.Ledgers.{IsLedgerOf}
 use Rattle.register_machine.specs.journal.Journals.{Journal}
 use Rattle.register_machine.specs.journal.Kinds.{account_numbered, accounts_of}
 use Rattle.register_machine.specs.pricing.CorrectedBook.{Book}

@@ -19,7 +19,7 @@ use Rattle.register_laws.proofs.Sums.{zeros}
 use Rattle.register_laws.proofs.TradeParties.{KnownMovement, KnownOrder, KnownTarget, replay-moves}
 use Rattle.register_laws.specs.Identities.{has_number}
 use Rattle.register_laws.specs.Lawful.{book_behind}
-use Rattle.register_machine.specs.corrections.Cash.{Movement, balance, cents_paid_in, cents_received_in, movement, movements_of, same_party}
+use Rattle.register_machine.specs.corrections.Cash.{Movement, balance, cents_paid_in, cents_received_in, cash_movement, movements_of, same_party}
 use Rattle.register_machine.specs.corrections.Gains.{gains_at}
 use Rattle.register_machine.specs.corrections.Payments.{bearer_in, booked_movements, loss_payment, loss_payments, payer, payments_for, payments_from, payments_of}
 use Rattle.register_machine.specs.journal.Journals.{Journal, with_event}
@@ -53,7 +53,7 @@ trades-owned journal lawful =
 loss-owned : (journal : Journal) (party : Party) (class : ℕ) (cents : ℤ) → IsOwner journal party → All (KnownMovement (IsOwner journal)) (loss_payment party class cents)
 loss-owned journal party class (pos cents) own = All-nil (KnownMovement (IsOwner journal))
 loss-owned journal party class (negsuc n) own =
-    All-cons (KnownMovement (IsOwner journal)) (movement party (Party.Class class) (suc n)) [] (record { giver = own; taker = tt }) (All-nil (KnownMovement (IsOwner journal)))
+    All-cons (KnownMovement (IsOwner journal)) (cash_movement party (Party.Class class) (suc n)) [] (record { giver = own; taker = tt }) (All-nil (KnownMovement (IsOwner journal)))
 
 losses-owned : (journal : Journal) (party : Party) (gains : List ClassGain) → IsOwner journal party → All (KnownMovement (IsOwner journal)) (flat_map (λ gain. loss_payment party gain.class gain.cents) gains)
 losses-owned journal party [] own = All-nil (KnownMovement (IsOwner journal))

@@ -160,7 +160,8 @@ fn day_after_rate(
     requires facts { FactsFit facts.now }
     requires listed { IsListed facts.now class }
     requires rate { rate ≤ 1000000000 }
-    requires lots { AreNumbersWithin (class_known_at_rate facts.now rate (class, nav) day.old).register }
+    requires lots { AreNumbersWithin
+        (class_known_at_rate facts.now rate (class, nav) day.old).register }
     ensures { OnOk result (day.new ≡ class_known_at_rate facts.now rate (class, nav) day.old) }
 {
     let keys = day.register().keys_of_class(alloc, class)?;

@@ -205,7 +205,8 @@ fn position_after_note(
     requires loose { HasLoose position.holding.lots number split.now.mils }
     ensures kept { result.0 ≡ position_after_note position
         (record { number = number; holding = position.holding }) letter gross.now split.now }
-    ensures reached { result.1 ≡ (note_of_purchase letter gross.now split.now.price split.now.mils).reached }
+    ensures reached { result.1
+        ≡ (note_of_purchase letter gross.now split.now.price split.now.mils).reached }
 {
     let mut position = position;
     let mut letter = letter;

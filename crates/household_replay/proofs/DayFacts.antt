@@ -6,7 +6,7 @@ use Rattle.agent_events.specs.declared.trade.Trade.{Trade}
 use Rattle.household_fold.specs.Facts.{Known}
 use Rattle.household_fold.specs.Households.{first_of, step_known}
 use Rattle.household_replay.specs.Replays.{NumberedOrder, day_behind, days_behind, known_on, orders_under}
-use Rattle.register_machine.specs.replay.Trades.{Day}
+use Rattle.household_fold.specs.register_machine.replay.Trades.{Day}
 
 -- so many sheets, and then so many more
 pub days_split : (known : Known) (rows : List NumberedOrder) (from first more : ℕ) (day : Day) → days_behind known rows from (first + more) day ≡ days_behind known rows (from + first) more (days_behind known rows from first day)

@@ -8,7 +8,7 @@ use Rattle.std.proofs.lemmas.List.Kept.{AllPairs-cons, AllPairs-filter}
 use Rattle.std.specs.List.Sorted.{IsPartitionPoint}
 use Rattle.std.specs.Prelude.{Contains}
 use Rattle.agent_events.specs.declared.order.Order.{Order}
-use Rattle.household_positions.proofs.ListParts.{filter-all, filter-within}
+use Rattle.household_fold.proofs.household_positions.ListParts.{filter-all, filter-within}
 use Rattle.household_replay.proofs.NumberFacts.{all-front, all-rest, length-numbered, number-at, under-none}
 use Rattle.household_replay.specs.NumberedRows.{AreKept, AreRising, orders_numbered, numbers_met}
 use Rattle.household_replay.specs.Replays.{NumberedOrder, orders_under}

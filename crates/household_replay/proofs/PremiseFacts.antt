@@ -12,10 +12,10 @@ use Rattle.household_fold.specs.Numbers.{AreNumbersWithin}
 use Rattle.household_replay.proofs.DayFacts.{days_split}
 use Rattle.household_replay.specs.Premises.{CanBeReplayed}
 use Rattle.household_replay.specs.Replays.{NumberedOrder, day_behind, days_behind, known_on, orders_under}
-use Rattle.register_machine.specs.replay.Dividend.{day_after_dividends}
-use Rattle.register_machine.specs.replay.Letter.{day_after_letter_ends}
-use Rattle.register_machine.specs.replay.Positions.{Position, Register}
-use Rattle.register_machine.specs.replay.Trades.{Day}
+use Rattle.household_fold.specs.register_machine.replay.Dividend.{day_after_dividends}
+use Rattle.household_fold.specs.register_machine.replay.Letter.{day_after_letter_ends}
+use Rattle.household_fold.specs.register_machine.replay.Positions.{Position, Register}
+use Rattle.household_fold.specs.register_machine.replay.Trades.{Day}
 
 -- ---- whose the positions are doesn't depend on the sheet at hand
 

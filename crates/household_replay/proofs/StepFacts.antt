@@ -6,8 +6,8 @@ use Rattle.household_fold.specs.Facts.{Known}
 use Rattle.household_fold.specs.Quiet.{is_quiet_for}
 use Rattle.household_replay.specs.BusySheets.{busy_sheets, steps_over}
 use Rattle.household_replay.specs.Replays.{NumberedOrder, day_behind, days_behind, known_on, orders_under}
-use Rattle.register_machine.specs.replay.Positions.{Register}
-use Rattle.register_machine.specs.replay.Trades.{Day}
+use Rattle.household_fold.specs.register_machine.replay.Positions.{Register}
+use Rattle.household_fold.specs.register_machine.replay.Trades.{Day}
 
 -- a sheet takes at most one step
 one-step : (known : Known) (orders : List Order) (register : Register) → steps_over known orders register ≤ 1

@@ -3,8 +3,8 @@ use Rattle.agent_events.specs.declared.order.Order.{Order}
 use Rattle.household_fold.specs.Facts.{Known}
 use Rattle.household_fold.specs.Quiet.{is_quiet_for}
 use Rattle.household_replay.specs.Replays.{NumberedOrder, day_behind, known_on, orders_under}
-use Rattle.register_machine.specs.replay.Positions.{Register}
-use Rattle.register_machine.specs.replay.Trades.{Day}
+use Rattle.household_fold.specs.register_machine.replay.Positions.{Register}
+use Rattle.household_fold.specs.register_machine.replay.Trades.{Day}
 use Rattle.std.specs.Prelude.{List, if◌then◌else◌, suc, zero, ℕ, ◌+◌}
 
 -- the steps over the sheet at hand

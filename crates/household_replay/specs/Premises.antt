@@ -3,7 +3,7 @@ use Rattle.household_fold.specs.Facts.{FactsFit, Known}
 use Rattle.household_fold.specs.Households.{AreOrdersOf, AreOwned}
 use Rattle.household_fold.specs.Numbers.{AreNumbersWithin}
 use Rattle.household_replay.specs.Replays.{NumberedOrder, days_behind, known_on, orders_under}
-use Rattle.register_machine.specs.replay.Trades.{Day}
+use Rattle.household_fold.specs.register_machine.replay.Trades.{Day}
 use Rattle.std.specs.Prelude.{List, ℕ, ◌+◌, ◌<◌, ◌≤◌}
 
 -- with a sheet at hand, the facts fit, and its orders are the household's own

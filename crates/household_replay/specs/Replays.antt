@@ -2,7 +2,7 @@
 use Rattle.agent_events.specs.declared.order.Order.{Order}
 use Rattle.household_fold.specs.Facts.{Known}
 use Rattle.household_fold.specs.Households.{step_known}
-use Rattle.register_machine.specs.replay.Trades.{Day}
+use Rattle.household_fold.specs.register_machine.replay.Trades.{Day}
 use Rattle.std.specs.Prelude.{List, filter, map, ℕ, ◌+◌, ◌++◌, ◌==◌, suc, zero}
 
 -- an order under a number: that of its household, or that of the sheet that prices it

@@ -9,9 +9,9 @@ use Rattle.agent_events.specs.declared.event.EventKind.{EventKind}
 use Rattle.agent_events.specs.declared.order.OrderRow.{OrderRow}
 use Rattle.agent_events.specs.declared.request.FixPriceForm.{FixPriceForm}
 use Rattle.agent_events.specs.declared.request.SheetForm.{SheetForm}
-use Rattle.event_laws.proofs.EventReplays.{adds_sheet, leaves_replay}
-use Rattle.event_laws.proofs.PartsStay.{same_parts}
-use Rattle.event_laws.specs.EventReplays.{is_correction, is_sheet, sheet_behind}
+use Rattle.waiting_laws.proofs.event_laws.EventReplays.{adds_sheet, leaves_replay}
+use Rattle.waiting_laws.proofs.event_laws.PartsStay.{same_parts}
+use Rattle.waiting_laws.specs.event_laws.EventReplays.{is_correction, is_sheet, sheet_behind}
 use Rattle.kept_of_journals.specs.KeptOfBooks.{AreKeptOf, IsAsOf, LastIsAsOf, LawfulLeavesKept, LeavesSettled, LeftIsAsOf, PriceLeavesKept, part_to}
 use Rattle.kept_states.specs.KeptStates.{states_in}
 use Rattle.kept_states.specs.declared.states.HouseholdStates.{HouseholdStates}

@@ -5,7 +5,7 @@ use Rattle.std.proofs.lemmas.List.Elements.{filter-append}
 use Rattle.std.proofs.lemmas.List.Sums.{fold-append}
 use Rattle.agent_events.specs.declared.trade.Trade.{Trade}
 use Rattle.forward_price.specs.declared.price_sheet.Sheet.{Sheet}
-use Rattle.household_fold.specs.Households.{first_of}
+use Rattle.kept_states.specs.household_fold.Households.{first_of}
 use Rattle.kept_of_journals.specs.KeptOfBooks.{TradesLead}
 use Rattle.kept_states.specs.declared.states.KeptState.{KeptState}
 use Rattle.ledger_laws.proofs.StepsAlone.{step-alone}

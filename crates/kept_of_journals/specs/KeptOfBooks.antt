@@ -3,7 +3,7 @@ use Rattle.std.specs.Prelude.{All, List, false, length, take, ℕ, ◌<◌, ◌�
 use Rattle.agent_events.specs.Events.{Event}
 use Rattle.agent_events.specs.declared.event.EventKind.{EventKind}
 use Rattle.agent_events.specs.declared.request.FixPriceForm.{FixPriceForm}
-use Rattle.event_laws.specs.EventReplays.{is_correction}
+use Rattle.waiting_laws.specs.event_laws.EventReplays.{is_correction}
 use Rattle.kept_states.specs.KeptStates.{states_in}
 use Rattle.kept_states.specs.declared.states.HouseholdStates.{HouseholdStates}
 use Rattle.kept_states.specs.declared.states.KeptState.{KeptState}

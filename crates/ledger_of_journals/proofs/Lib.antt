@@ -16,3 +16,5 @@ pub mod ServedBooks
 pub mod Reopenings
 -- a corrected price is that of one sheet
 pub mod FixedPrices
+-- passed on to the crates above, which so needn't name the libraries below
+pub use Rattle.ledger_laws.proofs as ledger_laws

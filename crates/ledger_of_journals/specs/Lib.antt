@@ -10,3 +10,5 @@ pub mod SheetLedgers
 pub mod CorrectedLedgers
 -- the totals of a ledger, and by how much they differ between two
 pub mod LedgerTotals
+-- passed on to the crates above, which so needn't name the libraries below
+pub use Rattle.ledger_laws.specs as ledger_laws

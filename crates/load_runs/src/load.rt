@@ -38,6 +38,11 @@ fn sent<L: StepLedger>(
     Ok(running)
 }
 
+// Gives a load up, in one place for all exits.
+fn close(running: Running) {
+    running.desk.close();
+}
+
 /// What a load of 1 to 1,000 households over at most 2,000 days prints, whose draws begin from a number: the operator sends each of
 /// its requests to a desk of its own, which is kept in memory alone. No more than one request is in memory.
 pub fn load_text<L: StepLedger>(
@@ -56,8 +61,10 @@ pub fn load_text<L: StepLedger>(
       days = days;
     })) }
 {
-    let running = sent(alloc, number, households, days, steps)?;
-    let summary = summary_of(alloc, running, steps)?;
+    let mut running = sent(alloc, number, households, days, steps)?;
+    let made = summary_of(alloc, &mut running, steps);
+    close(running);
+    let summary = made?;
     let text = text_of(alloc, &summary)?;
     Ok(text)
 }

@@ -1,11 +1,11 @@
 //! The names of accepted orders.
 ghost use Rattle.std.specs.Prelude.{◌≡◌, ◌++◌, OnOk, OnErr};
-ghost use Rattle.desk_answers.specs.Answered.{events_of};
+ghost use Rattle.register_desk.specs.desk_answers.Answered.{events_of};
 ghost use Rattle.load_runs.specs.OrderNames as spec;
 
 use agent_events::{EventKind, Order, TraceForm};
-use desk_books::EventChange;
 use money_units::{List, NoMemory};
+use register_desk::EventChange;
 
 /// Orders by account and reference, as a trace names them.
 pub(crate) type OrderNames = List<TraceForm>;

@@ -28,11 +28,11 @@ pub struct Summary {
 /// The summary of a load whose requests were sent.
 pub(crate) fn summary_of<L: StepLedger>(
     alloc: Global,
-    mut running: Running,
+    running: &mut Running,
     steps: &mut Steps<L>,
 ) -> Result<Summary, NoMemory>
-    requires { HasRun running }
-    ensures { IfOk result (λ summary. summary_seen summary ≡ summary_of (run_at running)) }
+    requires { HasRun running.old }
+    ensures { IfOk result (λ summary. summary_seen summary ≡ summary_of (run_at running.old)) }
 {
     orders_are_counted();
     classes_are_shown();

@@ -50,7 +50,8 @@ fn put_class_cash(books: &ClassBooks, text: &mut Vec<u8>) -> Result<(), NoMemory
 
 /// Appends the line of a class.
 fn put_class(books: &ClassBooks, text: &mut Vec<u8>) -> Result<(), NoMemory>
-    ensures { OnOk result (text.new.items ≡ text.old.items ++ with_line_feed (class_line books.now)) }
+    ensures { OnOk result
+        (text.new.items ≡ text.old.items ++ with_line_feed (class_line books.now)) }
 {
     put_class_number(books.class, text)?;
     put_class_shares(books.outstanding, text)?;

@@ -4,3 +4,4 @@ pub mod RowByRow
 pub mod KeysOfDealers
 pub mod DesksGoOn
 pub mod LinesInRows
+pub mod BoundsGoOn

@@ -14,13 +14,12 @@ ghost use Rattle.register_machine.specs.run.Answers.{answer};
 ghost use Rattle.register_machine.specs.run.Verdicts.{verdict};
 
 use crate::faults::LedgerFault;
-use crate::prepared::{Prepared, batch_of};
+use crate::prepared::{Prepared, batch_of, give_up_answer, give_up_change, give_up_reply};
 use agent_events::{Caller, Request};
 use agent_keeper::{KeepFault, Keeper};
-use desk_answers::answer_request;
-use desk_books::DeskBooks;
+use desk_answers::{DeskBooks, answer_request};
 use household_fold::Steps;
-use money_units::Moment;
+use money_units::{Moment, NoMemory};
 use std::alloc::Global;
 use std::marker::Model;
 use std::sync::ledger::Ledger as StepLedger;
@@ -33,7 +32,7 @@ pub struct Desk {
 }
 
 impl Model for Desk {
-    ghost use Rattle.desk_books.specs.declared.books.DeskBooks.{DeskBooks as Books};
+    ghost use Rattle.desk_answers.specs.desk_books.declared.books.DeskBooks.{DeskBooks as Books};
     ghost use Rattle.register_desk.specs.Rows.{IsDesk};
 
     ghost Value = { Books };
@@ -77,7 +76,13 @@ impl Desk {
             prepared.change steps.old steps.new) }
     {
         let answered = answer_request(self.alloc, &mut self.books, moment, caller, request, steps)?;
-        let batch = batch_of(self.alloc, &answered.change)?;
+        let batch = match batch_of(self.alloc, &answered.change) {
+            Ok(batch) => batch,
+            Err(NoMemory) => {
+                give_up_answer(answered);
+                return Err(LedgerFault::NoMemory);
+            }
+        };
         Ok(Prepared {
             reply: answered.reply,
             base: self.books.book.len(),
@@ -115,15 +120,19 @@ impl Desk {
         ensures goes_on { GoesOn K.moment K.gave keeper.old keeper.new }
     {
         let Prepared {
-            reply: _,
+            reply,
             base,
             batch,
             change,
         } = prepared;
+        give_up_reply(reply);
         let Some(change) = change else {
             return Ok(());
         };
-        keeper.commit(base, &batch)?;
+        if let Err(fault) = keeper.commit(base, &batch) {
+            give_up_change(change);
+            return Err(fault);
+        }
         self.books.apply(change);
         Ok(())
     }
@@ -135,6 +144,9 @@ impl Desk {
     {
         self.books.book.caller_of(key, operator)
     }
+
+    /// Gives the desk up, whose journal lies in the store.
+    pub fn close(self) {}
 
     /// The journal is lawful.
     pub fn journal_is_lawful(&self)

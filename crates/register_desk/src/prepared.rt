@@ -6,7 +6,7 @@ ghost use Rattle.register_desk.specs.Rows.{rows_of};
 
 use agent_events::Reply;
 use agent_keeper::Batch;
-use desk_books::EventChange;
+use desk_answers::{Answered, EventChange};
 use event_rows::encode;
 use money_units::{Bytes, NoMemory};
 use std::alloc::Global;
@@ -36,7 +36,37 @@ impl Prepared {
     }
 
     /// Gives it up.
-    pub fn discard(self) {}
+    pub fn discard(self) {
+        let Prepared {
+            reply,
+            base: _,
+            batch,
+            change,
+        } = self;
+        give_up_reply(reply);
+        give_up_batch(batch);
+        give_up_changes(change);
+    }
+}
+
+// Each part is given up by itself: what a value may be, times what the next one may be, are otherwise as many ways to go.
+pub(crate) fn give_up_reply(_reply: Reply) {}
+
+pub(crate) fn give_up_batch(_batch: Batch) {}
+
+pub(crate) fn give_up_change(_change: EventChange) {}
+
+fn give_up_changes(change: Option<EventChange>) {
+    if let Some(change) = change {
+        give_up_change(change);
+    }
+}
+
+// Gives an answer up that isn't handed out.
+pub(crate) fn give_up_answer(answered: Answered) {
+    let Answered { reply, change } = answered;
+    give_up_reply(reply);
+    give_up_changes(change);
 }
 
 // The rows of the events that a change notes, as what the keeper is to append.

@@ -1,19 +1,20 @@
 //! The rows of a store, read one after the other into the books.
-ghost use Rattle.std.specs.Prelude.{◌≡◌, ◌≤◌, ◌<◌, [], Err, None, Some, IfOk, IfSome, IsTrue, OnOk, ℕ};
+ghost use Rattle.std.specs.Prelude.{◌≡◌, ◌≤◌, ◌<◌, ◌+◌, [], Err, None, Some, IfOk, IfSome, IsTrue, OnOk, slice_get, ℕ};
 ghost use Rattle.agent_keeper.specs.Calls.{GoesOn, OnlyReads, Rose};
 ghost use Rattle.agent_keeper.specs.Content.{Content};
-ghost use Rattle.desk_books.specs.BooksOfJournals.{AreBooksOf, ShowTheSame};
-ghost use Rattle.desk_books.specs.ReadyChanges.{IsReady};
+ghost use Rattle.desk_answers.specs.StepBounds.{most_steps};
+ghost use Rattle.desk_answers.specs.desk_books.BooksOfJournals.{AreBooksOf, ShowTheSame};
+ghost use Rattle.desk_answers.specs.desk_books.ReadyChanges.{IsReady};
 ghost use Rattle.event_rows.specs.InForm.{InForm};
 ghost use Rattle.event_rows.specs.Rows.{event_row};
 ghost use Rattle.register_desk.specs.Opening.{FindsNone, OpensRow, OpensRows, StopsAt};
+ghost use Rattle.register_desk.specs.OpeningBounds.{TakesUpToBad, TakesWhereBad, opening_bound};
 ghost use Rattle.register_desk.specs.Rows.{FollowsAsNone, IsDesk};
 ghost use Rattle.register_desk.specs.declared.faults.StartFault.{StartFault as Fault};
 
 use crate::faults::StartFault;
 use agent_keeper::Keeper;
-use desk_answers::follows;
-use desk_books::{DeskBooks, EventChange};
+use desk_answers::{DeskBooks, EventChange, follows};
 use event_rows::decode;
 use household_fold::Steps;
 use money_units::NoMemory;
@@ -35,6 +36,10 @@ fn change_of_row<L: StepLedger>(
     ensures ready { IfOk result (λ found. IfSome found (λ change. IsReady books.new change)) }
     ensures none { IfOk result (λ found. found ≡ None
         → FollowsAsNone (Some row.now) books.old.book.journal) }
+    ensures steps { IfOk result (λ found. IfSome found (λ change. steps.new
+        ≤ steps.old + most_steps books.old.book.journal change.event)) }
+    ensures bad_steps { IfOk result (λ found. found ≡ None
+        → TakesWhereBad (Some row.now) books.old.book.journal steps.old steps.new) }
 {
     let Some(event) = decode(alloc, row)? else {
         return Ok(None);
@@ -65,6 +70,11 @@ fn open_row<K: Keeper, L: StepLedger>(
     ensures fault { result ≡ Err Fault.Keeper → Rose (K.faults keeper.old) (K.faults keeper.new) }
     ensures no_fault { K.faults keeper.old ≤ K.faults keeper.new }
     ensures due { K.faults keeper.old < K.faults keeper.new → result ≡ Err Fault.Keeper }
+    ensures steps { OnOk result (steps.new + opening_bound books.old.book.journal
+        ≤ steps.old + opening_bound books.new.book.journal) }
+    ensures bad_steps { (at : ℕ) → result ≡ Err (Fault.Damaged at) → (kept : Content)
+        → K.tells keeper.new kept
+        → TakesWhereBad (slice_get kept.rows place) books.old.book.journal steps.old steps.new }
 {
     if !keeper.row(place, row)? {
         return Err(StartFault::Damaged(place));
@@ -99,6 +109,9 @@ pub(crate) fn open_rows<K: Keeper, L: StepLedger>(
     ensures fault { result ≡ Err Fault.Keeper → Rose (K.faults keeper.old) (K.faults keeper.new) }
     ensures no_fault { K.faults keeper.old ≤ K.faults keeper.new }
     ensures due { K.faults keeper.old < K.faults keeper.new → result ≡ Err Fault.Keeper }
+    ensures steps { OnOk result (steps.new ≤ steps.old + opening_bound books.new.book.journal) }
+    ensures bad_steps { (place : ℕ) → result ≡ Err (Fault.Damaged place) → (kept : Content)
+        → K.tells keeper.new kept → TakesUpToBad place kept.rows steps.old steps.new }
 {
     let mut row = Vec::new(alloc);
     for place in 0..count {

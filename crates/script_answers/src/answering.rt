@@ -7,7 +7,7 @@ ghost use Rattle.agent_events.specs.Items.{ScriptItem as ItemSeen};
 ghost use Rattle.agent_events.specs.declared.reply.Reply.{Reply as Said};
 ghost use Rattle.agent_http.specs.Seen.{item_seen};
 ghost use Rattle.agent_keeper.specs.Calls.{Counts};
-ghost use Rattle.desk_answers.specs.Answered.{IsCaller, events_of};
+ghost use Rattle.register_desk.specs.desk_answers.Answered.{IsCaller, events_of};
 ghost use Rattle.register_desk.specs.Rows.{TellsRowsOf};
 ghost use Rattle.register_laws.specs.Lawful.{own_at};
 ghost use Rattle.register_machine.specs.journal.Journals.{Journal, last_moment};
@@ -72,7 +72,13 @@ fn answer_request<K: Keeper, L: StepLedger>(
         Ok(prepared) => prepared,
         Err(LedgerFault::NoMemory) => return Err(KeepFault::NoMemory),
     };
-    let line = line_of(alloc, prepared.reply())?;
+    let line = match line_of(alloc, prepared.reply()) {
+        Ok(line) => line,
+        Err(NoMemory) => {
+            prepared.discard();
+            return Err(KeepFault::NoMemory);
+        }
+    };
     desk.commit(keeper, prepared)?;
     Ok(line)
 }

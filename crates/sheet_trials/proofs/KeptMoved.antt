@@ -7,17 +7,17 @@ use Rattle.checkpoint_replay.specs.declared.part.HouseholdPart.{HouseholdPart}
 use Rattle.desk_books.specs.BooksOfJournals.{AreBooksOf}
 use Rattle.desk_books.specs.declared.books.DeskBooks.{DeskBooks}
 use Rattle.household_fold.specs.Households.{Household}
-use Rattle.kept_of_journals.proofs.StatesStay.{last_is_as_of}
-use Rattle.kept_of_journals.specs.KeptOfBooks.{AreKeptOf, IsAsOf}
+use Rattle.desk_books.proofs.kept_of_journals.StatesStay.{last_is_as_of}
+use Rattle.desk_books.specs.kept_of_journals.KeptOfBooks.{AreKeptOf, IsAsOf}
 use Rattle.kept_states.specs.KeptStates.{states_in}
 use Rattle.kept_states.specs.declared.states.HouseholdStates.{HouseholdStates}
 use Rattle.kept_states.specs.declared.states.KeptState.{KeptState}
-use Rattle.ledger_of_journals.specs.Ledgers.{IsLedgerOf}
+use Rattle.desk_books.specs.ledger_of_journals.Ledgers.{IsLedgerOf}
 use Rattle.register_laws.specs.Lawful.{book_behind}
 use Rattle.register_machine.specs.journal.Journals.{Journal}
 use Rattle.register_machine.specs.pricing.CorrectedBook.{Book}
 use Rattle.register_machine.specs.replay.Trades.{Day}
-use Rattle.waiting_laws.specs.SettledOrders.{AllAreSettled}
+use Rattle.desk_books.specs.waiting_laws.SettledOrders.{AllAreSettled}
 
 -- the state of a household, where there is one, has its number and its positions
 there : (empty : Bool) (own state : Household) → cond empty None (Some own) ≡ Some state → state ≡ own

@@ -7,7 +7,7 @@ use Rattle.agent_events.specs.declared.request.AccountForm.{AccountForm}
 use Rattle.agent_events.specs.declared.request.SheetForm.{SheetForm}
 use Rattle.event_laws.proofs.EventReplays.{adds_sheet}
 use Rattle.event_laws.specs.EventReplays.{sheet_behind}
-use Rattle.ledger_of_journals.proofs.SheetAdvances.{up-to-last}
+use Rattle.desk_books.proofs.ledger_of_journals.SheetAdvances.{up-to-last}
 use Rattle.register_laws.proofs.HouseholdSheets.{quiet_leaves_part}
 use Rattle.register_laws.specs.HouseholdSheets.{IsQuiet}
 use Rattle.register_laws.specs.Households.{own_orders, part_of}

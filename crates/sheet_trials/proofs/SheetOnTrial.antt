@@ -28,13 +28,13 @@ use Rattle.gain_loss_book.specs.declared.posting.Correction.{Correction}
 use Rattle.household_fold.specs.Facts.{Known, no_sheet, sheet_at_hand}
 use Rattle.household_fold.specs.Quiet.{is_quiet_for}
 use Rattle.household_replay.specs.Replays.{NumberedOrder, day_behind, known_on, orders_under}
-use Rattle.ledger_laws.proofs.ReplaysAsPart.{replayed-in-order}
-use Rattle.ledger_laws.proofs.StepsAsPart.{steps_as_part}
-use Rattle.ledger_of_journals.proofs.LedgerTotals.{is_of_households}
-use Rattle.ledger_of_journals.proofs.ServedBooks.{new_sheet_served}
-use Rattle.ledger_of_journals.proofs.SheetAdvances.{ledger_advances}
-use Rattle.ledger_of_journals.specs.BookFacts.{ServeLastSheet}
-use Rattle.ledger_of_journals.specs.SheetLedgers.{AdvancesTo, AreRowsOn}
+use Rattle.desk_books.proofs.ledger_laws.ReplaysAsPart.{replayed-in-order}
+use Rattle.desk_books.proofs.ledger_laws.StepsAsPart.{steps_as_part}
+use Rattle.desk_books.proofs.ledger_of_journals.LedgerTotals.{is_of_households}
+use Rattle.desk_books.proofs.ledger_of_journals.ServedBooks.{new_sheet_served}
+use Rattle.desk_books.proofs.ledger_of_journals.SheetAdvances.{ledger_advances}
+use Rattle.desk_books.specs.ledger_of_journals.BookFacts.{ServeLastSheet}
+use Rattle.desk_books.specs.ledger_of_journals.SheetLedgers.{AdvancesTo, AreRowsOn}
 use Rattle.register_laws.proofs.Comparisons.{eq-no, eq-yes}
 use Rattle.register_laws.proofs.NothingBefore.{begins_anew, last-brought}
 use Rattle.register_laws.proofs.OneEventMore.{gathers-on}

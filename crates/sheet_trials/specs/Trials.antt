@@ -6,12 +6,12 @@ use Rattle.agent_events.specs.declared.request.SheetForm.{SheetForm}
 use Rattle.desk_books.specs.declared.books.DeskBooks.{DeskBooks}
 use Rattle.household_fold.specs.Facts.{Known}
 use Rattle.journal_tables.specs.TablesOfJournals.{AreTablesOf}
-use Rattle.ledger_of_journals.specs.Ledgers.{IsLedgerOf}
+use Rattle.desk_books.specs.ledger_of_journals.Ledgers.{IsLedgerOf}
 use Rattle.register_laws.specs.Lawful.{book_behind}
 use Rattle.register_laws.specs.OneEventMore.{corrected_table}
 use Rattle.register_machine.specs.journal.Journals.{with_event}
 use Rattle.register_machine.specs.journal.Lawful.{IsLawful}
-use Rattle.waiting_laws.specs.IndexOfJournals.{IsIndexOf}
+use Rattle.desk_books.specs.waiting_laws.IndexOfJournals.{IsIndexOf}
 
 -- what a step reads of the books, with the sheet of this number at hand
 abbrev pub known_in : DeskBooks → ℕ → Known

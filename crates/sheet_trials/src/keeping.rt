@@ -1,10 +1,10 @@
 //! The states of the households that a sheet moves are kept as they stand before it, now and then.
 ghost use Rattle.std.specs.Prelude.{◌≡◌, IfOk, length};
 ghost use Rattle.desk_books.specs.BooksOfJournals.{AreBooksOf, ShowTheSame};
-ghost use Rattle.kept_of_journals.specs.KeptOfBooks.{AreKeptOf};
-ghost use Rattle.ledger_of_journals.specs.Ledgers.{IsLedgerOf};
+ghost use Rattle.desk_books.specs.kept_of_journals.KeptOfBooks.{AreKeptOf};
+ghost use Rattle.desk_books.specs.ledger_of_journals.Ledgers.{IsLedgerOf};
 ghost use Rattle.register_machine.specs.pricing.CorrectedBook.{Book};
-ghost use Rattle.waiting_laws.specs.SettledOrders.{AllAreSettled, first_waiting};
+ghost use Rattle.desk_books.specs.waiting_laws.SettledOrders.{AllAreSettled, first_waiting};
 
 use checkpoint_replay::{HouseholdMove, Ledger};
 use desk_books::DeskBooks;

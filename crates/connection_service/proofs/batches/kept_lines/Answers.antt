@@ -9,6 +9,6 @@ use Rattle.register_laws.specs.Lawful.{own_at}
 -- The text of the replies that were prepared is what the machine says.
 pub returns-clause-bytes : goal.returns-clause-bytes
 returns-clause-bytes g c =
-    c.in_ok-bytes.ensures
+    c.in-Ok-batch_text.ensures
     ∙ ap (λ (replies : List Reply). batch_text c.args.caller replies c.args.last) c.replies.ensures
     ∙ sym (batch-bytes c.args.last c.args.lines.now (own_at c.args.desk.now.book.journal c.args.moment c.args.caller) (batch_prepared c.in-Ok.prepared) c.in-Ok.ensures.answer)

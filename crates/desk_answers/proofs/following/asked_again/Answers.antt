@@ -2,7 +2,7 @@ use Rattle.std.proofs.Common.{ap, subst, sym, ◌∙◌, ◌≤◌}
 use Rattle.agent_events.specs.Events.{request_of}
 use Rattle.agent_events.specs.declared.event.EventKind.{EventKind}
 use Rattle.agent_events.specs.declared.verdict.Caller.{Caller}
-use Rattle.desk_answers.proofs.AskedAgain.{asked_as, asker_is_caller}
+use Rattle.desk_answers.proofs.AskedAgain.{asked_as, asker_is_caller, steps_asked}
 use Rattle.desk_answers.proofs.following.asked_again.Goals as goal
 use Rattle.desk_answers.specs.Answered.{IsCaller}
 use Rattle.register_machine.specs.journal.Journals.{last_moment}
@@ -25,3 +25,11 @@ returns-clause-answer g c =
     (c.asker_of-caller.ensures ∙ ap (λ (kind : EventKind). asker_of c.args.books.now.book.journal kind) c.kind-kind.ensures.kind)
     (c.in_ok-request.ensures ∙ ap (λ (kind : EventKind). request_of kind) c.kind-kind.ensures.kind)
     c.answer_request.ensures.answer
+
+pub returns-clause-steps : goal.returns-clause-steps
+returns-clause-steps g c =
+    steps_asked c.args.books.now.book.journal c.args.books.now.orders.owners c.args.event.now c.args.steps.now _ c.answer_request.result
+    c.moment-moment.ensures
+    (c.asker_of-caller.ensures ∙ ap (λ (kind : EventKind). asker_of c.args.books.now.book.journal kind) c.kind-kind.ensures.kind)
+    (c.in_ok-request.ensures ∙ ap (λ (kind : EventKind). request_of kind) c.kind-kind.ensures.kind)
+    c.answer_request.ensures.steps

@@ -1,5 +1,7 @@
-use Rattle.std.proofs.Common.{sym, ◌∙◌}
+use Rattle.std.proofs.Common.{inl, refl, sym, ◌∙◌}
 use Rattle.desk_answers.proofs.AskedAgain.{found_ready, never_before, not_before, not_found_never_follows}
+use Rattle.desk_answers.proofs.StepsAgain.{steps_found}
+use Rattle.desk_answers.proofs.StepsCounted.{few_found, found_lawful}
 use Rattle.desk_answers.proofs.following.follows.Goals as goal
 use Rattle.register_machine.specs.journal.Journals.{last_moment}
 
@@ -20,3 +22,23 @@ pub returns-clause-none : goal.returns-clause-none
 returns-clause-none g c =
     λ none lawful. not_found_never_follows c.args.books.now.book.journal c.args.event.now c.in_ok-answered.answered
     c.in_ok-answered.ensures.answer (sym c.change_to.ensures ∙ none) lawful
+
+pub returns-then-is_before-clause-steps : goal.returns-then-is_before-clause-steps
+returns-then-is_before-clause-steps g c = inl refl
+
+pub returns-clause-steps : goal.returns-clause-steps
+returns-clause-steps g c =
+    steps_found c.args.books.now.book.journal c.args.books.now.orders.owners c.args.event.now c.in_ok-answered.answered c.change_to.result
+    c.args.steps.now _ c.change_to.ensures c.in_ok-answered.ensures.answer c.in_ok-answered.ensures.steps
+
+pub returns-then-is_before-clause-few : goal.returns-then-is_before-clause-few
+returns-then-is_before-clause-few g c = inl refl
+
+pub returns-clause-few : goal.returns-clause-few
+returns-clause-few g c =
+    let journal = c.args.books.now.book.journal in
+    few_found journal c.args.books.now.orders.owners c.args.steps.now _ c.requires.books.lawful c.requires.books.index.owned c.args.event.now c.change_to.result
+    (found_lawful journal c.asked_again.new.books c.args.event.now c.change_to.result c.asked_again.ensures.journal
+    (found_ready journal c.asked_again.new.books c.args.event.now c.in_ok-answered.answered c.change_to.result c.change_to.ensures c.in_ok-answered.ensures.answer c.in_ok-answered.ensures.ready))
+    (steps_found journal c.args.books.now.orders.owners c.args.event.now c.in_ok-answered.answered c.change_to.result
+    c.args.steps.now _ c.change_to.ensures c.in_ok-answered.ensures.answer c.in_ok-answered.ensures.steps)

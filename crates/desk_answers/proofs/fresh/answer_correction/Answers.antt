@@ -1,6 +1,6 @@
 use Rattle.std.proofs.Common.{subst, sym}
 use Rattle.correction_trials.specs.Settled.{KeepsStates}
-use Rattle.kept_of_journals.specs.KeptOfBooks.{AreKeptOf}
+use Rattle.correction_trials.specs.kept_of_journals.KeptOfBooks.{AreKeptOf}
 use Rattle.order_book.specs.Books.{NotedJournal}
 use Rattle.register_laws.specs.Lawful.{book_behind}
 use Rattle.register_machine.specs.journal.Journals.{with_event}

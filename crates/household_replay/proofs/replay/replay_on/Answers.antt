@@ -7,7 +7,7 @@ use Rattle.household_replay.proofs.PremiseFacts.{can-go_on, next-facts, next-lot
 use Rattle.household_replay.specs.BusySheets.{busy_sheets, steps_over}
 use Rattle.household_replay.specs.Premises.{CanBeReplayed}
 use Rattle.household_replay.specs.Replays.{day_behind, days_behind, known_on, orders_under}
-use Rattle.register_machine.specs.replay.Trades.{Day}
+use Rattle.household_fold.specs.register_machine.replay.Trades.{Day}
 use Rattle.household_replay.proofs.replay.replay_on.Goals as goal
 
 pub overflow_add-sheet : goal.overflow_add-sheet

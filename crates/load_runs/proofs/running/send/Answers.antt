@@ -1,7 +1,7 @@
 use Rattle.std.proofs.Common.{Bool, List, ap, cond, sym, ℕ, ◌++◌, ◌+◌, ◌∙◌}
 use Rattle.agent_events.specs.Events.{Event}
 use Rattle.agent_events.specs.declared.request.TraceForm.{TraceForm}
-use Rattle.desk_answers.specs.Answered.{events_of}
+use Rattle.register_desk.specs.desk_answers.Answered.{events_of}
 use Rattle.load_requests.specs.Runs.{is_refusal}
 use Rattle.load_runs.proofs.Sending.{names_more, step_is}
 use Rattle.load_runs.specs.OrderNames.{order_names}

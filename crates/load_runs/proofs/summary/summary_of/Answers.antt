@@ -11,11 +11,11 @@ use Rattle.load_runs.proofs.summary.summary_of.Goals as goal
 -- What was counted of the names is what the book has, and what was seen is what the register has.
 pub returns : goal.returns
 returns g c =
-    let journal = c.args.running.desk.book.journal in
+    let journal = c.args.running.now.desk.book.journal in
     let lawful = c.journal_is_lawful.ensures in
     let named = c.as_slice.ensures ∙ c.requires.names in
     let after = c.classes_of.ensures.journal ∙ c.count_orders.ensures.journal in
-    summary_made (run_at c.args.running) _
+    summary_made (run_at c.args.running.now) _
     (record {
       events = c.len.ensures ∙ ap (λ (events : List Event). length events) after;
       sheets = sheets_counted c.sheets.result c.classes_of.new.desk.book.journal journal c.sheets.ensures after (c.sheets_are_counted.ensures journal);

@@ -1,9 +1,11 @@
-use Rattle.std.proofs.Common.{List, Some, ap, subst, sym, ℕ, ◌≡◌, ◌∙◌}
+use Rattle.std.proofs.Common.{List, Option, Some, ap, subst, sym, ℕ, ◌≡◌, ◌∙◌}
 use Rattle.agent_keeper.specs.Calls.{Gives, row_is}
 use Rattle.event_rows.specs.InForm.{InForm}
 use Rattle.event_rows.specs.Rows.{event_row}
+use Rattle.register_desk.proofs.BoundsGoOn.{grows_by}
 use Rattle.register_desk.proofs.DesksGoOn.{desk_more, desk_same}
 use Rattle.register_desk.proofs.RowByRow.{damaged_place}
+use Rattle.register_desk.specs.OpeningBounds.{TakesWhereBad}
 use Rattle.register_machine.specs.journal.Journals.{Journal, with_event}
 use Rattle.register_desk.proofs.stored.open_row.Goals as goal
 
@@ -40,3 +42,17 @@ returns-in_default-clause-damaged g c = λ at is. (
     bad = λ event fits is. c.in_ok-change.ensures.none c.in_default.is event fits (ap Some c.as_slice.ensures.value ∙ is);
   },
 )
+
+-- The bound grows by what the event counts.
+pub returns-clause-steps : goal.returns-clause-steps
+returns-clause-steps g c =
+    grows_by c.args.books.now.book.journal c.apply.new.self.book.journal c.in-Some.change.event c.args.steps.now c.change_of_row.new.steps
+    (c.apply.ensures.noted ∙ ap (λ (journal : Journal). with_event journal c.in-Some.change.event) c.in_ok-change.ensures.journal)
+    (rw c.in-Some.is at c.in_ok-change.ensures.steps)
+
+-- The bad row takes what the event of it takes.
+pub returns-in_default-clause-bad_steps : goal.returns-in_default-clause-bad_steps
+returns-in_default-clause-bad_steps g c = λ at is kept told.
+    subst (λ (row : Option (List ℕ)). TakesWhereBad row c.args.books.now.book.journal c.args.steps.now c.change_of_row.new.steps)
+    (ap Some c.as_slice.ensures.value ∙ sym (rw c.if-not-branch.false at (c.in_ok-row.ensures.exact kept told)))
+    (c.in_ok-change.ensures.bad_steps c.in_default.is)

@@ -1,7 +1,9 @@
-use Rattle.std.proofs.Common.{Err, arith, refl, subst, ◌≡◌, ◌∙◌}
+use Rattle.std.proofs.Common.{Err, arith, refl, subst, sym, ◌≡◌, ◌∙◌}
 use Rattle.std.proofs.lemmas.Result.{err_from_is_err_and}
+use Rattle.register_desk.proofs.BoundsGoOn.{grows_then, takes_up_to_bad}
 use Rattle.register_desk.proofs.RowByRow.{goes_none, goes_then, ok_err, opens_more, opens_none, reads_none, reads_then, same_count, stops_at}
 use Rattle.register_desk.specs.Opening.{OpensRows}
+use Rattle.register_desk.specs.OpeningBounds.{TakesUpToBad, opening_bound}
 use Rattle.register_desk.specs.declared.faults.StartFault.{StartFault}
 use Rattle.register_desk.proofs.stored.open_rows.Goals as goal
 
@@ -13,6 +15,7 @@ loop-place-init g c = record {
   speaks = λ honest kept told. told;
   goes_on = goes_none g.K.Keeper.moment g.K.Keeper.gave c.args.keeper.now;
   faults = refl;
+  steps = omega arith;
 }
 
 -- The row at this place is the first that is none.
@@ -36,6 +39,8 @@ loop-place-preserved g c = record {
   speaks = λ honest kept told. c.in_ok-open_row.ensures.speaks honest kept (c.loop-place.invariant.speaks (c.open_row.ensures.reads.was_honest honest) kept told);
   goes_on = goes_then g.K.Keeper.tells g.K.Keeper.moment g.K.Keeper.gave c.args.keeper.now c.loop-place.keeper c.open_row.new.keeper c.loop-place.invariant.goes_on c.open_row.ensures.goes_on;
   faults = same_count (g.K.Keeper.faults c.loop-place.keeper) (g.K.Keeper.faults c.open_row.new.keeper) c.open_row.ensures.no_fault (λ rose. ok_err _ (c.in_ok-open_row.ensures.due rose)) ∙ c.loop-place.invariant.faults;
+  steps = grows_then c.args.steps.now (opening_bound c.loop-place.books.book.journal) (opening_bound c.open_row.new.books.book.journal) c.loop-place.steps c.open_row.new.steps
+      c.loop-place.invariant.steps c.in_ok-open_row.ensures.steps;
 }
 
 -- All rows are read.
@@ -43,3 +48,14 @@ pub returns-clause-opened : goal.returns-clause-opened
 returns-clause-opened g c =
     let all : c.loop-place.place ≡ c.args.count = omega (arith, c.loop-place-test.false, c.loop-place.auto.place-end) in
     subst (λ n. OpensRows g.K.Keeper.tells g.K.Keeper.moment g.K.Keeper.gave c.args.keeper.now c.loop-place.keeper n c.loop-place.books) all c.loop-place.invariant.opened
+
+-- The steps up to the bad row.
+pub returns-in_err-open_row-clause-bad_steps : goal.returns-in_err-open_row-clause-bad_steps
+returns-in_err-open_row-clause-bad_steps g c = λ place is kept told.
+    let exit = err_from_is_err_and c.from_residual.result c.from_residual.ensures.1 in
+    let same : Err c.in_err-open_row.field-0.0 ≡ Err (StartFault.Damaged place) = grind (arith, exit.1, exit.2, is) in
+    let found = c.in_err-open_row.ensures.damaged place same in
+    subst (λ at. TakesUpToBad at kept.rows c.args.steps.now c.open_row.new.steps) (sym found.0)
+    (takes_up_to_bad g.K.Keeper.tells g.K.Keeper.moment g.K.Keeper.gave c.args.keeper.now c.loop-place.keeper c.loop-place.place c.loop-place.books kept
+    c.args.steps.now c.loop-place.steps c.open_row.new.steps c.loop-place.invariant.opened (c.open_row.ensures.reads.told kept told)
+    c.loop-place.invariant.steps (c.in_err-open_row.ensures.bad_steps place same kept told))

@@ -2,8 +2,8 @@ use Rattle.std.proofs.Common.{ap, length, subst, sym, ℕ, ◌∙◌}
 use Rattle.forward_price.specs.PriceTables.{Table}
 use Rattle.register_laws.specs.Lawful.{book_behind}
 use Rattle.sheet_trials.proofs.KeptMoved.{kept-show-the-same}
-use Rattle.waiting_laws.proofs.SettledStay.{settled_before_waiting}
-use Rattle.waiting_laws.specs.SettledOrders.{AllAreSettled, first_waiting}
+use Rattle.desk_books.proofs.waiting_laws.SettledStay.{settled_before_waiting}
+use Rattle.desk_books.specs.waiting_laws.SettledOrders.{AllAreSettled, first_waiting}
 use Rattle.sheet_trials.proofs.keeping.keep_moved.Goals as goal
 
 pub returns-clause-same : goal.returns-clause-same

@@ -1,9 +1,9 @@
 -- The kept states so far are what the households came to.
 use Rattle.std.proofs.Common.{length, ◌≡◌}
-use Rattle.kept_of_journals.specs.KeptOfBooks.{AreKeptOf}
-use Rattle.ledger_of_journals.specs.Ledgers.{IsLedgerOf}
+use Rattle.desk_books.specs.kept_of_journals.KeptOfBooks.{AreKeptOf}
+use Rattle.desk_books.specs.ledger_of_journals.Ledgers.{IsLedgerOf}
 use Rattle.register_machine.specs.pricing.CorrectedBook.{Book}
-use Rattle.waiting_laws.specs.SettledOrders.{AllAreSettled}
+use Rattle.desk_books.specs.waiting_laws.SettledOrders.{AllAreSettled}
 use Rattle.sheet_trials.proofs.keeping.keep_states.Given as goal
 
 abbrev pub invariant-loop-change : goal.invariant-loop-change

@@ -48,3 +48,10 @@ returns-in_err-open_rows-clause-due g c = λ rose.
     let before = c.in_ok-count.ensures.counted.same (λ fault. number_err c.in_ok-count.count KeepFault.Failed fault) in
     let due = c.in_err-open_rows.ensures.due (subst (λ n. n < g.K.Keeper.faults c.open_rows.new.keeper) (sym before) rose) in
     grind (arith, exit.1, exit.2, due)
+
+-- The steps up to the bad row are those of the reading.
+pub returns-in_err-open_rows-clause-damaged_steps : goal.returns-in_err-open_rows-clause-damaged_steps
+returns-in_err-open_rows-clause-damaged_steps g c = λ place is kept told.
+    let exit = err_from_is_err_and c.from_residual-in_err-open_rows.result c.from_residual-in_err-open_rows.ensures.1 in
+    let same : Err c.in_err-open_rows.field-0.0 ≡ Err (StartFault.Damaged place) = grind (arith, exit.1, exit.2, is) in
+    c.in_err-open_rows.ensures.bad_steps place same kept told

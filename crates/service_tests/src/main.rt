@@ -36,3 +36,10 @@ mod texts;
 mod unfilled;
 #[cfg(test)]
 mod worked;
+
+use std::process::ExitCode;
+
+/// Nothing: this crate is its tests. It is a program and no library, since nothing stands on it.
+fn main(_rt: HostRuntime) -> ExitCode {
+    ExitCode::SUCCESS
+}
