@@ -72,6 +72,10 @@ sum-has_mils f (x ∷ xs) none = elim (leb_tells 1 (mils x)) [
 pub taking-keeps_mils : (asked : ℕ) (lots : List Lot) → sum_by (λ p. p.mils) (pieces asked lots) + sum_by mils (filter has_mils (lots_less asked lots)) ≡ sum_by mils lots
 taking-keeps_mils asked lots = rw (sum-has_mils mils (lots_less asked lots) (λ k d short none. none)) (mils_kept asked lots)
 
+-- so the mils that are left are those before without the ones that are asked
+pub mils-taken : (asked : ℕ) (lots : List Lot) → asked ≤ sum_by (λ l. l.loose) lots → sum_by mils lots - asked ≡ sum_by mils (filter has_mils (lots_less asked lots))
+mils-taken asked lots enough = omega (arith, taking-keeps_mils asked lots, pieces-whole asked lots enough)
+
 pub taking-keeps_cost : (asked : ℕ) (lots : List Lot) → All (λ l. 1 ≤ mils l) lots → sum_by (λ p. p.cost) (pieces asked lots) + sum_by (λ l. l.cost) (filter has_mils (lots_less asked lots)) ≡ sum_by (λ l. l.cost) lots
 taking-keeps_cost asked lots some = rw (sum-has_mils (λ (l : Lot). l.cost) (lots_less asked lots) (no_cost asked lots some)) (cost_kept asked lots some)
 

@@ -15,7 +15,7 @@ use Rattle.money_units.proofs.RoundingFacts.{half-mul, half-rises}
 use Rattle.share_lots.specs.declared.lot.Lot.{Lot}
 use Rattle.share_lots.specs.declared.lot.Piece.{Piece}
 use Rattle.share_lots.specs.Lots.{Holding, IsHolding, IsLot, mils, AreRanked, ranks_before, most_mils, most_cost, HasLoose, hold_in, release_lot, join_free, lots_with, with_lot, lot_joined}
-use Rattle.share_lots.specs.Taking.{lot_less, pieces_of, pieces, lots_less, has_mils}
+use Rattle.share_lots.specs.Taking.{lot_less, piece_cost, pieces_of, pieces, lots_less, has_mils}
 use Rattle.share_lots.proofs.OrderLemmas.{ranks-owned, ranks-next, ranks-either}
 
 pub All-tail : {X : Type 0} (P : X → Type 0) (x : X) (xs : List X) → All P (x ∷ xs) → All P xs
@@ -132,6 +132,22 @@ Follows-lots_less asked (x ∷ xs) = (Stays-lot_less x (min x.loose asked), Foll
 -- the cost of a piece is at most the lot's, and all of it for all mils
 pub half-le : (c q w : ℕ) → 1 ≤ w → q ≤ w → half (c * q) w ≤ c
 half-le c q w positive h = omega (arith, half-rises (c * q) (c * w) w positive (mul-le-mul_left c h), half-mul c w positive)
+
+-- a lot that gives nothing is as it was
+pub nothing-less : (lot : Lot) → 1 ≤ mils lot → lot ≡ lot_less lot 0
+nothing-less lot some = rw (no_cost, loose_kept, cost_kept) refl
+  where
+    loose_kept : lot.loose - 0 ≡ lot.loose
+    loose_kept = omega arith
+
+    cost_kept : lot.cost - 0 ≡ lot.cost
+    cost_kept = omega arith
+
+    none : lot.cost * 0 ≡ 0
+    none = omega arith
+
+    no_cost : piece_cost lot 0 ≡ 0
+    no_cost = ap (λ n. half n (mils lot)) none ∙ omega (arith, half-le 0 0 (mils lot) some (omega arith))
 
 -- the loop over the lots that give pieces
 pub pieces-more : (lots : List Lot) (i left : ℕ) (d : Lot) → i < length lots → pieces left (drop i lots) ≡ pieces_of (get_or lots i d) (min (get_or lots i d).loose left) ++ pieces (left - min (get_or lots i d).loose left) (drop (i + 1) lots)

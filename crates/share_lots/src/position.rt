@@ -266,7 +266,7 @@ impl Position {
         let pieces = take_pieces(alloc, &self.lots, mils.0)?;
         reduce_lots(&mut self.lots, mils.0);
         remove_empty(&mut self.lots);
-        self.mils = mils_total(&self.lots);
+        self.mils -= mils.0;
         self.cost = cost_total(&self.lots);
         Ok(pieces)
     }
@@ -278,7 +278,7 @@ impl Position {
     {
         reduce_lots(&mut self.lots, mils.0);
         remove_empty(&mut self.lots);
-        self.mils = mils_total(&self.lots);
+        self.mils -= mils.0;
         self.cost = cost_total(&self.lots);
     }
 

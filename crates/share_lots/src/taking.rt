@@ -80,8 +80,19 @@ pub(crate) fn reduce_lots(lots: &mut [Lot], asked: u64)
     let mut left = asked;
     for lot in lots.iter_mut() {
         let quantity = loose_of(lot).min(left);
-        *lot = lot_less(lot, quantity);
+        lessen(lot, quantity);
         left -= quantity;
+    }
+}
+
+/// Takes so many loose mils from a lot, which stays as it is where they are none.
+fn lessen(lot: &mut Lot, quantity: u64)
+    requires lot { spec.IsLot lot.old }
+    requires within { quantity ≤ lot.old.loose }
+    ensures { lot.new ≡ taking.lot_less lot.old quantity }
+{
+    if quantity > 0 {
+        *lot = lot_less(lot, quantity);
     }
 }
 

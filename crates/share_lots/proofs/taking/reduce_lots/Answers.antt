@@ -4,8 +4,8 @@ use Rattle.share_lots.specs.Taking.{lot_less}
 use Rattle.share_lots.proofs.LotLemmas.{reduced-more, reduced-all, same_rest, rest-set}
 use Rattle.share_lots.proofs.taking.reduce_lots.Goals as goal
 
-pub lot_less-requires-clause-lot : goal.lot_less-requires-clause-lot
-lot_less-requires-clause-lot c =
+pub lessen-requires-clause-lot : goal.lessen-requires-clause-lot
+lessen-requires-clause-lot c =
     let short : c.loop-lot.lot-index < length c.loop-lot.lots = omega arith in
     let same = same_rest c.loop-lot.lots c.args.lots.now c.loop-lot.lot-index c.lot-item.result short c.loop-lot-test.true c.loop-lot.invariant.rest in
     rw same.0 (c.requires c.loop-lot.lot-index c.lot-item.result c.loop-lot-test.true)
@@ -15,10 +15,10 @@ loop-lot-preserved c =
     let x = c.lot-item.result in
     let short : c.loop-lot.lot-index < length c.loop-lot.lots = omega arith in
     let quantity : c.min-quantity.result ≡ min x.loose c.loop-lot.left = c.min-quantity.ensures ∙ ap (λ n. min n c.loop-lot.left) (c.loose_of.ensures ∙ ap (λ (l : Lot). l.loose) (sym c.lot-item.is)) in
-    let less : c.lot_less.result ≡ lot_less x (min x.loose c.loop-lot.left) = c.lot_less.ensures ∙ ap (λ (l : Lot). lot_less l c.min-quantity.result) (sym c.lot-item.is) ∙ ap (lot_less x) quantity in
+    let less : c.lessen.new.lot ≡ lot_less x (min x.loose c.loop-lot.left) = c.lessen.ensures ∙ ap (λ (l : Lot). lot_less l c.min-quantity.result) (sym c.lot-item.is) ∙ ap (lot_less x) quantity in
     record {
       done = rw (less, quantity) (reduced-more c.loop-lot.lots c.args.lots.now c.loop-lot.lot-index c.loop-lot.left c.args.asked x short c.lot-item.is c.loop-lot.invariant.done);
-      rest = rest-set c.loop-lot.lots c.args.lots.now c.loop-lot.lot-index c.lot_less.result x short c.loop-lot-test.true c.loop-lot.invariant.rest;
+      rest = rest-set c.loop-lot.lots c.args.lots.now c.loop-lot.lot-index c.lessen.new.lot x short c.loop-lot-test.true c.loop-lot.invariant.rest;
     }
 
 pub returns : goal.returns
