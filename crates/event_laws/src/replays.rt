@@ -39,12 +39,14 @@ pub fn sheets_are_days_more()
 
 /// The trades of orders are in the order of execution, by sheet, and on a sheet by receipt and then place in the journal; so the
 /// first of some trades is told by their sheets and their orders.
+#[tactic(auto, using(crate::proofs::OrderTurns::trades_in_turn))]
 pub fn trades_are_in_turn()
     ensures { (book : Book) → TradesAreInTurn book }
 {}
 
 /// Among the first orders that a correction breaks in each household's part, the first of all is the one that is executed before
 /// all others.
+#[tactic(auto, using(crate::proofs::FirstBroken::first_broken_is_first))]
 pub fn the_first_broken_is_executed_first()
     ensures { (book : Book) (order : Option Order) (before : Day) (accounts : List AccountForm)
         (household : ℕ) → FirstBrokenIsFirst book order before accounts household }

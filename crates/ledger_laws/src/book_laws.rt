@@ -9,6 +9,7 @@ ghost use Rattle.ledger_laws.specs.TrialBooks.{LawfulTrialIsSound};
 
 /// The book of a lawful journal is sound: orderly, with orders and sheets that name classes of it, and sheets whose moments are in
 /// range.
+#[tactic(auto, using(crate::proofs::SoundBooks::has_a_sound_book))]
 pub fn lawful_journals_have_a_sound_book()
     ensures { (journal : Journal) → LawfulHasASoundBook journal }
 {}

@@ -8,6 +8,7 @@ ghost use Rattle.ledger_laws.specs.OwnedByAccounts.{OrderlyNumbersWithin, SoundB
 /// By the facts of a sound book, which have the terms of each class, the positions of a household's part are of its accounts and in
 /// classes that have terms, after any number of sheets; and its orders on a sheet are of its accounts, and of classes that the
 /// sheet lists.
+#[tactic(auto, using(crate::proofs::OwnedParts::owned_by_accounts))]
 pub fn parts_are_owned()
     ensures { (known : Known) (book : Book) (household : ℕ)
         → SoundPartsAreOwned known book household }
@@ -15,6 +16,7 @@ pub fn parts_are_owned()
 
 /// In an orderly book the numbers of lots in a household's part stay within 32 bits after any number of sheets, for every account
 /// and class; and where the book is within limits and in range its open letters keep their limits.
+#[tactic(auto, using(crate::proofs::PartLimits::numbers_within))]
 pub fn numbers_of_lots_stay_within()
     ensures { (book : Book) (household : ℕ) → OrderlyNumbersWithin book household }
 {}

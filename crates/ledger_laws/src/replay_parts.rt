@@ -37,6 +37,7 @@ pub fn replayed_registers_stand_in_order()
 
 /// A household's standing orders in turn, each under the number of the sheet that prices it, are under each sheet's number its
 /// orders on that sheet, in turn.
+#[tactic(auto, using(crate::proofs::OrderRows::rows_by_sheets))]
 pub fn orders_stand_under_their_sheets()
     ensures { (book : Book) (household : ℕ) → RowsOfPartAreItsOrders book household }
 {}
@@ -48,6 +49,7 @@ pub fn orders_stand_sheet_by_sheet()
 
 /// And a sheet's orders in turn, each under the number of its account's household, are under each household's number its orders
 /// on the sheet, in turn.
+#[tactic(auto, using(crate::proofs::OrderRows::rows_by_households))]
 pub fn orders_stand_under_their_households()
     ensures { (book : Book) (sheet : Sheet) (household : ℕ)
         → RowsOfSheetAreOfHouseholds book sheet household }

@@ -17,6 +17,7 @@ pub fn households_reopen_to_their_parts()
 {}
 
 /// Orders that are under the number of each sheet the household's on it, in turn, are those of its replay.
+#[tactic(auto, using(crate::proofs::CorrectedParts::standing_are_rows))]
 pub fn orders_under_sheets_are_rows()
     ensures { (rows : List NumberedOrder) (book : Book) (household : ℕ)
         → StandingAreRows rows book household }
@@ -24,18 +25,21 @@ pub fn orders_under_sheets_are_rows()
 
 /// From a ledger of one book come the parts of a ledger of another one of the same accounts, where each household is either
 /// replayed by the facts of the other book or has the same part in both and stays.
+#[tactic(auto, using(crate::proofs::CorrectedParts::ledger_corrected))]
 pub fn ledgers_are_corrected()
     ensures { (known : Known) (before after : Book) (parts new : List (ℕ × HouseholdPart))
         → LedgerIsCorrected known before after parts new }
 {}
 
 /// No moves reopen no household.
+#[tactic(auto, using(crate::proofs::Reopenings::none_reopened))]
 pub fn no_moves_are_reopenings()
     ensures { (known : Known) (book : Book) (parts : List (ℕ × HouseholdPart))
         → AreReopenings known book parts [] }
 {}
 
 /// The moves of one household, to what its replay by its own orders leaves, reopen it.
+#[tactic(auto, using(crate::proofs::Reopenings::one_reopened))]
 pub fn one_household_is_reopened()
     ensures { (known : Known) (rows : List NumberedOrder) (book : Book)
         (parts : List (ℕ × HouseholdPart)) (moves : List HouseholdMove) (household : ℕ)
@@ -43,6 +47,7 @@ pub fn one_household_is_reopened()
 {}
 
 /// Moves that reopen households, joined to moves that reopen others, reopen all of them.
+#[tactic(auto, using(crate::proofs::Reopenings::reopenings_join))]
 pub fn reopenings_join()
     ensures { (known : Known) (book : Book) (parts : List (ℕ × HouseholdPart))
         (moves others : List HouseholdMove) → ReopeningsJoin known book parts moves others }
@@ -56,6 +61,7 @@ pub fn reopenings_correct_ledgers()
 {}
 
 /// A correction opens no account.
+#[tactic(auto, using(crate::proofs::CorrectedParts::keeps_accounts))]
 pub fn corrections_keep_accounts()
     ensures { (journal : Journal) (event : Event) → CorrectionKeepsAccounts journal event }
 {}

@@ -10,6 +10,7 @@ ghost use Rattle.ledger_of_journals.specs.TableFacts.{FactsBehindServe, LawfulPr
 ghost use Rattle.register_machine.specs.journal.Journals.{Journal};
 
 /// Facts with the tables of a journal and the sheets of its book serve the book, lawful or not.
+#[tactic(auto, using(crate::proofs::ServedBooks::facts_behind_serve))]
 pub fn facts_of_journals_serve()
     ensures { (known : Known) (journal : Journal) → FactsBehindServe known journal }
 {}

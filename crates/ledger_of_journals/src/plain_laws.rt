@@ -8,11 +8,13 @@ ghost use Rattle.register_machine.specs.journal.Journals.{Journal};
 ghost use Rattle.register_machine.specs.pricing.CorrectedBook.{Book};
 
 /// Nothing kept of any household is the ledger of the empty journal.
+#[tactic(auto, using(crate::proofs::LedgersOfBooks::empty_ledger))]
 pub fn empty_ledgers_are_those_of_no_event()
     ensures { IsLedgerOf (book_behind []) [] }
 {}
 
 /// Parts that show the same as a ledger of a book are one of it, too: so it is with room made in it.
+#[tactic(auto, using(crate::proofs::LedgersOfBooks::same_shown))]
 pub fn ledgers_are_told_by_what_they_show()
     ensures { (book : Book) (parts others : List (ℕ × HouseholdPart))
         → SameShownIsALedger book parts others }

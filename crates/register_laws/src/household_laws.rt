@@ -82,6 +82,7 @@ pub fn sheets_of_lawful_journals_never_fall()
 /// So in a lawful journal. And an event of an order leaves the parts of all households as they were but its account's, and up to
 /// a sheet the whole register and all trades, where the order is on none of the sheets up to it, neither before the event nor
 /// behind it.
+#[tactic(auto, using(crate::proofs::OrderReach::event_reach))]
 pub fn events_reach_so_far()
     ensures { (journal : Journal) (event : Event) → LawfulEventReach journal event }
 {}
