@@ -16,6 +16,10 @@ use std::alloc::Global;
 /// The version of the rows that are written.
 const VERSION: u8 = 1;
 
+/// The bytes for which a row takes memory at first. An order's row has fewer, so that it doesn't
+/// grow while it is written.
+const USUAL_ROW: usize = 64;
+
 /// The row of an event.
 #[tactic(auto, unfolding(crate::specs::Rows::event_row))]
 pub fn encode(alloc: Global, event: &Event) -> Result<Vec<u8>, NoMemory>
@@ -23,7 +27,7 @@ pub fn encode(alloc: Global, event: &Event) -> Result<Vec<u8>, NoMemory>
     // So what is written is read again.
     ensures in_form { IfOk result (λ bytes. InForm event.now) }
 {
-    let mut row = RowWriter::new(alloc);
+    let mut row = RowWriter::with_room(alloc, USUAL_ROW)?;
     row.byte(VERSION)?;
     row.byte(kind_number(event.kind()))?;
     row.u64(event.moment().number())?;

@@ -1,5 +1,6 @@
 -- The index of names, once one name more is pushed.
-use Rattle.std.proofs.Common.{Bool, List, None, Option, Some, [], ap, append-nil, append_assoc, arith, cond, false, length, nat_eq, refl, sym, true, ℕ, ◌++◌, ◌+◌, ◌∙◌, ◌∷◌, ◌≡◌}
+use Rattle.std.proofs.Common.{Bool, List, None, Option, Some, [], ap, append-nil, append_assoc, arith, cond, false, length, nat_eq, refl, sym, true, ℕ, ◌++◌, ◌+◌, ◌==◌, ◌∙◌, ◌∷◌, ◌≡◌}
+use Rattle.std.proofs.lemmas.Bool.{and_parts, eqb-true}
 use Rattle.std.specs.HashMap.{get}
 use Rattle.std.specs.List.{position}
 use Rattle.std.specs.Option.{option_or}
@@ -62,3 +63,10 @@ name-pushed old new names name place before at kept before_is put_first put_last
       ∙ (ap (λ (found : Option ℕ). earlier_from [] names ++ found ∷ []) (before_is ∙ kept.last name.account)
       ∙ sym (earlier-more [] names name)));
 }
+
+-- names that are the same are one
+pub one-name : (a b : OrderName) → same_name a b ≡ true → a ≡ b
+one-name a b e =
+    let both = and_parts (a.account == b.account) (a.ref_no == b.ref_no) e in
+    ap (λ own. record { account = own; ref_no = a.ref_no }) (eqb-true a.account b.account both.0)
+    ∙ ap (λ own. record { account = b.account; ref_no = own }) (eqb-true a.ref_no b.ref_no both.1)

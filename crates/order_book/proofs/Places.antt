@@ -2,7 +2,7 @@
 use Rattle.std.proofs.Common.{Bool, List, None, Option, Some, [], ap, append_assoc, arith, cond, false, find, length, length-append, refl, sym, true, zero-add, ℕ, ◌++◌, ◌+◌, ◌∙◌, ◌∷◌, ◌≡◌, ◌||◌}
 use Rattle.std.proofs.lemmas.Iterator.Adapters.{position_from-zero}
 use Rattle.std.specs.List.{position, position_from, slice_get}
-use Rattle.std.specs.Option.{option_or}
+use Rattle.std.specs.Option.{option_or, unwrap_or}
 use Rattle.std.specs.Prelude.{option_and_then}
 
 from-more : {X : Type 0} (test : X → Bool) (place : ℕ) (xs : List X) (x : X) → position_from test place (xs ++ x ∷ []) ≡ option_or (position_from test place xs) (cond (test x) (Some (place + length xs)) None)
@@ -59,3 +59,22 @@ find-from {X} test before (x ∷ later) = by_test (test x) (find-from test (befo
 -- the first that passes stands at the first place
 pub find-at-position : {X : Type 0} (test : X → Bool) (xs : List X) → find test xs ≡ option_and_then (slice_get xs) (position test xs)
 find-at-position test xs = find-from test [] xs ∙ ap (λ found. option_and_then (slice_get xs) found) (sym (position_from-zero test xs))
+
+some-or : {X : Type 0} (found : Option X) (x kept : X) → kept ≡ unwrap_or found x
+    → Some kept ≡ option_or found (Some x)
+some-or None x kept is = ap Some is
+some-or (Some y) x kept is = ap Some is
+
+-- what stands at a key once it keeps what stood there, or else has what is put
+pub put-or-kept : {K X : Type 0} (same : K → K → Bool) → ((a b : K) → same a b ≡ true → a ≡ b)
+    → (old new : K → Option X) (key : K) (x kept : X) → kept ≡ unwrap_or (old key) x
+    → ((q : K) → new q ≡ cond (same key q) (Some kept) (old q))
+    → (q : K) → new q ≡ option_or (old q) (cond (same key q) (Some x) None)
+put-or-kept {K} {X} same one old new key x kept is put q = put q ∙ by_test (same key q) refl
+  where
+    by_test : (test : Bool) → same key q ≡ test
+        → cond test (Some kept) (old q) ≡ option_or (old q) (cond test (Some x) None)
+    by_test true e =
+        some-or (old key) x kept is
+        ∙ ap (λ (found : Option X). option_or found (Some x)) (ap old (one key q e))
+    by_test false e = sym (or-none (old q))

@@ -1,8 +1,9 @@
 -- The equality of identities in the code is that of the definitions.
-use Rattle.std.proofs.Common.{Bool, None, Option, Some, ap, cond, false, refl, sym, true, ◌==◌, ◌∙◌, ◌≡◌, ℕ}
+use Rattle.std.proofs.Common.{None, Some, ap, cond, refl, sym, true, ◌==◌, ◌∙◌, ◌≡◌, ℕ}
 use Rattle.std.proofs.lemmas.Bool.{and_parts, eqb-true}
-use Rattle.std.specs.Option.{option_or}
+use Rattle.std.specs.Option.{option_or, unwrap_or}
 use Rattle.std.specs.HashMap.{HashMap, Updates, get, get_by}
+use Rattle.order_book.proofs.Places.{put-or-kept}
 use Rattle.order_book.specs.Brought.{same_identity}
 use Rattle.order_book.specs.contracts.identity.IdentityPartialEq.TheImpl.{eq-value}
 use Rattle.order_book.specs.declared.identity.Identity.{Identity}
@@ -49,32 +50,18 @@ one-identity (Identity.Dividend class moment) (Identity.Dividend other_class oth
     ∙ ap (Identity.Dividend other_class) (eqb-true moment other_moment both.1)
 one-identity _ _ e = cc
 
-or-none : {X : Type 0} (found : Option X) → option_or found None ≡ found
-or-none None = refl
-or-none (Some x) = refl
-
--- what stands at a key once a value is put where none stood
-pub put-first : {K X : Type 0} (same : K → K → Bool) → ((a b : K) → same a b ≡ true → a ≡ b) → (old new : K → Option X) (key : K) (x : X) → old key ≡ None → ((q : K) → new q ≡ cond (same key q) (Some x) (old q)) → (q : K) → new q ≡ option_or (old q) (cond (same key q) (Some x) None)
-put-first {K} {X} same one old new key x none put q = put q ∙ by_test (same key q) refl
-  where
-    by_test : (is : Bool) → same key q ≡ is → cond is (Some x) (old q) ≡ option_or (old q) (cond is (Some x) None)
-    by_test true e = sym (ap (λ (found : Option X). option_or found (Some x)) (ap old (sym (one key q e)) ∙ none))
-    by_test false e = sym (or-none (old q))
-
-found-or : {X : Type 0} (found more : Option X) (x : X) → found ≡ Some x → found ≡ option_or found more
-found-or {X} found more x e = e ∙ sym (ap (λ (f : Option X). option_or f more) e)
-
--- and where one stood it stays
-pub put-none : {K X : Type 0} (same : K → K → Bool) → ((a b : K) → same a b ≡ true → a ≡ b) → (old : K → Option X) (key : K) (x there : X) → old key ≡ Some there → (q : K) → old q ≡ option_or (old q) (cond (same key q) (Some x) None)
-put-none {K} {X} same one old key x there some q = by_test (same key q) refl
-  where
-    by_test : (is : Bool) → same key q ≡ is → old q ≡ option_or (old q) (cond is (Some x) None)
-    by_test true e = found-or (old q) (Some x) there (ap old (sym (one key q e)) ∙ some)
-    by_test false e = sym (or-none (old q))
-
--- what stands in a table of places once a place is put where none stood
-pub place-put : {S : Type 0} (old new : HashMap Identity ℕ S) (identity : Identity) (place : ℕ) → get_by (eq-value.it identity) old ≡ None → Updates eq-value.it old new identity (Some place) → (q : Identity) → get same_identity new q ≡ option_or (get same_identity old q) (cond (same_identity identity q) (Some place) None)
-place-put old new identity place none put =
-    put-first same_identity one-identity (get same_identity old) (get same_identity new) identity place
-    (sym (got-by old identity) ∙ none)
-    (λ q. sym (got-by new q) ∙ (put.0 q ∙ (ap (λ is. cond is (Some place) (get_by (eq-value.it q) old)) (same-identity identity q) ∙ ap (λ found. cond (same_identity identity q) (Some place) found) (got-by old q))))
+-- what stands in a table of places once a key keeps its place, or else has the place that is put
+pub place-entered : {S : Type 0} (old new : HashMap Identity ℕ S) (identity : Identity) (place kept : ℕ)
+    → kept ≡ unwrap_or (get_by (eq-value.it identity) old) place
+    → Updates eq-value.it old new identity (Some kept)
+    → (q : Identity) → get same_identity new q
+    ≡ option_or (get same_identity old q) (cond (same_identity identity q) (Some place) None)
+place-entered old new identity place kept is put =
+    put-or-kept same_identity one-identity (get same_identity old) (get same_identity new)
+    identity place kept
+    (is ∙ ap (λ found. unwrap_or found place) (got-by old identity))
+    (λ q.
+    sym (got-by new q)
+    ∙ (put.0 q
+    ∙ (ap (λ is. cond is (Some kept) (get_by (eq-value.it q) old)) (same-identity identity q)
+    ∙ ap (λ found. cond (same_identity identity q) (Some kept) found) (got-by old q))))

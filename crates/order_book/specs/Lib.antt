@@ -10,3 +10,4 @@ pub mod AllIndexes
 pub mod BookKeeps
 pub mod FitsNext
 pub mod Trials
+pub mod HashNumbers

@@ -71,13 +71,8 @@ fn put_first(places: &mut HashMap<Identity, usize>, identity: Identity, place: u
         ≡ option_or (get same_identity places.old q) (if same_identity identity q then Some place else None) }
     ensures room { spare places.old ≤ spare places.new + 1 }
 {
-    match places.get(&identity).copied() {
-        Some(_) => {}
-        None => {
-            let put: Result<_, _> = places.insert(identity, place);
-            let _before = put.unwrap();
-        }
-    }
+    let entry: Result<_, _> = places.entry(identity);
+    let _kept = entry.unwrap().or_insert(place);
 }
 
 // The identity that an event brings.

@@ -1,7 +1,10 @@
 //! The places of the events that bring keys of households and dealers.
-ghost use Rattle.std.specs.Prelude.{◌≡◌, ◌≤◌, ◌+◌, ◌++◌, ℕ, List, None, Some, OnOk, length, drop, replicate, nat_le, if◌then◌else◌};
+ghost use Rattle.std.specs.Prelude.{◌≡◌, ◌≤◌, ◌+◌, ◌++◌, ◌∷◌, [], ℕ, List, None, Some, OnOk};
+ghost use Rattle.std.specs.Prelude.{length, drop, replicate, nat_le, if◌then◌else◌};
 ghost use Rattle.std.specs.HashMap.{get, spare};
 ghost use Rattle.std.specs.Option.{option_or};
+ghost use Rattle.std.specs.Cmp.Rules.{hashing};
+ghost use Rattle.std.proofs.Common.{rules};
 ghost use Rattle.order_book.specs.Brought.{dealer_key_in, household_key_in};
 ghost use Rattle.order_book.specs.Indexes.{key_text, place_of_key, same_text, HasKeyRoom};
 ghost use Rattle.order_book.specs.Kept.{KeepsKeys};
@@ -12,12 +15,23 @@ use agent_events::EventKind;
 use money_units::NoMemory;
 use std::alloc::Global;
 use std::collections::HashMap;
+use std::hash::{Hash, Hasher};
 
 /// A key of at most 64 bytes, with bytes of 0 behind it.
-#[derive(Clone, Copy, PartialEq, Eq, Hash)]
+#[derive(Clone, Copy, PartialEq, Eq)]
 pub struct KeyText {
     bytes: [u8; 64],
     len: usize,
+}
+
+impl Hash for KeyText {
+    ghost hash_input = { λ key. key.bytes ∷ [] };
+
+    ghost respects_eq = { Prim.search (hashing, rules) };
+
+    fn hash<H: Hasher>(&self, state: &mut H) {
+        state.write(&self.bytes);
+    }
 }
 
 /// The place of the first event that brings a key.

@@ -3,6 +3,7 @@
 #![tactic(auto)]
 
 mod book;
+mod hash_numbers;
 mod identities;
 mod identity;
 mod indexes;

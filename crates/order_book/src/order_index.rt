@@ -2,19 +2,35 @@
 ghost use Rattle.std.specs.Prelude.{◌≡◌, ◌≤◌, ◌<◌, ◌+◌, ◌++◌, ◌∷◌, [], ℕ, List, None, Some, OnOk, length, nat_eq, option_and_then, slice_get, if◌then◌else◌, vec_len, vec_capacity};
 ghost use Rattle.std.specs.HashMap.{get, spare};
 ghost use Rattle.std.specs.Option.{option_or};
+ghost use Rattle.std.specs.Hash as fed;
+ghost use Rattle.std.specs.Cmp.Rules.{hashing};
+ghost use Rattle.std.proofs.Common.{rules};
+ghost use Rattle.order_book.specs.HashNumbers.{name_number};
 ghost use Rattle.order_book.specs.Orders.{same_name, KeepsNames, HasNameRoom};
 ghost use Rattle.order_book.specs.declared.order_index.OrderName.{OrderName as Name};
 
+use crate::hash_numbers::mixed_number;
 use crate::room::push_within;
 use money_units::NoMemory;
 use std::alloc::Global;
 use std::collections::HashMap;
+use std::hash::{Hash, Hasher};
 
 /// What an account calls one of its orders.
-#[derive(Clone, Copy, PartialEq, Eq, Hash)]
+#[derive(Clone, Copy, PartialEq, Eq)]
 pub struct OrderName {
     pub account: u32,
     pub ref_no: u64,
+}
+
+impl Hash for OrderName {
+    ghost hash_input = { λ name. fed.u64 (name_number name) };
+
+    ghost respects_eq = { Prim.search (hashing, rules) };
+
+    fn hash<H: Hasher>(&self, state: &mut H) {
+        state.write_u64(mixed_number(0, self.account, self.ref_no));
+    }
 }
 
 /// The place of each order by its name, the place of the last order of an account, and for each order the place of the one of
@@ -78,21 +94,22 @@ impl OrderIndex {
             → KeepsNames self.new (names ++ name ∷ []) }
         ensures room { (n : ℕ) → HasNameRoom self.old (n + 1) → HasNameRoom self.new n }
     {
-        let before = self.last.get(&name.account).copied();
+        let before = put_last(&mut self.last, name.account, place);
         push_within(&mut self.earlier, &before);
-        put_last(&mut self.last, name.account, place);
         put_first(&mut self.places, name, place);
     }
 }
 
-fn put_last(last: &mut HashMap<u32, usize>, account: u32, place: usize)
+// Answers the place before.
+fn put_last(last: &mut HashMap<u32, usize>, account: u32, place: usize) -> Option<usize>
     requires { 1 ≤ spare last.old }
+    ensures before { result ≡ get nat_eq last.old account }
     ensures places { (q : ℕ) → get nat_eq last.new q
         ≡ (if nat_eq account q then Some place else get nat_eq last.old q) }
     ensures room { spare last.old ≤ spare last.new + 1 }
 {
     let put: Result<_, _> = last.insert(account, place);
-    let _before = put.unwrap();
+    put.unwrap()
 }
 
 // Keeps the place, unless one is kept already.
@@ -102,11 +119,6 @@ fn put_first(places: &mut HashMap<OrderName, usize>, name: OrderName, place: usi
         ≡ option_or (get same_name places.old q) (if same_name name q then Some place else None) }
     ensures room { spare places.old ≤ spare places.new + 1 }
 {
-    match places.get(&name).copied() {
-        Some(_) => {}
-        None => {
-            let put: Result<_, _> = places.insert(name, place);
-            let _before = put.unwrap();
-        }
-    }
+    let entry: Result<_, _> = places.entry(name);
+    let _kept = entry.unwrap().or_insert(place);
 }

@@ -1,20 +1,36 @@
 //! The dividend rates that corrections gave last.
 ghost use Rattle.std.specs.Prelude.{◌≡◌, ◌≤◌, ◌+◌, ℕ, [], None, Some, OnOk, if◌then◌else◌};
 ghost use Rattle.std.specs.HashMap.{get, spare};
+ghost use Rattle.std.specs.Hash as fed;
+ghost use Rattle.std.specs.Cmp.Rules.{hashing};
+ghost use Rattle.std.proofs.Common.{rules};
+ghost use Rattle.order_book.specs.HashNumbers.{rate_number};
 ghost use Rattle.order_book.specs.Numbers.{fixed_rate, same_rate, HasRateRoom, KeepsRates};
 ghost use Rattle.order_book.specs.declared.rates.RateName.{RateName as Name};
 ghost use Rattle.register_machine.specs.journal.Journals.{Journal, with_event};
 
+use crate::hash_numbers::mixed_number;
 use agent_events::EventKind;
 use money_units::NoMemory;
 use std::alloc::Global;
 use std::collections::HashMap;
+use std::hash::{Hash, Hasher};
 
 /// A class and a pricing moment in seconds.
-#[derive(Clone, Copy, PartialEq, Eq, Hash)]
+#[derive(Clone, Copy, PartialEq, Eq)]
 pub struct RateName {
     pub class: u32,
     pub moment: u64,
+}
+
+impl Hash for RateName {
+    ghost hash_input = { λ name. fed.u64 (rate_number name) };
+
+    ghost respects_eq = { Prim.search (hashing, rules) };
+
+    fn hash<H: Hasher>(&self, state: &mut H) {
+        state.write_u64(mixed_number(0, self.class, self.moment));
+    }
 }
 
 /// The rate of the last correction, in millionths of a dollar per share.

@@ -47,8 +47,7 @@ impl Tally {
             → count_of self.new other ≡ count_of self.old other + (if number == other then 1 else 0) }
         ensures room { (n : ℕ) → HasTallyRoom self.old (n + 1) → HasTallyRoom self.new n }
     {
-        let count = self.counts.get(&number).copied().unwrap_or(0);
-        let put: Result<_, _> = self.counts.insert(number, count + 1);
-        let _before = put.unwrap();
+        let entry: Result<_, _> = self.counts.entry(number);
+        *entry.unwrap().or_insert(0) += 1;
     }
 }

@@ -1,5 +1,5 @@
 //! A writer of the fields of a row.
-ghost use Rattle.std.specs.Prelude.{◌≡◌, ◌≤◌, ◌++◌, [], length, OnOk};
+ghost use Rattle.std.specs.Prelude.{◌≡◌, ◌≤◌, ◌++◌, [], length, IfOk, OnOk};
 ghost use Rattle.row_fields.specs.Ranges.{IsBearer};
 ghost use Rattle.row_fields.specs.Spelling.{one_byte, two_bytes, four_bytes, eight_bytes, sixteen_bytes, flag, text, bearer};
 
@@ -31,6 +31,15 @@ impl RowWriter {
         RowWriter {
             bytes: Vec::new(alloc),
         }
+    }
+
+    /// An empty row with the memory for so many bytes; a longer row takes more as it grows.
+    pub fn with_room(alloc: Global, bytes: usize) -> Result<RowWriter, NoMemory>
+        ensures { IfOk result (λ writer. writer ≡ []) }
+    {
+        Ok(RowWriter {
+            bytes: Vec::with_capacity(alloc, bytes)?,
+        })
     }
 
     /// The bytes that are written.
