@@ -2,10 +2,10 @@
 use Rattle.std.specs.HashMap as hash
 use Rattle.std.proofs.Common.{Bool, IfOk, List, None, Ok, Option, Result, Some, [], ap, arith, cond, false, inl, inr, nat_eq, option_map, refl, subst, sum_by, sym, true, unwrap_or, ℕ, ◌∙◌, ◌∷◌, ◌≡◌, ◌≤◌}
 use Rattle.std.specs.List.Sorted.{IsPermutation}
-use Rattle.std.specs.Map.{lookup, values_of}
+use Rattle.std.specs.Map.{lookup, set_value, values_of}
 use Rattle.std.proofs.lemmas.Bool.Decides.{eqb_tells}
 use Rattle.std.proofs.lemmas.List.Sums.{sum_by-cons}
-use Rattle.std.proofs.lemmas.Map.Entries.{sum_by_puts_entry, sum_by_values_permutation}
+use Rattle.std.proofs.lemmas.Map.Entries.{sum_by-set_value, sum_by_puts_entry, sum_by_values_permutation}
 use Rattle.gain_loss_book.specs.Flows.{flow_at, no_flow, whole_flow, with_flow}
 use Rattle.gain_loss_book.specs.declared.flows.Flow.{Flow}
 
@@ -61,3 +61,11 @@ reordered-whole rows others same =
     flow-same (whole_flow others) (whole_flow rows)
     (sum_by_values_permutation (λ (f : Flow). f.inflow) rows others same)
     (sum_by_values_permutation (λ (f : Flow). f.outflow) rows others same)
+
+-- and where a flow is written over another
+pub set-whole : (test : ℕ → Bool) (rows : List (ℕ × Flow)) (old value flow : Flow) → lookup test rows ≡ Some old → value ≡ with_flow old flow → whole_flow (set_value test rows value) ≡ with_flow (whole_flow rows) flow
+set-whole test rows old value flow found is =
+    let inflow = sum_by-set_value (λ (f : Flow). f.inflow) test rows old value found in
+    let outflow = sum_by-set_value (λ (f : Flow). f.outflow) test rows old value found in
+    flow-same (whole_flow (set_value test rows value)) (with_flow (whole_flow rows) flow)
+    (omega (arith, inflow, ap (λ (f : Flow). f.inflow) is)) (omega (arith, outflow, ap (λ (f : Flow). f.outflow) is))

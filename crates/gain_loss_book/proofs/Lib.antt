@@ -8,5 +8,6 @@ pub mod RisingClasses
 pub mod GainsOfClasses
 pub mod RowFacts
 pub mod TallyFacts
+pub mod TradeFlowFacts
 pub mod BookedFacts
 pub mod ZeroSums

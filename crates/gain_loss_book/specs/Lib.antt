@@ -5,6 +5,7 @@ pub mod ClassFlows
 pub mod Posted
 pub mod ClassGains
 pub mod Movements
+pub mod TradeFlows
 pub mod Tallies
 pub mod ChangeRows
 pub mod Booked

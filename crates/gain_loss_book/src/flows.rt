@@ -1,6 +1,7 @@
 //! Flows: what came in and what went out, the one kept beside the other, and their rows by number.
 ghost use Rattle.std.specs.Prelude.{◌≡◌, ℕ, ◌+◌, ◌<◌, ◌≤◌, ◌^◌, ◌==◌, if◌then◌else◌, [], OnOk, nat_eq};
 ghost use Rattle.std.specs.List.{IsDistinct};
+ghost use Rattle.std.specs.HashMap.{spare};
 ghost use Rattle.std.specs.Map.{keys_of};
 ghost use Rattle.gain_loss_book.specs.Flows.{no_flow, with_flow, net, flow_by, flow_at, inflows, outflows, whole_flow};
 
@@ -119,9 +120,7 @@ impl FlowRows {
         ensures whole { whole_flow self.new.rows ≡ with_flow (whole_flow self.old.rows) flow }
         ensures room { self.old.room ≤ self.new.room + 1 }
     {
-        let before = self.flow(number);
-        let put: Result<_, _> = self.rows.insert(number, before.and(flow));
-        let _before = put.unwrap();
+        put(&mut self.rows, number, flow);
         self.whole = self.whole.and(flow);
     }
 
@@ -142,4 +141,23 @@ impl FlowRows {
         let _numbers = self.rows.keys();
         self.whole
     }
+}
+
+// Adds a flow to that of a number, within the room that there is.
+fn put(rows: &mut HashMap<u32, Flow>, number: u32, flow: Flow)
+    requires room { 1 ≤ spare rows.old }
+    requires inflow { inflows rows.old.entries + flow.inflow < 2 ^ 128 }
+    requires outflow { outflows rows.old.entries + flow.outflow < 2 ^ 128 }
+    ensures flows { (q : ℕ) → flow_at rows.new.entries q
+        ≡ (if number == q then with_flow (flow_at rows.old.entries q) flow
+        else flow_at rows.old.entries q) }
+    ensures whole { whole_flow rows.new.entries ≡ with_flow (whole_flow rows.old.entries) flow }
+    ensures room { spare rows.old ≤ spare rows.new + 1 }
+{
+    if let Some(own) = rows.get_mut(&number) {
+        *own = own.and(flow);
+        return;
+    }
+    let first: Result<_, _> = rows.insert(number, Flow::none().and(flow));
+    let _none = first.unwrap();
 }

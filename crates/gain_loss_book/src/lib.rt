@@ -14,6 +14,7 @@ mod party_accounts;
 mod posting;
 mod tally;
 mod trade_changes;
+mod trade_flows;
 
 pub use crate::cash_book::CashBook;
 pub use crate::class_flows::ClassFlows;

@@ -85,6 +85,26 @@ impl Tally {
         class_flows::add_mils(&mut self.classes, class, flow)?;
         Ok(())
     }
+
+    /// Adds flows of cash and of shares to those of a class.
+    pub fn add_class(&mut self, class: u32, flows: ClassFlows) -> Result<(), NoMemory>
+        requires cash_in { (cash_tallied self.old (AnyParty.Class class)).inflow
+            + flows.cash.inflow < 2 ^ 128 }
+        requires cash_out { (cash_tallied self.old (AnyParty.Class class)).outflow
+            + flows.cash.outflow < 2 ^ 128 }
+        requires mils_in { (mils_tallied self.old class).inflow + flows.mils.inflow < 2 ^ 128 }
+        requires mils_out { (mils_tallied self.old class).outflow + flows.mils.outflow < 2 ^ 128 }
+        ensures cash { OnOk result ((q : AnyParty) → cash_tallied self.new q
+            ≡ (if same_party (AnyParty.Class class) q
+            then with_flow (cash_tallied self.old q) flows.cash
+            else cash_tallied self.old q)) }
+        ensures mils { OnOk result ((q : ℕ) → mils_tallied self.new q
+            ≡ (if class == q then with_flow (mils_tallied self.old q) flows.mils
+            else mils_tallied self.old q)) }
+    {
+        class_flows::add(&mut self.classes, class, flows)?;
+        Ok(())
+    }
 }
 
 // Adds a flow to that of a number.
@@ -94,8 +114,8 @@ fn add(rows: &mut BTreeMap<u32, Flow>, number: u32, flow: Flow) -> Result<(), No
     ensures { OnOk result ((q : ℕ) → sorted_flow rows.new q
         ≡ (if number == q then with_flow (sorted_flow rows.old q) flow else sorted_flow rows.old q)) }
 {
-    let before = flow_in(rows, number);
-    rows.insert(number, before.and(flow))?;
+    let own = rows.entry(number)?.or_insert(Flow::none());
+    *own = own.and(flow);
     Ok(())
 }
 

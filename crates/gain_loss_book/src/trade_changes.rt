@@ -1,18 +1,20 @@
 //! What trades change: the cash of parties and the outstanding shares of classes.
-ghost use Rattle.std.specs.Prelude.{◌≡◌, ℕ, ◌+◌, ◌*◌, ◌≤◌, ◌^◌, ◌-ℤ◌, length, IfOk, OnOk};
+ghost use Rattle.std.specs.Prelude.{◌≡◌, ℕ, ◌+◌, ◌*◌, ◌≤◌, ◌^◌, ◌-ℤ◌, ◌==◌, ◌&&◌, length, IfOk, OnOk};
 ghost use Rattle.agent_events.specs.declared.order.Party.{Party as AnyParty};
 ghost use Rattle.register_machine.specs.corrections.Cash.{cash_of, movements_in, movements_of};
 ghost use Rattle.gain_loss_book.specs.Booked.{SumsToZero};
 ghost use Rattle.gain_loss_book.specs.ClassGains.{mils_change};
 ghost use Rattle.gain_loss_book.specs.Flows.{net, reverse_flow, with_flow};
-ghost use Rattle.gain_loss_book.specs.Movements.{brought_in, mils_flow_of, movement_listed, taken_in, trades_mils};
+ghost use Rattle.gain_loss_book.specs.Movements.{mils_flow_of, trades_mils};
 ghost use Rattle.gain_loss_book.specs.Posted.{cash_change, movements_flow};
 ghost use Rattle.gain_loss_book.specs.Tallies.{IsWithin, cash_tallied, mils_tallied};
+ghost use Rattle.gain_loss_book.specs.TradeFlows.{AreSmall, IsSmall, cash_of_flows, flow_of_class, flow_of_party, mils_of_flows};
 
+use crate::class_flows::ClassFlows;
 use crate::flows::Flow;
-use crate::movements::{self, CashMovement, SharesMoved};
 use crate::tally::Tally;
-use agent_events::{Changes, Trade};
+use crate::trade_flows::TradeFlows;
+use agent_events::{Changes, Party, Trade};
 use money_units::NoMemory;
 use std::alloc::Global;
 
@@ -98,11 +100,7 @@ fn bring_trade(tally: &mut Tally, trade: &Trade) -> Result<(), NoMemory>
     ensures within { OnOk result ((most : ℕ) → IsWithin tally.old most
         → IsWithin tally.new (most + 2 ^ 65)) }
 {
-    let moved = movements::moved_cash(trade);
-    move_cash(tally, &moved.first)?;
-    move_cash(tally, &moved.second)?;
-    bring_shares(tally, &movements::shares_brought(trade))?;
-    take_shares(tally, &movements::shares_taken(trade))?;
+    add_trade_flows(tally, &TradeFlows::of(trade))?;
     Ok(())
 }
 
@@ -116,100 +114,77 @@ fn take_trade_back(tally: &mut Tally, trade: &Trade) -> Result<(), NoMemory>
     ensures within { OnOk result ((most : ℕ) → IsWithin tally.old most
         → IsWithin tally.new (most + 2 ^ 65)) }
 {
-    let moved = movements::moved_cash(trade);
-    move_cash_back(tally, &moved.first)?;
-    move_cash_back(tally, &moved.second)?;
-    bring_shares(tally, &movements::shares_taken(trade))?;
-    take_shares(tally, &movements::shares_brought(trade))?;
+    add_trade_flows(tally, &TradeFlows::of(trade).reversed())?;
     Ok(())
 }
 
-fn move_cash_back(tally: &mut Tally, movement: &Option<CashMovement>) -> Result<(), NoMemory>
-    requires within { IsWithin tally.old (2 ^ 127 + 2 ^ 65) }
+// Adds flows to those of their parties and classes.
+fn add_trade_flows(tally: &mut Tally, flows: &TradeFlows) -> Result<(), NoMemory>
+    requires within { IsWithin tally.old (2 ^ 127) }
+    requires small { AreSmall flows.now }
     ensures cash { OnOk result ((q : AnyParty) → cash_tallied tally.new q
-        ≡ with_flow (cash_tallied tally.old q) (reverse_flow (movements_flow (movement_listed movement.now) q))) }
+        ≡ with_flow (cash_tallied tally.old q) (cash_of_flows flows.now q)) }
+    ensures mils { OnOk result ((q : ℕ) → mils_tallied tally.new q
+        ≡ with_flow (mils_tallied tally.old q) (mils_of_flows flows.now q)) }
+{
+    add_holder(tally, flows.account, flows.holder)?;
+    add_class(tally, flows.class, flows.own)?;
+    add_class(tally, flows.to_class, flows.other)?;
+    add_underwriter(tally, flows.underwriter);
+    Ok(())
+}
+
+// Adds a flow to that of a holder, where there is one.
+fn add_holder(tally: &mut Tally, account: u32, flow: Flow) -> Result<(), NoMemory>
+    requires within { IsWithin tally.old (2 ^ 127) }
+    requires small { IsSmall flow }
+    ensures cash { OnOk result ((q : AnyParty) → cash_tallied tally.new q
+        ≡ with_flow (cash_tallied tally.old q) (flow_of_party (AnyParty.Holder account) flow q)) }
     ensures mils { OnOk result ((q : ℕ) → mils_tallied tally.new q ≡ mils_tallied tally.old q) }
     ensures within { OnOk result ((most : ℕ) → IsWithin tally.old most
         → IsWithin tally.new (most + 2 ^ 64)) }
 {
-    let Some(movement) = movement else {
+    if is_nothing(flow) {
         return Ok(());
-    };
-    let cents = u128::from(movement.cents);
-    let given_back = Flow {
-        inflow: cents,
-        outflow: 0,
-    };
-    let taken_back = Flow {
-        inflow: 0,
-        outflow: cents,
-    };
-    tally.add_cash(movement.giver, given_back)?;
-    tally.add_cash(movement.taker, taken_back)?;
+    }
+    tally.add_cash(Party::Holder(account), flow)?;
     Ok(())
 }
 
-fn move_cash(tally: &mut Tally, movement: &Option<CashMovement>) -> Result<(), NoMemory>
+// Adds flows to those of a class, where there are any.
+fn add_class(tally: &mut Tally, class: u32, flows: ClassFlows) -> Result<(), NoMemory>
     requires within { IsWithin tally.old (2 ^ 127 + 2 ^ 65) }
+    requires small_cash { IsSmall flows.cash }
+    requires small_mils { IsSmall flows.mils }
     ensures cash { OnOk result ((q : AnyParty) → cash_tallied tally.new q
-        ≡ with_flow (cash_tallied tally.old q) (movements_flow (movement_listed movement.now) q)) }
-    ensures mils { OnOk result ((q : ℕ) → mils_tallied tally.new q ≡ mils_tallied tally.old q) }
+        ≡ with_flow (cash_tallied tally.old q)
+        (flow_of_party (AnyParty.Class class) flows.cash q)) }
+    ensures mils { OnOk result ((q : ℕ) → mils_tallied tally.new q
+        ≡ with_flow (mils_tallied tally.old q) (flow_of_class class flows.mils q)) }
     ensures within { OnOk result ((most : ℕ) → IsWithin tally.old most
         → IsWithin tally.new (most + 2 ^ 64)) }
 {
-    let Some(movement) = movement else {
+    if is_nothing(flows.cash) && is_nothing(flows.mils) {
         return Ok(());
-    };
-    let cents = u128::from(movement.cents);
-    let given = Flow {
-        inflow: 0,
-        outflow: cents,
-    };
-    let taken = Flow {
-        inflow: cents,
-        outflow: 0,
-    };
-    tally.add_cash(movement.giver, given)?;
-    tally.add_cash(movement.taker, taken)?;
+    }
+    tally.add_class(class, flows)?;
     Ok(())
 }
 
-fn bring_shares(tally: &mut Tally, shares: &Option<SharesMoved>) -> Result<(), NoMemory>
+// Adds a flow to that of the underwriter.
+fn add_underwriter(tally: &mut Tally, flow: Flow)
     requires within { IsWithin tally.old (2 ^ 127 + 2 ^ 66) }
-    ensures mils { OnOk result ((q : ℕ) → mils_tallied tally.new q
-        ≡ with_flow (mils_tallied tally.old q) (brought_in q shares.now)) }
-    ensures cash { OnOk result ((q : AnyParty)
-        → cash_tallied tally.new q ≡ cash_tallied tally.old q) }
-    ensures within { OnOk result ((most : ℕ) → IsWithin tally.old most
-        → IsWithin tally.new (most + 2 ^ 64)) }
+    requires small { IsSmall flow }
+    ensures cash { (q : AnyParty) → cash_tallied tally.new q
+        ≡ with_flow (cash_tallied tally.old q) (flow_of_party AnyParty.Underwriter flow q) }
+    ensures mils { (q : ℕ) → mils_tallied tally.new q ≡ mils_tallied tally.old q }
 {
-    let Some(shares) = shares else {
-        return Ok(());
-    };
-    let flow = Flow {
-        inflow: u128::from(shares.mils),
-        outflow: 0,
-    };
-    tally.add_mils(shares.class, flow)?;
-    Ok(())
+    tally.underwriter = tally.underwriter.and(flow);
 }
 
-fn take_shares(tally: &mut Tally, shares: &Option<SharesMoved>) -> Result<(), NoMemory>
-    requires within { IsWithin tally.old (2 ^ 127 + 2 ^ 66) }
-    ensures mils { OnOk result ((q : ℕ) → mils_tallied tally.new q
-        ≡ with_flow (mils_tallied tally.old q) (taken_in q shares.now)) }
-    ensures cash { OnOk result ((q : AnyParty)
-        → cash_tallied tally.new q ≡ cash_tallied tally.old q) }
-    ensures within { OnOk result ((most : ℕ) → IsWithin tally.old most
-        → IsWithin tally.new (most + 2 ^ 64)) }
+// Nothing comes or goes.
+fn is_nothing(flow: Flow) -> bool
+    ensures { result ≡ (flow.inflow == 0 && flow.outflow == 0) }
 {
-    let Some(shares) = shares else {
-        return Ok(());
-    };
-    let flow = Flow {
-        inflow: 0,
-        outflow: u128::from(shares.mils),
-    };
-    tally.add_mils(shares.class, flow)?;
-    Ok(())
+    flow.inflow == 0 && flow.outflow == 0
 }
