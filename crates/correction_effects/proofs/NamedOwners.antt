@@ -1,81 +1,198 @@
--- The households of the orders that stand and name a class are those with such an order.
-use Rattle.std.proofs.Common.{Bool, Contains, List, None, Option, Some, [], ap, append_assoc, append-nil, arith, cond, drop, false, filter, length, map, option_to_list, refl, subst, suc, sym, true, zero, ℕ, ◌&&◌, ◌++◌, ◌+◌, ◌==◌, ◌||◌, ◌∙◌, ◌∷◌, ◌≡◌, ◌≤◌}
-use Rattle.std.proofs.lemmas.Bool.{eqb-true}
-use Rattle.std.proofs.lemmas.Bool.Decides.{nat_tests}
-use Rattle.std.proofs.lemmas.List.Folds.{Any-from_list_any, list_any-append, list_any-from_Any}
+-- The households with an order that stands and names a class, found by going back over the orders of each.
+use Rattle.std.proofs.Common.{Bool, Contains, List, None, Option, Some, [], ap, arith, cond, false, filter, length, length-take, map, refl, subst, suc, sym, take, true, zero, ℕ, ◌&&◌, ◌<◌, ◌==◌, ◌||◌, ◌∙◌, ◌∷◌, ◌≡◌, ◌≤◌}
+use Rattle.std.proofs.lemmas.Bool.{and_parts, eqb-true}
+use Rattle.std.proofs.lemmas.Bool.Decides.{Decides-eqb}
+use Rattle.std.proofs.lemmas.Cmp.{nat_eq_equiv}
+use Rattle.std.proofs.lemmas.Map.Made.{is_member-Decides, is_member-filter}
 use Rattle.std.specs.List.{list_any, slice_get}
-use Rattle.std.specs.Option.{option_map_or}
+use Rattle.std.specs.Option.{is_some, option_map_or, option_or}
+use Rattle.std.specs.Prelude.{nat_eq, option_map}
+use Rattle.std.specs.Set.{is_member}
 use Rattle.agent_events.specs.declared.order.OrderRow.{OrderRow}
 use Rattle.agent_events.specs.declared.request.AccountForm.{AccountForm}
-use Rattle.correction_effects.specs.Naming.{AreNaming, named_owner, names_somewhere, names_standing, owners_naming}
+use Rattle.correction_effects.specs.Naming.{AreNaming, is_naming, names_at, names_somewhere, names_standing}
+use Rattle.order_book.proofs.ChainWalk.{smaller, some-last}
+use Rattle.order_book.specs.LastPlaces.{last_place, last_place_from}
 use Rattle.register_laws.specs.CorrectionReach.{names_class}
 use Rattle.register_laws.specs.Households.{is_of_household, is_own_row, own_orders}
 use Rattle.register_laws.specs.Lawful.{book_behind}
+use Rattle.register_machine.specs.journal.Choices.{when}
 use Rattle.register_machine.specs.journal.Journals.{Journal}
 use Rattle.register_machine.specs.journal.Kinds.{accounts_of, household_of}
 use Rattle.register_machine.specs.pricing.CorrectedOrders.{orders_of, stands}
-use Rattle.standing_orders.specs.Rows.{AreOwners}
+use Rattle.standing_orders.proofs.OwnPlaces.{got-within, last-shifted}
+use Rattle.standing_orders.specs.Rows.{AreOwners, is_owner}
 
--- ---- one place after the other
+-- ---- the last order of a household
 
-of-no-owner : (class : ℕ) (rows : List OrderRow) → owners_naming class rows [] ≡ []
-of-no-owner class [] = refl
-of-no-owner class (row ∷ rows) = refl
-
-without-owner : (class : ℕ) (row : Option OrderRow) → option_to_list (named_owner class row None) ≡ []
-without-owner class None = refl
-without-owner class (Some row) = by (names_standing class row)
+-- a household without an order names nothing
+naming-none : (class household : ℕ) (rows : List OrderRow) (owners : List ℕ) → last_place (is_owner household) owners ≡ None → is_naming class rows owners household ≡ false
+naming-none class household [] owners none = refl
+naming-none class household (row ∷ rows) [] none = refl
+naming-none class household (row ∷ rows) (owner ∷ owners) none =
+    by_found (last_place_from 0 (is_owner household) owners) refl (is_owner household owner) refl
+    (ap (λ (found : Option ℕ). option_or found (when (is_owner household owner) 0)) (sym (last-shifted (is_owner household) 0 owners)) ∙ none)
+    (naming-none class household rows owners)
   where
-    by : (b : Bool) → option_to_list {X = ℕ} (cond b None None) ≡ []
-    by true = refl
-    by false = refl
+    by_found : (found : Option ℕ) → last_place_from 0 (is_owner household) owners ≡ found → (is : Bool) → is_owner household owner ≡ is → option_or (option_map suc found) (when is 0) ≡ None
+        → (last_place (is_owner household) owners ≡ None → is_naming class rows owners household ≡ false)
+        → ((is_owner household owner && names_standing class row) || is_naming class rows owners household) ≡ false
+    by_found (Some n) found_is is own_is e rest = cc
+    by_found None found_is true own_is e rest = cc
+    by_found None found_is false own_is e rest =
+        ap (λ own. (own && names_standing class row) || is_naming class rows owners household) own_is ∙ rest found_is
 
--- what the rows from a place on bring: that of the place, and those behind it
-one-more : (class place : ℕ) (rows : List OrderRow) (owners : List ℕ)
-    → owners_naming class (drop place rows) (drop place owners)
-    ≡ option_to_list (named_owner class (slice_get rows place) (slice_get owners place)) ++ owners_naming class (drop (suc place) rows) (drop (suc place) owners)
-one-more class zero [] owners = refl
-one-more class (suc place) [] owners = refl
-one-more class zero (row ∷ rows) [] = sym (ap (λ front. front ++ owners_naming class rows []) (without-owner class (Some row)) ∙ of-no-owner class rows)
-one-more class (suc place) (row ∷ rows) [] =
-    of-no-owner class (drop place rows)
-    ∙ sym (ap (λ front. front ++ owners_naming class (drop (suc place) rows) []) (without-owner class (slice_get rows place)) ∙ of-no-owner class (drop (suc place) rows))
-one-more class zero (row ∷ rows) (owner ∷ owners) = by (names_standing class row)
+-- it names the class by its last order, or by one before it
+naming-last : (class household : ℕ) (rows : List OrderRow) (owners : List ℕ) (n : ℕ) → last_place (is_owner household) owners ≡ Some n
+    → is_naming class rows owners household ≡ (names_at class rows n || is_naming class (take n rows) (take n owners) household)
+naming-last class household [] owners n is = sym (none n)
   where
-    by : (b : Bool) → cond b (owner ∷ []) [] ++ owners_naming class rows owners ≡ option_to_list (cond b (Some owner) None) ++ owners_naming class rows owners
-    by true = refl
-    by false = refl
-one-more class (suc place) (row ∷ rows) (owner ∷ owners) = one-more class place rows owners
-
-pub gathered-more : (class place : ℕ) (rows : List OrderRow) (owners found more : List ℕ) (owner : Option ℕ)
-    → found ++ owners_naming class (drop place rows) (drop place owners) ≡ owners_naming class rows owners
-    → more ≡ found ++ option_to_list owner → owner ≡ named_owner class (slice_get rows place) (slice_get owners place)
-    → more ++ owners_naming class (drop (place + 1) rows) (drop (place + 1) owners) ≡ owners_naming class rows owners
-gathered-more class place rows owners found more owner before is named =
-    ap (λ n. more ++ owners_naming class (drop n rows) (drop n owners)) next
-    ∙ (ap (λ front. front ++ rest) is
-    ∙ (append_assoc found (option_to_list owner) rest
-    ∙ (ap (λ (o : Option ℕ). found ++ (option_to_list o ++ rest)) named
-    ∙ (ap (λ later. found ++ later) (sym (one-more class place rows owners)) ∙ before))))
+    none : (k : ℕ) → (names_at class [] k || is_naming class (take k []) (take k owners) household) ≡ false
+    none zero = refl
+    none (suc k) = refl
+naming-last class household (row ∷ rows) [] n is = cc
+naming-last class household (row ∷ rows) (owner ∷ owners) n is =
+    by_found (last_place_from 0 (is_owner household) owners) refl (is_owner household owner) refl
+    (ap (λ (found : Option ℕ). option_or found (when (is_owner household owner) 0)) (sym (last-shifted (is_owner household) 0 owners)) ∙ is)
+    (naming-last class household rows owners)
   where
-    rest : List ℕ
-    rest = owners_naming class (drop (suc place) rows) (drop (suc place) owners)
+    IsSplit : ℕ → Type 0
+    IsSplit k =
+        is_naming class (row ∷ rows) (owner ∷ owners) household
+        ≡ (names_at class (row ∷ rows) k || is_naming class (take k (row ∷ rows)) (take k (owner ∷ owners)) household)
 
-    next : place + 1 ≡ suc place
-    next = omega arith
+    turned : (a b c : Bool) → (a || (b || c)) ≡ (b || (a || c))
+    turned true true c = refl
+    turned true false c = refl
+    turned false b c = refl
 
-dropped-all : {X : Type 0} (xs : List X) (n : ℕ) → length xs ≤ n → drop n xs ≡ []
-dropped-all [] zero past = refl
-dropped-all [] (suc n) past = refl
-dropped-all (x ∷ xs) zero past = absurd (omega (arith, past))
-dropped-all (x ∷ xs) (suc n) past = dropped-all xs n (omega (arith, past))
+    none-before : (b : Bool) → (b || false) ≡ b
+    none-before true = refl
+    none-before false = refl
 
-pub gathered-all : (class place : ℕ) (rows : List OrderRow) (owners found : List ℕ) → length rows ≤ place
-    → found ++ owners_naming class (drop place rows) (drop place owners) ≡ owners_naming class rows owners
-    → found ≡ owners_naming class rows owners
-gathered-all class place rows owners found past before =
-    sym (append-nil found)
-    ∙ (ap (λ rest. found ++ owners_naming class rest (drop place owners)) (sym (dropped-all rows place past)) ∙ before)
+    by_found : (found : Option ℕ) → last_place_from 0 (is_owner household) owners ≡ found → (own : Bool) → is_owner household owner ≡ own → option_or (option_map suc found) (when own 0) ≡ Some n
+        → ((m : ℕ) → last_place (is_owner household) owners ≡ Some m → is_naming class rows owners household ≡ (names_at class rows m || is_naming class (take m rows) (take m owners) household))
+        → IsSplit n
+    by_found (Some m) found_is own own_is e rest =
+        subst IsSplit (some-one e)
+        (ap (λ later. (is_owner household owner && names_standing class row) || later) (rest m found_is)
+        ∙ turned (is_owner household owner && names_standing class row) (names_at class rows m) (is_naming class (take m rows) (take m owners) household))
+      where
+        some-one : Some (suc m) ≡ Some n → suc m ≡ n
+        some-one h = cc
+    by_found None found_is true own_is e rest =
+        subst IsSplit (some-one e)
+        (ap (λ own. (own && names_standing class row) || is_naming class rows owners household) own_is
+        ∙ ap (λ later. names_standing class row || later) (naming-none class household rows owners found_is))
+      where
+        some-one : Some 0 ≡ Some n → 0 ≡ n
+        some-one h = cc
+    by_found None found_is false own_is e rest = cc
+
+-- ---- the walk
+
+-- The walk has come to a place: what the household names at all it names before some bound, before which it is its last place.
+pub record HasPassed (class household : ℕ) (rows : List OrderRow) (owners : List ℕ) (at : Option ℕ) : Type 0 where
+  pub bound : ℕ
+  pub last : at ≡ last_place (is_owner household) (take bound owners)
+  pub rest : is_naming class rows owners household ≡ is_naming class (take bound rows) (take bound owners) household
+
+whole : {X : Type 0} (ys : List X) → take (length ys) ys ≡ ys
+whole [] = refl
+whole (y ∷ ys) = ap (λ later. y ∷ later) (whole ys)
+
+short-of-owners : (class household : ℕ) (rows : List OrderRow) (owners : List ℕ) → is_naming class rows owners household ≡ is_naming class (take (length owners) rows) owners household
+short-of-owners class household [] owners = none owners
+  where
+    none : (ys : List ℕ) → false ≡ is_naming class (take (length ys) []) ys household
+    none [] = refl
+    none (y ∷ ys) = refl
+short-of-owners class household (row ∷ rows) [] = refl
+short-of-owners class household (row ∷ rows) (owner ∷ owners) =
+    ap (λ later. (is_owner household owner && names_standing class row) || later) (short-of-owners class household rows owners)
+
+pub begins-passing : (class household : ℕ) (rows : List OrderRow) (owners : List ℕ) (at : Option ℕ) → at ≡ last_place (is_owner household) owners → HasPassed class household rows owners at
+begins-passing class household rows owners at is = record {
+  bound = length owners;
+  last = is ∙ ap (last_place (is_owner household)) (sym (whole owners));
+  rest =
+      short-of-owners class household rows owners
+      ∙ ap (λ own. is_naming class (take (length owners) rows) own household) (sym (whole owners));
+}
+
+got-before : {X : Type 0} (bound : ℕ) (xs : List X) (n : ℕ) → n < bound → slice_get (take bound xs) n ≡ slice_get xs n
+got-before zero xs n within = absurd (omega (arith, within))
+got-before (suc bound) [] n within = refl
+got-before (suc bound) (x ∷ xs) zero within = refl
+got-before (suc bound) (x ∷ xs) (suc n) within = got-before bound xs n (omega (arith, within))
+
+took-before : {X : Type 0} (bound : ℕ) (xs : List X) (n : ℕ) → n ≤ bound → take n (take bound xs) ≡ take n xs
+took-before bound xs zero within = refl
+took-before zero xs (suc n) within = absurd (omega (arith, within))
+took-before (suc bound) [] (suc n) within = refl
+took-before (suc bound) (x ∷ xs) (suc n) within = ap (λ later. x ∷ later) (took-before bound xs n (omega (arith, within)))
+
+-- the order at the place where the walk is
+pub record Passes (class household : ℕ) (rows : List OrderRow) (owners : List ℕ) (place : ℕ) : Type 0 where
+  pub owner : ℕ
+  pub there : slice_get owners place ≡ Some owner
+  pub own : is_owner household owner ≡ true
+  pub rest : is_naming class rows owners household ≡ (names_at class rows place || is_naming class (take place rows) (take place owners) household)
+
+pub passes : (class household : ℕ) (rows : List OrderRow) (owners : List ℕ) (place : ℕ) → HasPassed class household rows owners (Some place) → Passes class household rows owners place
+passes class household rows owners place passed =
+    let ends = some-last (is_owner household) (is_owner household) (λ x t. t) (take passed.bound owners) place (sym passed.last) in
+    let before : place < passed.bound = omega (arith, ends.within, length-take passed.bound owners) in
+    let none_skipped : place ≤ passed.bound = omega (arith, before) in
+    record {
+      owner = ends.item;
+      there = got-within passed.bound owners place ends.item ends.there;
+      own = ends.tested;
+      rest =
+          passed.rest
+          ∙ (naming-last class household (take passed.bound rows) (take passed.bound owners) place (sym passed.last)
+          ∙ (ap (λ (row : Option OrderRow). option_map_or (names_standing class) row false || is_naming class (take place (take passed.bound rows)) (take place (take passed.bound owners)) household) (got-before passed.bound rows place before)
+          ∙ (ap (λ front. names_at class rows place || is_naming class front (take place (take passed.bound owners)) household) (took-before passed.bound rows place none_skipped)
+          ∙ ap (λ front. names_at class rows place || is_naming class (take place rows) front household) (took-before passed.bound owners place none_skipped))));
+    }
+
+-- the link from the place leads to the household's order before it
+link-back : (household : ℕ) (owners : List ℕ) (place owner : ℕ) (next : Option ℕ) → is_owner household owner ≡ true
+    → next ≡ last_place (is_owner owner) (take place owners) → next ≡ last_place (is_owner household) (take place owners)
+link-back household owners place owner next own is =
+    is ∙ ap (λ (h : ℕ). last_place (is_owner h) (take place owners)) (eqb-true owner household own)
+
+pub goes-on : (class household : ℕ) (rows : List OrderRow) (owners : List ℕ) (place : ℕ) (next : Option ℕ)
+    → HasPassed class household rows owners (Some place) → names_at class rows place ≡ false
+    → ((owner : ℕ) → slice_get owners place ≡ Some owner → next ≡ last_place (is_owner owner) (take place owners))
+    → HasPassed class household rows owners next
+goes-on class household rows owners place next passed fails linked =
+    let here = passes class household rows owners place passed in
+    record {
+      bound = place;
+      last = link-back household owners place here.owner next here.own (linked here.owner here.there);
+      rest = here.rest ∙ ap (λ is. is || is_naming class (take place rows) (take place owners) household) fails;
+    }
+
+-- the place falls
+pub falls-back : (class household : ℕ) (rows : List OrderRow) (owners : List ℕ) (place : ℕ) (next : Option ℕ)
+    → HasPassed class household rows owners (Some place)
+    → ((owner : ℕ) → slice_get owners place ≡ Some owner → next ≡ last_place (is_owner owner) (take place owners))
+    → option_map_or (λ n. suc n) next 0 < suc place
+falls-back class household rows owners place next passed linked =
+    let here = passes class household rows owners place passed in
+    smaller (is_owner household) owners place next (link-back household owners place here.owner next here.own (linked here.owner here.there))
+
+pub ends-found : (class household : ℕ) (rows : List OrderRow) (owners : List ℕ) (place : ℕ)
+    → HasPassed class household rows owners (Some place) → names_at class rows place ≡ true → true ≡ is_naming class rows owners household
+ends-found class household rows owners place passed names =
+    sym
+    ((passes class household rows owners place passed).rest
+    ∙ ap (λ is. is || is_naming class (take place rows) (take place owners) household) names)
+
+pub ends-passing : (class household : ℕ) (rows : List OrderRow) (owners : List ℕ) → HasPassed class household rows owners None → false ≡ is_naming class rows owners household
+ends-passing class household rows owners passed =
+    sym (passed.rest ∙ naming-none class household (take passed.bound rows) (take passed.bound owners) (sym passed.last))
 
 -- ---- the households among them
 
@@ -83,17 +200,16 @@ own-by-owner : (accounts : List AccountForm) (household : ℕ) (row : OrderRow) 
 own-by-owner accounts household row owner is = ap (λ (found : Option ℕ). option_map_or (λ (o : ℕ). o == household) found false) is
 
 among-named : (accounts : List AccountForm) (household class : ℕ) (rows : List OrderRow) (owners : List ℕ) → AreOwners accounts rows owners
-    → list_any (λ owner. owner == household) (owners_naming class rows owners) ≡ list_any (names_class class) (filter stands (own_orders accounts household rows))
+    → is_naming class rows owners household ≡ list_any (names_class class) (filter stands (own_orders accounts household rows))
 among-named accounts household class [] owners are = refl
 among-named accounts household class (row ∷ rows) [] are = absurd (too-few are)
   where
     too-few : household_of accounts row.order.account ∷ map (λ (r : OrderRow). household_of accounts r.order.account) rows ≡ [] → ⊥
     too-few h = cc
 among-named accounts household class (row ∷ rows) (owner ∷ owners) are =
-    list_any-append (λ o. o == household) (cond (names_standing class row) (owner ∷ []) []) (owners_naming class rows owners)
-    ∙ (ap (λ rest. list_any (λ o. o == household) (cond (names_standing class row) (owner ∷ []) []) || rest) (among-named accounts household class rows owners (tails are))
-    ∙ (by (owner == household) (stands row) (names_class class row)
-    ∙ ap (λ is. list_any (names_class class) (filter stands (cond is (row ∷ own_orders accounts household rows) (own_orders accounts household rows)))) (sym (own-by-owner accounts household row owner (heads are)))))
+    ap (λ later. (is_owner household owner && names_standing class row) || later) (among-named accounts household class rows owners (tails are))
+    ∙ (by_parts (owner == household) (stands row) (names_class class row) refl refl refl
+    ∙ ap (λ is. list_any (names_class class) (filter stands (cond is (row ∷ own_orders accounts household rows) (own_orders accounts household rows)))) (sym (own-by-owner accounts household row owner (heads are))))
   where
     heads : household_of accounts row.order.account ∷ map (λ (r : OrderRow). household_of accounts r.order.account) rows ≡ Some owner ∷ map Some owners → household_of accounts row.order.account ≡ Some owner
     heads h = cc
@@ -105,41 +221,59 @@ among-named accounts household class (row ∷ rows) (owner ∷ owners) are =
     rest = list_any (names_class class) (filter stands (own_orders accounts household rows))
 
     by_parts : (own stand name : Bool) → owner == household ≡ own → stands row ≡ stand → names_class class row ≡ name
-        → (list_any (λ o. o == household) (cond (stand && name) (owner ∷ []) []) || rest)
-        ≡ list_any (names_class class) (filter stands (cond own (row ∷ own_orders accounts household rows) (own_orders accounts household rows)))
+        → ((owner == household && (stands row && names_class class row)) || rest)
+        ≡ list_any (names_class class) (filter stands (cond (owner == household) (row ∷ own_orders accounts household rows) (own_orders accounts household rows)))
     by_parts true true true o s n = rw (o, s, n) refl
-    by_parts true true false o s n = rw (s, n) refl
-    by_parts true false name o s n = rw s refl
-    by_parts false true true o s n = rw o refl
-    by_parts false true false o s n = refl
-    by_parts false false name o s n = refl
+    by_parts true true false o s n = rw (o, s, n) refl
+    by_parts true false name o s n = rw (o, s) refl
+    by_parts false stand name o s n = rw o refl
 
-    by : (own stand name : Bool) → (list_any (λ o. o == household) (cond (names_standing class row) (owner ∷ []) []) || rest) ≡ list_any (names_class class) (filter stands (cond (owner == household) (row ∷ own_orders accounts household rows) (own_orders accounts household rows)))
-    by own stand name = by_parts (owner == household) (stands row) (names_class class row) refl refl refl
+-- ---- the households that are left
 
-same-number : (n : ℕ) → (n == n) ≡ true
-same-number n = grind (arith, nat_tests)
+-- whether a household is among those that are left, given that those listed are all with an order
+is-kept : (class : ℕ) (rows : List OrderRow) (owners listed : List ℕ) (household : ℕ) → is_member nat_eq listed household ≡ is_some (last_place (is_owner household) owners)
+    → is_naming class rows owners household ≡ true → is_member nat_eq listed household ≡ true
+is-kept class rows owners listed household all naming = by (last_place (is_owner household) owners) refl
+  where
+    by : (found : Option ℕ) → last_place (is_owner household) owners ≡ found → is_member nat_eq listed household ≡ true
+    by (Some n) found_is = all ∙ ap (λ (found : Option ℕ). is_some found) found_is
+    by None found_is = absurd (never (sym naming ∙ naming-none class household rows owners found_is))
+      where
+        never : true ≡ false → ⊥
+        never h = cc
 
-any-number : (xs : List ℕ) (n : ℕ) → Contains xs n → list_any (λ x. x == n) xs ≡ true
-any-number xs n among = list_any-from_Any (λ x. x == n) xs (among.0, n, among.1, among.2, same-number n)
+left-among : (test : ℕ → Bool) (listed : List ℕ) (household : ℕ) → is_member nat_eq (filter test listed) household ≡ (is_member nat_eq listed household && test household)
+left-among test listed household =
+    is_member-filter nat_eq_equiv test household (λ other same. ap test (eqb-true household other same)) listed
 
-number-any : (xs : List ℕ) (n : ℕ) → list_any (λ x. x == n) xs ≡ true → Contains xs n
-number-any xs n is =
-    let found = Any-from_list_any (λ x. x == n) xs is in
-    subst (λ x. Contains xs x) (eqb-true found.1 n found.4) (found.0, found.2, found.3)
-
-pub are-naming : (journal : Journal) (owners : List ℕ) (class : ℕ) (gathered households : List ℕ)
-    → gathered ≡ owners_naming class (orders_of journal) owners
-    → ((h : ℕ) → Contains gathered h → Contains households h) → ((h : ℕ) → Contains households h → Contains gathered h)
+pub are-naming : (journal : Journal) (owners : List ℕ) (class : ℕ) (listed left households : List ℕ)
+    → ((h : ℕ) → is_member nat_eq listed h ≡ is_some (last_place (is_owner h) owners))
+    → left ≡ filter (is_naming class (orders_of journal) owners) listed
+    → ((h : ℕ) → Contains left h → Contains households h) → ((h : ℕ) → Contains households h → Contains left h)
     → AreNaming journal owners class households
-are-naming journal owners class gathered households is keeps adds_none are = record {
-  own = λ h among. sym (same h) ∙ any-number gathered h (adds_none h among);
+are-naming journal owners class listed left households all is keeps adds_none are = record {
+  own = λ h among. sym (same h) ∙ naming-of h (adds_none h among);
   others = λ h none. by h none (names_somewhere (book_behind journal) h class) refl;
 }
   where
-    same : (h : ℕ) → list_any (λ owner. owner == h) gathered ≡ names_somewhere (book_behind journal) h class
-    same h = ap (λ found. list_any (λ owner. owner == h) found) is ∙ among-named (accounts_of journal) h class (orders_of journal) owners are
+    same : (h : ℕ) → is_naming class (orders_of journal) owners h ≡ names_somewhere (book_behind journal) h class
+    same h = among-named (accounts_of journal) h class (orders_of journal) owners are
+
+    among-left : (h : ℕ) → is_member nat_eq left h ≡ (is_member nat_eq listed h && is_naming class (orders_of journal) owners h)
+    among-left h = ap (λ xs. is_member nat_eq xs h) is ∙ left-among (is_naming class (orders_of journal) owners) listed h
+
+    naming-of : (h : ℕ) → Contains left h → is_naming class (orders_of journal) owners h ≡ true
+    naming-of h among =
+        (and_parts (is_member nat_eq listed h) (is_naming class (orders_of journal) owners h)
+        (sym (among-left h) ∙ (is_member-Decides Decides-eqb left h).1 among)).1
+
+    left-is : (h : ℕ) → is_naming class (orders_of journal) owners h ≡ true → Contains left h
+    left-is h naming =
+        (is_member-Decides Decides-eqb left h).0
+        (among-left h
+        ∙ (ap (λ listed_is. listed_is && is_naming class (orders_of journal) owners h) (is-kept class (orders_of journal) owners listed h (all h) naming)
+        ∙ naming))
 
     by : (h : ℕ) → (Contains households h → ⊥) → (b : Bool) → names_somewhere (book_behind journal) h class ≡ b → b ≡ false
-    by h none true at = absurd (none (keeps h (number-any gathered h (same h ∙ at))))
+    by h none true at = absurd (none (keeps h (left-is h (same h ∙ at))))
     by h none false at = refl

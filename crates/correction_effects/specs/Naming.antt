@@ -1,6 +1,7 @@
 -- The households that have an order which stands and names a class: those that a corrected price or rate of it can reach.
-use Rattle.std.specs.List.{list_any}
-use Rattle.std.specs.Prelude.{Bool, Contains, List, None, Option, [], filter, if◌then◌else◌, option_and_then, true, ℕ, ◌&&◌, ◌++◌, ◌∷◌, ◌≡◌}
+use Rattle.std.specs.List.{list_any, slice_get}
+use Rattle.std.specs.Option.{option_map_or}
+use Rattle.std.specs.Prelude.{Bool, Contains, List, [], false, filter, true, ℕ, ◌&&◌, ◌∷◌, ◌||◌, ◌≡◌}
 use Rattle.agent_events.specs.declared.order.OrderRow.{OrderRow}
 use Rattle.register_laws.specs.CorrectionReach.{NamesNowhere, names_class}
 use Rattle.register_laws.specs.Households.{own_orders}
@@ -9,7 +10,7 @@ use Rattle.register_machine.specs.journal.Journals.{Journal}
 use Rattle.register_machine.specs.journal.Kinds.{accounts_of}
 use Rattle.register_machine.specs.pricing.CorrectedBook.{Book}
 use Rattle.register_machine.specs.pricing.CorrectedOrders.{orders_of, stands}
-use Rattle.standing_orders.specs.Rows.{AreOwners}
+use Rattle.standing_orders.specs.Rows.{AreOwners, is_owner}
 
 -- some order of the household stands and names the class
 abbrev pub names_somewhere : Book → ℕ → ℕ → Bool
@@ -31,12 +32,13 @@ AreNaming journal owners class households =
 abbrev pub names_standing : ℕ → OrderRow → Bool
 names_standing class row = stands row && names_class class row
 
--- the household of a row that stands and names the class
-abbrev pub named_owner : ℕ → Option OrderRow → Option ℕ → Option ℕ
-named_owner class row owner = option_and_then (λ found. if names_standing class found then owner else None) row
+-- the row at a place stands and names the class
+abbrev pub names_at : ℕ → List OrderRow → ℕ → Bool
+names_at class rows place = option_map_or (names_standing class) (slice_get rows place) false
 
-abbrev pub owners_naming : ℕ → List OrderRow → List ℕ → List ℕ
-owners_naming class [] owners = []
-owners_naming class (row ∷ rows) [] = []
-owners_naming class (row ∷ rows) (owner ∷ owners) =
-    (if names_standing class row then owner ∷ [] else []) ++ owners_naming class rows owners
+-- some row of the household stands and names the class
+abbrev pub is_naming : ℕ → List OrderRow → List ℕ → ℕ → Bool
+is_naming class [] owners household = false
+is_naming class (row ∷ rows) [] household = false
+is_naming class (row ∷ rows) (owner ∷ owners) household =
+    (is_owner household owner && names_standing class row) || is_naming class rows owners household

@@ -1,8 +1,9 @@
 //! The households that a corrected price or rate of a class can reach: those with a standing order that names the class.
-ghost use Rattle.std.specs.Prelude.{◌≡◌, ◌==◌, ◌++◌, ℕ, Contains, IfOk, OnOk, option_to_list, slice_get};
+ghost use Rattle.std.specs.Prelude.{◌≡◌, ◌==◌, ◌++◌, ℕ, Contains, IfOk, OnOk, filter, option_to_list};
 ghost use Rattle.std.specs.List.{list_any};
 ghost use Rattle.std.specs.List.Sorted.{IsStrictlyIncreasing};
-ghost use Rattle.correction_effects.specs.Naming.{AreNaming, named_owner, names_standing, owners_naming};
+ghost use Rattle.correction_effects.specs.Naming.{AreNaming, is_naming, names_at, names_standing};
+ghost use Rattle.register_machine.specs.pricing.CorrectedOrders.{orders_of};
 ghost use Rattle.register_machine.specs.pricing.OrderClasses.{classes_in};
 
 use agent_events::{Body, OrderRow};
@@ -12,7 +13,7 @@ use standing_orders::HouseholdOrders;
 use std::alloc::Global;
 
 /// The households, each once and rising, that have an order which stands and names the class, be it the one that an exchange goes
-/// to. It goes over all orders once.
+/// to. Of each household it goes back over its orders up to the last such one.
 pub fn households_naming(
     alloc: Global,
     book: &OrderBook,
@@ -23,25 +24,34 @@ pub fn households_naming(
         AreNaming book.now.journal index.now.owners class households.items) }
     ensures rising { IfOk result (λ households. IsStrictlyIncreasing households.items) }
 {
-    let mut households = owners_naming(alloc, book.orders(), index.owners(), class)?;
+    let mut households = index.households(alloc)?;
+    keep_naming(&mut households, book, index, class);
     put_each_once(&mut households);
     Ok(households)
 }
 
-// The households of the orders that stand and name the class, in the order of the rows.
-fn owners_naming(
-    alloc: Global,
-    rows: &[OrderRow],
-    owners: &[u32],
-    class: u32,
-) -> Result<Vec<u32>, NoMemory>
-    ensures { IfOk result (λ found. found.items ≡ owners_naming class rows.now owners.now) }
+// Leaves the households that have an order which stands and names the class.
+fn keep_naming(households: &mut Vec<u32>, book: &OrderBook, index: &HouseholdOrders, class: u32)
+    ensures { households.new.items
+        ≡ filter (is_naming class (orders_of book.now.journal) index.now.owners)
+        households.old.items }
 {
-    let mut found = Vec::new(alloc);
-    for place in 0..rows.len() {
-        push_found(&mut found, named_owner(rows, owners, place, class))?;
+    let rows = book.orders();
+    households.retain(|household| is_naming(rows, index, *household, class));
+}
+
+// Whether an order of the household stands and names the class, from its last order back.
+fn is_naming(rows: &[OrderRow], index: &HouseholdOrders, household: u32, class: u32) -> bool
+    ensures { result ≡ is_naming class rows.now index.now.owners household }
+{
+    let mut at = index.last_order(household);
+    'orders: while let Some(place) = at {
+        if names_at(rows, place, class) {
+            return true;
+        }
+        at = index.earlier_order(place);
     }
-    Ok(found)
+    false
 }
 
 pub(crate) fn push_found(found: &mut Vec<u32>, owner: Option<u32>) -> Result<(), NoMemory>
@@ -56,13 +66,12 @@ pub(crate) fn push_found(found: &mut Vec<u32>, owner: Option<u32>) -> Result<(),
     }
 }
 
-fn named_owner(rows: &[OrderRow], owners: &[u32], place: usize, class: u32) -> Option<u32>
-    ensures { result
-        ≡ named_owner class (slice_get rows.now place) (slice_get owners.now place) }
+fn names_at(rows: &[OrderRow], place: usize, class: u32) -> bool
+    ensures { result ≡ names_at class rows.now place }
 {
     match rows.get(place) {
-        Some(row) if names_standing(row, class) => owners.get(place).copied(),
-        _ => None,
+        Some(row) => names_standing(row, class),
+        None => false,
     }
 }
 

@@ -13,7 +13,7 @@ use std::alloc::Global;
 
 /// The households that a correction of this kind reopens, each once and rising: that of the account whose order it enters, replaces
 /// or voids, where the account is known; those whose standing orders name the class of a corrected price or rate, for which it goes
-/// over all orders once. An event of any other kind is no correction and reopens none.
+/// back over each household's orders up to the last one that does. An event of any other kind is no correction and reopens none.
 pub fn households_reached(
     alloc: Global,
     book: &OrderBook,

@@ -7,7 +7,7 @@ use Rattle.kept_states.specs.KeptStates.{last_before, without_second, with_one_m
 use Rattle.kept_states.specs.declared.states.KeptState.{KeptState}
 
 all-thinned : (states : List KeptState) → All (Contains states) (without_second states)
-all-thinned states = by (nat_le 4 (length states))
+all-thinned states = by (nat_le 6 (length states))
   where
     themselves : All (Contains states) states
     themselves = All-contains_itself states

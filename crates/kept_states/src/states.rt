@@ -26,10 +26,10 @@ pub struct HouseholdStates {
 }
 
 /// So many sheets at least lie between two states of a household.
-const SHEETS_BETWEEN: u32 = 8;
+const SHEETS_BETWEEN: u32 = 4;
 
 /// So many states at most are kept of a household: the first one, and the last ones.
-const MOST_STATES: usize = 4;
+const MOST_STATES: usize = 6;
 
 /// The states that are kept of each household, which contracts see by their households.
 #[derive(Drop)]
@@ -133,7 +133,7 @@ fn is_due(states: &[KeptState], sheet: u32) -> bool
 }
 
 fn is_far(last: &KeptState, sheet: u32) -> bool
-    ensures { result ≡ nat_le (last.now.sheet + 8) sheet }
+    ensures { result ≡ nat_le (last.now.sheet + 4) sheet }
 {
     SHEETS_BETWEEN <= sheet && last.sheet <= sheet - SHEETS_BETWEEN
 }

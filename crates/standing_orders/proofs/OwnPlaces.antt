@@ -13,7 +13,7 @@ use Rattle.register_machine.specs.journal.Choices.{when}
 use Rattle.standing_orders.specs.Places.{not_before, places_from, places_where, unless_before}
 use Rattle.standing_orders.specs.Rows.{is_owner}
 
-last-shifted : {X : Type 0} (test : X → Bool) (place : ℕ) (xs : List X) → last_place_from (place + 1) test xs ≡ option_map suc (last_place_from place test xs)
+pub last-shifted : {X : Type 0} (test : X → Bool) (place : ℕ) (xs : List X) → last_place_from (place + 1) test xs ≡ option_map suc (last_place_from place test xs)
 last-shifted test place [] = refl
 last-shifted {X} test place (x ∷ xs) =
     ap (λ (found : Option ℕ). option_or found (when (test x) (place + 1))) (last-shifted test (place + 1) xs) ∙ by_parts (last_place_from (place + 1) test xs) (test x)
@@ -130,7 +130,7 @@ pub record HasWalked (first : ℕ) (household_test : ℕ → Bool) (owners place
   pub last : at ≡ unless_before first (last_place household_test (take bound owners))
   pub rest : not_before first (places_where household_test owners) ≡ not_before first (places_where household_test (take bound owners)) ++ reverse places
 
-got-within : {X : Type 0} (bound : ℕ) (xs : List X) (n : ℕ) (x : X) → slice_get (take bound xs) n ≡ Some x → slice_get xs n ≡ Some x
+pub got-within : {X : Type 0} (bound : ℕ) (xs : List X) (n : ℕ) (x : X) → slice_get (take bound xs) n ≡ Some x → slice_get xs n ≡ Some x
 got-within zero xs n x is = cc
 got-within (suc bound) [] n x is = cc
 got-within (suc bound) (y ∷ xs) zero x is = is
