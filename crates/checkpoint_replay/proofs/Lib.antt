@@ -16,3 +16,5 @@ pub mod ReopenedDay
 mod JoinFacts
 -- the totals stay the sums over all trades
 mod TalliedLaw
+-- trades at the front that move the same change nothing
+mod CommonFront
