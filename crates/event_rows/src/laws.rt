@@ -8,6 +8,7 @@ ghost use Rattle.event_rows.specs.Reading.{event_at};
 ghost use Rattle.event_rows.specs.Sizes.{content_size};
 
 /// A row is read from its own spelling, whatever follows it, and from nothing else.
+#[tactic(auto, using(crate::proofs::WholeRows::event_field))]
 pub fn rows_are_exact()
     ensures { IsField event_row InForm event_at }
 {}

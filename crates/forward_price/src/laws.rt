@@ -10,6 +10,7 @@ ghost use Rattle.forward_price.specs.Turns.{due_of, IsRising, IsComplete, is_wro
 ghost use Rattle.forward_price.specs.Orderly.{IsOrderly, IsInTurn, OpensAfter, AreOnPricingDays};
 
 /// Where an order has its sheet, that sheet's moment is its due moment: no pricing moment between was passed over.
+#[tactic(auto, using(crate::proofs::OrderlyFacts::priced_when_due))]
 pub fn orders_are_priced_when_due()
     ensures { (t : Table) (asked : List ℕ) (receipt : ℤ) (sheet : Sheet) → IsOrderly t
         → 0 < length asked → next_sheet t.sheets asked receipt ≡ Some sheet
