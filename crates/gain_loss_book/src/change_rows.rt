@@ -64,12 +64,8 @@ fn push_holders(rows: &mut List<CashChange>, holders: &BTreeMap<u32, Flow>) -> R
     ensures rows { OnOk result (rows.new ≡ rows.old ++ holder_rows holders.now) }
     ensures rising { OnOk result (IsStrictlySortedBy nat_cmp (keys holders.now)) }
 {
-    for account in holders.keys() {
-        push_cash(
-            rows,
-            Party::Holder(*account),
-            tally::flow_in(holders, *account),
-        )?;
+    for (account, flow) in holders {
+        push_cash(rows, Party::Holder(*account), *flow)?;
     }
     Ok(())
 }
