@@ -1,5 +1,5 @@
 -- A lawful journal and its corrected table fit each other, and the situation of a request is the journal's own.
-use Rattle.std.proofs.Common.{ap, refl, subst, sym, ℕ, ◌∙◌, ◌≡◌}
+use Rattle.std.proofs.Common.{ap, refl, subst, sym, unwrap_or, ℕ, ◌∙◌, ◌≡◌}
 use Rattle.agent_events.specs.Events.{event_of}
 use Rattle.agent_events.specs.declared.request.Request.{Request}
 use Rattle.agent_events.specs.declared.verdict.Caller.{Caller}
@@ -17,6 +17,7 @@ use Rattle.register_machine.specs.pricing.PublishedTable.{table_of}
 use Rattle.register_machine.specs.rules.Situations.{Situation, situation_at}
 use Rattle.register_machine.specs.run.Verdicts.{due_now}
 use Rattle.request_rules.specs.Inquiries.{FitsJournal, situation_with}
+use Rattle.request_rules.specs.VerbRules.{due_of_request}
 
 own-fits : (journal : Journal) → IsLawful journal → FitsJournal (corrected_table journal) journal
 own-fits journal lawful = record {
@@ -60,3 +61,10 @@ same_event situation (Request.Trace form) = refl
 same_event situation (Request.Statement form) = refl
 same_event situation Request.Books = refl
 same_event situation (Request.Line line) = refl
+
+-- what the rules know of the due moment is what the event keeps of it
+pub asked_due : (situation : Situation) (request : Request)
+    → unwrap_or (due_of_request situation request) 0 ≡ due_asked situation request
+asked_due situation (Request.Order order) = refl
+asked_due situation (Request.Line line) = refl
+asked_due situation _ = refl

@@ -1,24 +1,17 @@
 //! The event that a new request brings.
-ghost use Rattle.std.specs.Prelude.{◌≡◌, IfOk, true};
+ghost use Rattle.std.specs.Prelude.{◌≡◌, IfOk, true, unwrap_or};
 ghost use Rattle.agent_events.specs.Events.{event_of};
-ghost use Rattle.order_intake.specs.Admitted.{due_asked};
 ghost use Rattle.register_laws.specs.LawfulLimits.{has_list_forms};
 
 use agent_events::{EventKind, Placed, Request, Source};
 use event_copies::Copied;
 use money_units::{Moment, NoMemory};
-use request_rules::{Inquiry, due_now};
 use std::alloc::Global;
 
-/// The due moment that the event keeps, of an order or a dealer's line; the first moment of all for anything else.
-pub(crate) fn due_asked(inquiry: &Inquiry, request: &Request) -> Moment
-    ensures { result ≡ due_asked inquiry.now request.now }
+/// The due moment that the event keeps: the first moment of all where there is none.
+pub(crate) fn due_kept(due: Option<Moment>) -> Moment
+    ensures { result ≡ unwrap_or due 0 }
 {
-    let due = match request {
-        Request::Order(order) => due_now(inquiry, &order.body, inquiry.moment()),
-        Request::Line(line) => due_now(inquiry, &line.order.body, line.receipt),
-        _ => None,
-    };
     match due {
         Some(due) => due,
         None => Moment::start(),

@@ -8,7 +8,7 @@ use Rattle.agent_events.specs.declared.request.DividendForm.{DividendForm}
 use Rattle.agent_events.specs.declared.request.Request.{Request}
 use Rattle.class_terms.specs.Checking.{differs_in_family, lesser}
 use Rattle.class_terms.specs.declared.form.TermsForm.{TermsForm}
-use Rattle.register_machine.specs.pricing.CorrectedBook.{Book, front_of}
+use Rattle.register_machine.specs.pricing.CorrectedBook.{Book, due_at, front_of}
 use Rattle.register_machine.specs.pricing.DividendRates.{declares}
 use Rattle.register_machine.specs.rules.Identities.{ref_used}
 use Rattle.register_machine.specs.rules.Limits.{journal_full, orders_full, too_many}
@@ -40,6 +40,12 @@ with_class_at form least_one (Some other) = with_differing form least_one (terms
 abbrev pub class_declares : List DividendForm → ℕ → ℕ → ClassForm → Bool
 class_declares declared calendar moment class =
     class.calendar == calendar && list_any (declares class.class moment) declared
+
+-- the due moment of what a request orders
+abbrev pub due_of_request : Situation → Request → Option ℕ
+due_of_request situation (Request.Order order) = due_at situation.book order.body situation.now
+due_of_request situation (Request.Line line) = due_at situation.book line.order.body line.receipt
+due_of_request situation _ = None
 
 -- what has a number of its own, and stands on nothing
 abbrev pub number_rules : Situation → Request → List (Option Refusal)

@@ -15,6 +15,6 @@ mod rights;
 mod rules;
 mod set_up;
 
-pub use crate::first_rule::{broken_rule, due_now};
+pub use crate::first_rule::{broken_rule, broken_rule_by, due_now, due_of_request};
 pub use crate::inquiry::Inquiry;
 pub use crate::rights::no_right;

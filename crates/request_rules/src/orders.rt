@@ -2,16 +2,19 @@
 ghost use Rattle.std.specs.Prelude.{◌≡◌, ◌≤◌, length, nat_lt};
 ghost use Rattle.agent_events.specs.declared.request.Request.{Request};
 ghost use Rattle.request_rules.specs.VerbRules.{absent_among, has_breakpoints, rules_of};
+ghost use Rattle.std.specs.Option.{option_copied};
 ghost use Rattle.register_machine.specs.journal.Choices.{first_some, when};
+ghost use Rattle.register_machine.specs.journal.Kinds.{class_numbered};
+ghost use Rattle.register_machine.specs.pricing.OrderClasses.{class_of};
 ghost use Rattle.register_machine.specs.pricing.CorrectedBook.{calendar_of, due_at, due_moment};
 ghost use Rattle.register_machine.specs.pricing.CorrectedOrders.{row_as_sent};
-ghost use Rattle.register_machine.specs.rules.NamedThings.{named_in_order};
+ghost use Rattle.register_machine.specs.rules.NamedThings.{has_class, named_in_order};
 ghost use Rattle.register_machine.specs.rules.Orders.{below_minimum, calendar_ended, family_of, has_one_calendar, is_exchangeable, is_of_calendar, is_offered, late_by, not_offered, window_of};
 
 use crate::inquiry::{Inquiry, class_of, target_of};
 use crate::limits::{journal_full, orders_full, reference_used};
 use crate::rules::{first_absent, first_broken, refused_when};
-use agent_events::{Body, Caller, Identifier, LineForm, Order, OrderRow, Refusal};
+use agent_events::{Body, Caller, ClassForm, Identifier, LineForm, Order, OrderRow, Refusal};
 use money_units::Moment;
 
 /// An order as it is sent, behind all events.
@@ -59,23 +62,36 @@ fn has_one_calendar(inquiry: &Inquiry, body: &Body) -> bool
     }
 }
 
-/// Refusal 5. The classes have one calendar, and no due moment is left in it.
+/// Refusal 5. The classes have one calendar, and no due moment is left in it; `due` is the order's.
+fn calendar_ended_by(inquiry: &Inquiry, row: &OrderRow, due: &Option<Moment>) -> Option<Refusal>
+    requires { due.now ≡ due_moment inquiry.now.book row.now }
+    ensures { result ≡ calendar_ended inquiry.now.book row.now }
+{
+    match due {
+        Some(_) => None,
+        None => refused_when(
+            has_one_calendar(inquiry, &row.order.body),
+            Refusal::CalendarEnded,
+        ),
+    }
+}
+
+/// The same, where the due moment isn't known yet.
 pub(crate) fn calendar_ended(inquiry: &Inquiry, row: &OrderRow) -> Option<Refusal>
     ensures { result ≡ calendar_ended inquiry.now.book row.now }
 {
-    refused_when(
-        has_one_calendar(inquiry, &row.order.body) && due_moment(inquiry, row).is_none(),
-        Refusal::CalendarEnded,
-    )
+    calendar_ended_by(inquiry, row, &due_moment(inquiry, row))
 }
 
 /// Refusal 6. The gross of a purchase is below its minimum: the later one behind another order to buy the class that stands,
-/// else the first one.
-pub(crate) fn below_minimum(inquiry: &Inquiry, row: &OrderRow) -> Option<Refusal>
+/// else the first one; `terms` are those of the order's class.
+fn below_minimum_by(inquiry: &Inquiry, row: &OrderRow, terms: Option<&ClassForm>) -> Option<Refusal>
+    requires { option_copied terms
+        ≡ class_numbered inquiry.now.book.classes (class_of row.now.order.body) }
     ensures { result ≡ below_minimum inquiry.now.book row.now }
 {
     match row.order.body {
-        Body::Buy { class, gross } => match inquiry.class(class) {
+        Body::Buy { class, gross } => match terms {
             Some(terms) => {
                 let least = if inquiry.has_bought(row, class) {
                     terms.later_min
@@ -88,6 +104,13 @@ pub(crate) fn below_minimum(inquiry: &Inquiry, row: &OrderRow) -> Option<Refusal
         },
         _ => None,
     }
+}
+
+/// The same, where the class isn't looked up yet.
+pub(crate) fn below_minimum(inquiry: &Inquiry, row: &OrderRow) -> Option<Refusal>
+    ensures { result ≡ below_minimum inquiry.now.book row.now }
+{
+    below_minimum_by(inquiry, row, inquiry.class(class_of(&row.order.body)))
 }
 
 /// The family of a class, 0 for none.
@@ -149,28 +172,35 @@ pub(crate) fn receipt_ahead(inquiry: &Inquiry, receipt: Moment) -> Option<Refusa
 }
 
 /// Refusal 3 on an order whose account stands at this place, with its classes behind.
-fn named_absent(inquiry: &Inquiry, first: u8, order: &Order) -> Option<Refusal>
-    requires { first ≤ 100 }
+fn named_absent(inquiry: &Inquiry, first: u8, order: &Order, is_there: bool) -> Option<Refusal>
+    requires few { first ≤ 100 }
+    requires class { is_there ≡ has_class inquiry.now (class_of order.now.body) }
     ensures { result ≡ absent_among (named_in_order inquiry.now first order.now) }
 {
     let account = (first, inquiry.has_account(order.account));
-    let class = (first + 2, inquiry.has_class(class_of(&order.body)));
+    let class = (first + 2, is_there);
     match target_of(&order.body) {
         Some(to) => first_absent(&[account, class, (first + 3, inquiry.has_class(to))]),
         None => first_absent(&[account, class]),
     }
 }
 
-/// The first rule behind the repeat that an order breaks.
-pub(crate) fn broken_by_order(inquiry: &Inquiry, order: &Order) -> Option<Refusal>
+/// The first rule behind the repeat that an order breaks; `due` is its due moment.
+pub(crate) fn broken_by_order(
+    inquiry: &Inquiry,
+    order: &Order,
+    due: &Option<Moment>,
+) -> Option<Refusal>
+    requires { due.now ≡ due_at inquiry.now.book order.now.body inquiry.now.now }
     ensures { result ≡ first_some (rules_of inquiry.now (Request.Order order.now)) }
 {
     let row = row_as_sent(inquiry, inquiry.moment(), order);
+    let terms = inquiry.class(class_of(&order.body));
     first_broken(&[
-        named_absent(inquiry, 1, order),
+        named_absent(inquiry, 1, order, terms.is_some()),
         reference_used(inquiry, order.account, order.ref_no),
-        calendar_ended(inquiry, &row),
-        below_minimum(inquiry, &row),
+        calendar_ended_by(inquiry, &row, due),
+        below_minimum_by(inquiry, &row, terms),
         not_offered(inquiry, &row),
         orders_full(inquiry, order.account),
         journal_full(inquiry),
@@ -192,32 +222,37 @@ fn window_of(inquiry: &Inquiry) -> u64
 }
 
 /// Refusal 8. The line's sheet is published, or its due moment is past by more than the window.
-fn late_for_dealer(inquiry: &Inquiry, line: &LineForm) -> Option<Refusal>
-    ensures { result ≡ late_by inquiry.now line.now (due_at inquiry.now.book line.now.order.body
-        line.now.receipt) }
+fn late_for_dealer(inquiry: &Inquiry, line: &LineForm, due: &Option<Moment>) -> Option<Refusal>
+    ensures { result ≡ late_by inquiry.now line.now due.now }
 {
-    match inquiry.due_at(&line.order.body, line.receipt) {
+    match due {
         Some(due) => refused_when(
-            inquiry.is_published_at(class_of(&line.order.body), due)
+            inquiry.is_published_at(class_of(&line.order.body), *due)
                 || due.number() + window_of(inquiry) < inquiry.moment().number(),
-            Refusal::LateForDealer(due),
+            Refusal::LateForDealer(*due),
         ),
         None => None,
     }
 }
 
-/// The first rule behind the repeat that a dealer's line breaks.
-pub(crate) fn broken_by_line(inquiry: &Inquiry, line: &LineForm) -> Option<Refusal>
+/// The first rule behind the repeat that a dealer's line breaks; `due` is its due moment.
+pub(crate) fn broken_by_line(
+    inquiry: &Inquiry,
+    line: &LineForm,
+    due: &Option<Moment>,
+) -> Option<Refusal>
+    requires { due.now ≡ due_at inquiry.now.book line.now.order.body line.now.receipt }
     ensures { result ≡ first_some (rules_of inquiry.now (Request.Line line.now)) }
 {
     let row = row_as_sent(inquiry, line.receipt, &line.order);
+    let terms = inquiry.class(class_of(&line.order.body));
     first_broken(&[
-        named_absent(inquiry, 3, &line.order),
+        named_absent(inquiry, 3, &line.order, terms.is_some()),
         reference_used(inquiry, line.order.account, line.order.ref_no),
-        calendar_ended(inquiry, &row),
-        below_minimum(inquiry, &row),
+        calendar_ended_by(inquiry, &row, due),
+        below_minimum_by(inquiry, &row, terms),
         not_offered(inquiry, &row),
-        late_for_dealer(inquiry, line),
+        late_for_dealer(inquiry, line, due),
         receipt_ahead(inquiry, line.receipt),
         orders_full(inquiry, line.order.account),
         journal_full(inquiry),

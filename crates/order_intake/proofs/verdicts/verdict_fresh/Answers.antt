@@ -10,8 +10,8 @@ use Rattle.register_machine.specs.rules.Situations.{Situation}
 
 pub new-requires : goal.new-requires
 new-requires c =
-    let brings : event_of c.args.request.now c.moment.result c.due_asked-due.result ≡ Some c.in-Some.kind = sym c.in_ok-kind.ensures ∙ c.in-Some.is in
-    let asked = asks c.args.request.now c.moment.result c.due_asked-due.result c.in-Some.kind brings in
+    let brings : event_of c.args.request.now c.moment.result c.due_kept.result ≡ Some c.in-Some.kind = sym c.in_ok-kind.ensures ∙ c.in-Some.is in
+    let asked = asks c.args.request.now c.moment.result c.due_kept.result c.in-Some.kind brings in
     fits_allowed c.args.book.now.journal c.args.inquiry.now.now c.args.inquiry.now.caller c.in-Some.kind c.requires.lawful
     (subst (λ (s : Situation). first_some (first_rules s (request_of c.in-Some.kind)) ≡ None) c.requires.own
     (subst (λ (r : Request). first_some (first_rules c.args.inquiry.now r) ≡ None) (sym asked) c.requires.good))
