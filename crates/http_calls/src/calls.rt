@@ -7,7 +7,7 @@ ghost use Rattle.http_calls.specs.Bodies.{asked_by_body};
 ghost use Rattle.http_calls.specs.Calls as spec;
 
 use crate::body::asked_by_body;
-use crate::routes::{Route, behind, part, parts_of, route_of};
+use crate::routes::{PART_LIMIT, Route, behind, part, parts_in, route_of};
 use agent_events::{Asked, Request};
 use csv_rows::{Fields, records_of, slices_of};
 use http_stream::HttpFault;
@@ -37,8 +37,9 @@ pub(crate) fn answered(
     ensures { IfOk result
         (λ answer. answer ≡ spec.target_answer target.now method.now size body.now) }
 {
-    let parts = parts_of(alloc, target)?;
-    answered_by(alloc, &parts, method, size, body)
+    let mut room: [&[u8]; PART_LIMIT] = [&[]; PART_LIMIT];
+    let count = parts_in(target, &mut room);
+    answered_by(alloc, &room[..count], method, size, body)
 }
 
 fn answered_by(
