@@ -51,11 +51,15 @@ pub(crate) fn is_posted(verb: &[u8]) -> bool
 
 /// What a body asks of a verb, or the place of the first field that isn't in its form. A body that is no object, and a member
 /// with a name that the verb hasn't, are place 0.
-pub fn asked_by_body(alloc: Global, verb: &[u8], body: &[u8]) -> Result<Request, FormFault>
+pub(crate) fn asked_by_body(
+    alloc: Global,
+    scratch: &mut Scratch,
+    verb: &[u8],
+    body: &[u8],
+) -> Result<Request, FormFault>
     ensures { Gives result (spec.asked_by_body verb.now body.now) }
 {
-    let mut scratch = Scratch::new(alloc);
-    match flat_members(alloc, body, &mut scratch)? {
+    match flat_members(alloc, body, scratch)? {
         Some(members) => asked_by_members(alloc, verb, &members),
         None => asked_by_text(alloc, verb, body),
     }
