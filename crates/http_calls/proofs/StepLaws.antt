@@ -1,5 +1,5 @@
 -- A whole message gives the next item of its stream.
-use Rattle.std.proofs.Common.{◌≡◌, ◌≤◌, ℕ, ◌+◌, Bool, true, false, cond, leb, ◌||◌, List, length, take, drop, Option, Some, None, Result, Ok, Err, refl, sym, ap, ◌∙◌, arith}
+use Rattle.std.proofs.Common.{◌≡◌, ◌≤◌, ℕ, ◌+◌, Bool, true, false, cond, leb, ◌||◌, List, length, take, drop, Some, None, Result, Ok, Err, refl, sym, ap, ◌∙◌, arith}
 use Rattle.std.specs.Option.{unwrap_or}
 use Rattle.std.proofs.lemmas.Bool.Decides.{nat_tests}
 use Rattle.httparse.specs.Grammar.{RequestHead, print_request}
@@ -7,7 +7,7 @@ use Rattle.httparse.specs.Spans.{span_bytes}
 use Rattle.http_stream.specs.declared.fault.HttpFault.{HttpFault}
 use Rattle.http_stream.specs.declared.head.HeadAt.{HeadAt}
 use Rattle.http_stream.specs.Kept.{StandsAt}
-use Rattle.http_stream.specs.Stream.{IsHeadAt, IsItem, Message, Shown, Shows, Stream, StreamItem, after_item, behind, body_at, found_of, item_closes, message_of, size_of, whole_at}
+use Rattle.http_stream.specs.Stream.{IsHeadAt, IsItem, Message, Shown, Shows, Stream, StreamItem, after_item, behind, body_at, found_of, message_of, size_of}
 use Rattle.http_calls.specs.declared.calls.CallAsk.{CallAsk}
 use Rattle.http_calls.specs.declared.feed.Step.{Step}
 use Rattle.http_calls.specs.Calls.{answer, target_answer, closes_by, ends, fault_closes}

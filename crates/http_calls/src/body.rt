@@ -10,9 +10,11 @@ ghost use Rattle.request_fields.specs.declared.fault.FormFault.TheVariants as fa
 ghost use Rattle.http_calls.specs.Bodies as spec;
 ghost use Rattle.http_calls.specs.Views.{member_view};
 
+use crate::flat::flat_members;
 use crate::members::{MemberText, are_named, members_of, text_named};
 use crate::names::{entry_names, field_names, is_one_of, order_names};
 use agent_events::Request;
+use json::Scratch;
 use money_units::NoMemory;
 use request_fields::{FormFault, asked_by, is_order, order_count, same_bytes};
 use serde_json::{Error, Value};
@@ -49,7 +51,22 @@ pub(crate) fn is_posted(verb: &[u8]) -> bool
 
 /// What a body asks of a verb, or the place of the first field that isn't in its form. A body that is no object, and a member
 /// with a name that the verb hasn't, are place 0.
-pub fn asked_by_body(alloc: Global, verb: &[u8], body: &[u8]) -> Result<Request, FormFault>
+pub(crate) fn asked_by_body(
+    alloc: Global,
+    scratch: &mut Scratch,
+    verb: &[u8],
+    body: &[u8],
+) -> Result<Request, FormFault>
+    ensures { Gives result (spec.asked_by_body verb.now body.now) }
+{
+    match flat_members(alloc, body, scratch)? {
+        Some(members) => asked_by_members(alloc, verb, &members),
+        None => asked_by_text(alloc, verb, body),
+    }
+}
+
+// The same of any body, by the value that it reads as.
+fn asked_by_text(alloc: Global, verb: &[u8], body: &[u8]) -> Result<Request, FormFault>
     ensures { Gives result (spec.asked_by_body verb.now body.now) }
 {
     match Value::from_slice(alloc, body) {

@@ -7,10 +7,11 @@ ghost use Rattle.http_calls.specs.Bodies.{asked_by_body};
 ghost use Rattle.http_calls.specs.Calls as spec;
 
 use crate::body::asked_by_body;
-use crate::routes::{Route, behind, part, parts_of, route_of};
+use crate::routes::{PART_LIMIT, Route, behind, part, parts_in, route_of};
 use agent_events::{Asked, Request};
 use csv_rows::{Fields, records_of, slices_of};
 use http_stream::HttpFault;
+use json::Scratch;
 use money_units::{List, NoMemory};
 use request_fields::{FormFault, asked_by, line_asked, same_bytes};
 use std::alloc::Global;
@@ -29,6 +30,7 @@ pub enum CallAsk {
 /// What a request asks, or its fault.
 pub(crate) fn answered(
     alloc: Global,
+    scratch: &mut Scratch,
     target: &[u8],
     method: &[u8],
     size: Option<usize>,
@@ -37,12 +39,14 @@ pub(crate) fn answered(
     ensures { IfOk result
         (λ answer. answer ≡ spec.target_answer target.now method.now size body.now) }
 {
-    let parts = parts_of(alloc, target)?;
-    answered_by(alloc, &parts, method, size, body)
+    let mut room: [&[u8]; PART_LIMIT] = [&[]; PART_LIMIT];
+    let count = parts_in(target, &mut room);
+    answered_by(alloc, scratch, &room[..count], method, size, body)
 }
 
 fn answered_by(
     alloc: Global,
+    scratch: &mut Scratch,
     parts: &[&[u8]],
     method: &[u8],
     size: Option<usize>,
@@ -56,7 +60,7 @@ fn answered_by(
     match route_of(parts) {
         Route::Missing => Ok(Err(HttpFault::S404)),
         Route::Batch => batch_answer(alloc, method, size, body),
-        Route::Posted => posted_answer(alloc, parts, method, size, body),
+        Route::Posted => posted_answer(alloc, scratch, parts, method, size, body),
         Route::Look => look_answer(alloc, parts, method),
     }
 }
@@ -87,6 +91,7 @@ fn batch_answer(
 #[inline(never)]
 fn posted_answer(
     alloc: Global,
+    scratch: &mut Scratch,
     parts: &[&[u8]],
     method: &[u8],
     size: Option<usize>,
@@ -102,7 +107,7 @@ fn posted_answer(
     } else if size.is_none() {
         Ok(Err(HttpFault::S411))
     } else {
-        match asked_by_body(alloc, part(parts, 3), body) {
+        match asked_by_body(alloc, scratch, part(parts, 3), body) {
             Ok(request) => Ok(Ok(CallAsk::One(Ok(request)))),
             Err(FormFault::Place(place)) => Ok(Ok(CallAsk::One(Err(place)))),
             Err(FormFault::NoMemory) => Err(NoMemory),

@@ -9,8 +9,10 @@ ghost use Rattle.http_calls.specs.Steps.{StepsAs, answer_at};
 use crate::calls::{CallAsk, answered};
 use agent_events::KeyText;
 use http_stream::{Front, HeadAt, HttpFault, Intake};
+use json::Scratch;
 use money_units::NoMemory;
 use std::alloc::Global;
+use std::fmt;
 use std::marker::Model;
 
 /// A request that was read.
@@ -32,11 +34,24 @@ pub enum Step {
     Fault { fault: HttpFault, last: bool },
 }
 
+// What the reading of a body needs, kept from one to the next.
+#[derive(Drop)]
+struct Room {
+    scratch: Scratch,
+}
+
+impl fmt::Debug for Room {
+    fn fmt<W: fmt::Write>(&self, f: &mut fmt::Formatter<W>) -> fmt::Result {
+        f.write_str("Room")
+    }
+}
+
 /// The stream of a connection, which contracts see as the bytes that are left, the number of items that were given, and whether
 /// the last of them closed the connection.
 #[derive(Debug, Drop)]
 pub struct Feed {
     intake: Intake,
+    room: Room,
 }
 
 impl Model for Feed {
@@ -54,6 +69,9 @@ impl Feed {
     {
         Feed {
             intake: Intake::new(alloc),
+            room: Room {
+                scratch: Scratch::new(alloc),
+            },
         }
     }
 
@@ -96,7 +114,7 @@ impl Feed {
         ensures err { OnErr result (self.new ≡ self.old) }
     {
         let size = size_at(self.intake.rest(), head);
-        let answer = message_answer(alloc, self.intake.rest(), head)?;
+        let answer = message_answer(alloc, &mut self.room.scratch, self.intake.rest(), head)?;
         match answer {
             Ok(ask) => {
                 let key = message_key(alloc, self.intake.rest(), head)?;
@@ -125,6 +143,7 @@ fn size_at(rest: &[u8], head: HeadAt) -> usize
 // What the message asks whose head stands here.
 fn message_answer(
     alloc: Global,
+    scratch: &mut Scratch,
     rest: &[u8],
     head: HeadAt,
 ) -> Result<Result<CallAsk, HttpFault>, NoMemory>
@@ -135,6 +154,7 @@ fn message_answer(
     let body = body_of(rest, head.size, head.length.unwrap_or(0));
     answered(
         alloc,
+        scratch,
         head.target.of(rest),
         head.method.of(rest),
         head.length,

@@ -4,6 +4,7 @@
 mod body;
 mod calls;
 mod feed;
+mod flat;
 mod members;
 mod names;
 mod routes;

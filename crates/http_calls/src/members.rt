@@ -102,7 +102,8 @@ fn text_of(value: &Value) -> ValueText<'_>
     }
 }
 
-fn whole_text<'a>(number: u64) -> ValueText<'a>
+/// The digits of a whole number, up to the greatest of the text forms.
+pub(crate) fn whole_text<'a>(number: u64) -> ValueText<'a>
     ensures { text_view result ≡ spec.whole_text number }
 {
     if number <= 9_999_999_999_999_999_999 {

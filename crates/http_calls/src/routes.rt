@@ -1,13 +1,11 @@
 //! The route of a path.
-ghost use Rattle.std.specs.Prelude.{◌≡◌, ◌≤◌, map, drop, IfOk};
+ghost use Rattle.std.specs.Prelude.{◌≡◌, ◌+◌, ◌<◌, ◌≤◌, length, map, take, drop};
 ghost use Rattle.std.specs.List.{list_all, position_or_len, slice_split};
 ghost use Rattle.agent_events.specs.Forms.{field};
 ghost use Rattle.http_calls.specs.Calls as spec;
 
 use crate::body::is_posted;
-use money_units::NoMemory;
 use request_fields::{is_order, same_bytes};
-use std::alloc::{AllocError, Global};
 
 /// What stands at a path.
 #[derive(Clone, Copy, Debug)]
@@ -21,19 +19,50 @@ pub(crate) enum Route {
     Look,
 }
 
-/// The parts of a target's path between slashes.
-pub(crate) fn parts_of(alloc: Global, target: &[u8]) -> Result<Vec<&[u8]>, NoMemory>
-    ensures { IfOk result
-        (λ parts. map (λ part. part.now) parts.items ≡ spec.parts_of (spec.path_of target.now)) }
+/// So many parts of a path are told apart; no route has as many.
+pub(crate) const PART_LIMIT: usize = 7;
+
+/// Writes the first parts of a target's path between slashes to a room, and gives how many
+/// they are.
+pub(crate) fn parts_in<'a>(target: &'a [u8], room: &mut [&'a [u8]; PART_LIMIT]) -> usize
+    ensures count { result ≤ length room.new }
+    ensures parts { map (λ part. part.now) (take result room.new)
+        ≡ take 7 (spec.parts_of (spec.path_of target.now)) }
 {
-    Ok(slash_parts(alloc, path_of(target))?)
+    slash_parts(path_of(target), room)
 }
 
-fn slash_parts(alloc: Global, path: &[u8]) -> Result<Vec<&[u8]>, AllocError>
-    ensures { IfOk result
-        (λ parts. map (λ part. part.now) parts.items ≡ slice_split spec.is_slash path.now) }
+fn slash_parts<'a>(path: &'a [u8], room: &mut [&'a [u8]; PART_LIMIT]) -> usize
+    ensures count { result ≤ length room.new }
+    ensures parts { map (λ part. part.now) (take result room.new)
+        ≡ take 7 (slice_split spec.is_slash path.now) }
 {
-    path.split(|byte| *byte == b'/').collect(alloc)
+    let mut rest = path;
+    for place in 0..PART_LIMIT {
+        let end = slash_of(rest);
+        room[place] = front(rest, end);
+        if end == rest.len() {
+            return place + 1;
+        }
+        rest = past(rest, end);
+    }
+    PART_LIMIT
+}
+
+// The bytes before a place.
+fn front(text: &[u8], place: usize) -> &[u8]
+    requires { place ≤ length text.now }
+    ensures { result.now ≡ take place text.now }
+{
+    &text[..place]
+}
+
+// The bytes behind the byte at a place.
+fn past(text: &[u8], place: usize) -> &[u8]
+    requires { place < length text.now }
+    ensures { result.now ≡ drop (place + 1) text.now }
+{
+    &text[place + 1..]
 }
 
 // The target up to a question mark.
@@ -41,6 +70,16 @@ fn path_of(target: &[u8]) -> &[u8]
     ensures { result.now ≡ spec.path_of target.now }
 {
     &target[..question_of(target)]
+}
+
+// The place of the first slash, or the length where there is none.
+fn slash_of(text: &[u8]) -> usize
+    ensures value { result ≡ position_or_len spec.is_slash text.now }
+    ensures within { result ≤ length text.now }
+{
+    text.iter()
+        .position(|byte| *byte == b'/')
+        .unwrap_or(text.len())
 }
 
 fn question_of(target: &[u8]) -> usize

@@ -1,6 +1,6 @@
 use Rattle.serde_json.specs.Errors.{IsMemory}
 use Rattle.http_calls.proofs.MemberLaws.{object-read, object-unread, unread-fails}
-use Rattle.http_calls.proofs.body.asked_by_body.Goals as goal
+use Rattle.http_calls.proofs.body.asked_by_text.Goals as goal
 
 pub returns-in-Ok : goal.returns-in-Ok
 returns-in-Ok c =
