@@ -9,7 +9,6 @@ mod flows;
 mod latest_price;
 pub mod laws;
 mod limits;
-mod movements;
 mod party_accounts;
 mod posting;
 mod tally;
@@ -22,9 +21,6 @@ pub use crate::class_gains::gains;
 pub use crate::flows::{Flow, FlowRows};
 pub use crate::limits::{
     cash_within, classes_are_numbered, correction_within, gains_within, shares_within,
-};
-pub use crate::movements::{
-    CashMoved, CashMovement, SharesMoved, moved_cash, shares_brought, shares_taken,
 };
 pub use crate::party_accounts::Accounts;
 pub use crate::posting::Correction;

@@ -72,20 +72,6 @@ impl Tally {
         }
     }
 
-    /// Adds a flow of shares to that of a class.
-    pub fn add_mils(&mut self, class: u32, flow: Flow) -> Result<(), NoMemory>
-        requires inflow { (mils_tallied self.old class).inflow + flow.inflow < 2 ^ 128 }
-        requires outflow { (mils_tallied self.old class).outflow + flow.outflow < 2 ^ 128 }
-        ensures mils { OnOk result ((q : ℕ) → mils_tallied self.new q
-            ≡ (if class == q then with_flow (mils_tallied self.old q) flow
-            else mils_tallied self.old q)) }
-        ensures cash { OnOk result ((party : AnyParty)
-            → cash_tallied self.new party ≡ cash_tallied self.old party) }
-    {
-        class_flows::add_mils(&mut self.classes, class, flow)?;
-        Ok(())
-    }
-
     /// Adds flows of cash and of shares to those of a class.
     pub fn add_class(&mut self, class: u32, flows: ClassFlows) -> Result<(), NoMemory>
         requires cash_in { (cash_tallied self.old (AnyParty.Class class)).inflow

@@ -1,6 +1,7 @@
 //! What a trade brings and takes, each party and each class once.
 ghost use Rattle.std.specs.Prelude.{◌≡◌, ◌+◌, ◌<◌, ◌^◌};
-ghost use Rattle.gain_loss_book.specs.Flows.{reverse_flow};
+ghost use Rattle.gain_loss_book.specs.ClassFlows.{no_flows};
+ghost use Rattle.gain_loss_book.specs.Flows.{no_flow, reverse_flow};
 ghost use Rattle.gain_loss_book.specs.TradeFlows.{AreSmall, IsSmall, coming, flows_by, flows_of_trade, going, no_trade_flows, reverse_flows, reverse_trade_flows, trade_flows};
 
 use crate::class_flows::ClassFlows;
@@ -84,13 +85,7 @@ fn flows_by(trade: &Trade) -> TradeFlows
             class_flows(coming(cash), coming(trade.to_mils.0)),
             Flow::none(),
         ),
-        TradeKind::LetterEnded => parts(
-            trade,
-            Flow::none(),
-            class_flows(going(cash), going(mils)),
-            none,
-            coming(cash),
-        ),
+        TradeKind::LetterEnded => letter_ended(trade, cash, mils),
         TradeKind::DividendShares => parts(
             trade,
             through(cash),
@@ -110,6 +105,17 @@ fn flows_by(trade: &Trade) -> TradeFlows
         TradeKind::ElectCash => nothing(trade),
         TradeKind::ElectShares => nothing(trade),
     }
+}
+
+// What a letter falls short of goes from its class to the underwriter.
+fn letter_ended(trade: &Trade, cents: u64, mils: u64) -> TradeFlows
+    ensures flows { result
+        ≡ trade_flows trade.now no_flow (record { cash = going cents; mils = going mils }) no_flows
+        (coming cents) }
+    ensures small { AreSmall result }
+{
+    let own = class_flows(going(cents), going(mils));
+    parts(trade, Flow::none(), own, ClassFlows::none(), coming(cents))
 }
 
 fn parts(
