@@ -1,0 +1,149 @@
+//! The keepers in memory.
+use crate::batches::{BOTH, FIRST, NOTHING, commit, first_batch, shown, two_commits};
+use agent_keeper::{KeepFault, Keeper, MemoryKeeper, SureKeeper, append_row};
+use money_units::Bytes;
+use std::alloc::Global;
+use std::test::Fail;
+
+#[test]
+fn both_keepers_keep_two_commits(rt: HostRuntime) -> Result<(), Fail> {
+    let alloc = rt.alloc();
+    let mut sure = SureKeeper::new(alloc);
+    sure.attach("anywhere")?;
+    two_commits(alloc, &mut sure)?;
+    assert_eq!(rt; shown(alloc, &mut sure)?.as_slice(), BOTH);
+    let mut memory = MemoryKeeper::new(alloc, &[])?;
+    two_commits(alloc, &mut memory)?;
+    assert_eq!(rt; shown(alloc, &mut memory)?.as_slice(), BOTH);
+    Ok(())
+}
+
+// What is left where one call of two commits fails.
+fn left_by(alloc: Global, listed: u64) -> Result<Vec<u8>, KeepFault> {
+    let mut keeper = MemoryKeeper::new(alloc, &[listed])?;
+    let _told = two_commits(alloc, &mut keeper);
+    shown(alloc, &mut keeper)
+}
+
+#[test]
+fn a_call_that_fails_leaves_the_rows_before_it(rt: HostRuntime) -> Result<(), Fail> {
+    let alloc = rt.alloc();
+    for (listed, wanted) in [
+        (1, NOTHING),
+        (2, NOTHING),
+        (3, FIRST),
+        (4, FIRST),
+        (99, BOTH),
+    ] {
+        assert_eq!(rt; left_by(alloc, listed)?.as_slice(), wanted);
+    }
+    Ok(())
+}
+
+// Which of five calls fail: `attach`, `len`, `row`, `check` and `commit`.
+fn failing(alloc: Global, listed: u64) -> Result<[bool; 5], KeepFault> {
+    let mut keeper = MemoryKeeper::new(alloc, &[listed])?;
+    let batch = first_batch(alloc)?;
+    let mut into = Vec::new(alloc);
+    Ok([
+        keeper.attach("anywhere").is_err(),
+        keeper.len().is_err(),
+        keeper.row(0, &mut into).is_err(),
+        keeper.check(7, 32, &mut into).is_err(),
+        keeper.commit(0, &batch).is_err(),
+    ])
+}
+
+#[test]
+fn the_listed_call_fails_and_no_other(rt: HostRuntime) -> Result<(), Fail> {
+    for listed in 1..7 {
+        let found = failing(rt.alloc(), listed)?;
+        assert_eq!(rt;
+            found,
+            [
+                listed == 1,
+                listed == 2,
+                listed == 3,
+                listed == 4,
+                listed == 5
+            ]
+        );
+    }
+    Ok(())
+}
+
+// What a stop leaves of a keeper whose call of this number fails, after two commits and one that is tried behind them.
+fn stopped(alloc: Global, fails: u64, with_last: bool) -> Result<Vec<u8>, KeepFault> {
+    let mut keeper = MemoryKeeper::new(alloc, &[fails])?;
+    two_commits(alloc, &mut keeper)?;
+    let batch = first_batch(alloc)?;
+    let _told = commit(&mut keeper, &batch);
+    let mut left = keeper.after_stop(alloc, with_last)?;
+    shown(alloc, &mut left)
+}
+
+#[test]
+fn a_stop_leaves_the_last_commit_or_none_of_it(rt: HostRuntime) -> Result<(), Fail> {
+    // The sixth call is the third commit: one that failed may be found after a stop, as one that didn't.
+    const THREE: &[u8] = b"3 rows first second, checks a b c";
+    let alloc = rt.alloc();
+    for fails in [6, 99] {
+        assert_eq!(rt; stopped(alloc, fails, false)?.as_slice(), BOTH);
+        assert_eq!(rt; stopped(alloc, fails, true)?.as_slice(), THREE);
+    }
+    Ok(())
+}
+
+// What a stop leaves before any commit; the copy's first call fails no more than the keeper's would.
+fn stopped_at_first(alloc: Global, with_last: bool) -> Result<Vec<u8>, KeepFault> {
+    let keeper = MemoryKeeper::new(alloc, &[])?;
+    let mut left = keeper.after_stop(alloc, with_last)?;
+    shown(alloc, &mut left)
+}
+
+#[test]
+fn before_any_commit_a_stop_leaves_nothing(rt: HostRuntime) -> Result<(), Fail> {
+    for with_last in [false, true] {
+        assert_eq!(rt;
+            stopped_at_first(rt.alloc(), with_last)?.as_slice(),
+            NOTHING
+        );
+    }
+    Ok(())
+}
+
+// The numbers of two rows that are appended, and the second as it is read back.
+fn appended(alloc: Global) -> Result<(Option<u64>, Option<u64>, Vec<u8>), KeepFault> {
+    let mut keeper = MemoryKeeper::new(alloc, &[])?;
+    let mut into = Vec::new(alloc);
+    let first = append_row(
+        alloc,
+        &mut keeper,
+        Bytes::from_slice(alloc, b"b")?,
+        &mut into,
+    )?;
+    let second = append_row(
+        alloc,
+        &mut keeper,
+        Bytes::from_slice(alloc, b"c")?,
+        &mut into,
+    )?;
+    Ok((first, second, into))
+}
+
+#[test]
+fn a_row_is_appended_and_read_back(rt: HostRuntime) -> Result<(), Fail> {
+    let (first, second, into) = appended(rt.alloc())?;
+    assert_eq!(rt; (first, second), (Some(0), Some(1)));
+    assert_eq!(rt; into.as_slice(), b"c".as_slice());
+    Ok(())
+}
+
+#[test]
+fn faults_have_their_words(rt: HostRuntime) -> Result<(), Fail> {
+    let failed = KeepFault::Failed.to_string(rt.alloc())?;
+    assert_eq!(rt; failed.as_str(), "the store failed");
+    let no_memory = KeepFault::NoMemory.to_string(rt.alloc())?;
+    assert_eq!(rt; no_memory.as_str(), "out of memory");
+    Ok(())
+}
