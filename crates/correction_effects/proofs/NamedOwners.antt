@@ -5,7 +5,7 @@ use Rattle.std.proofs.lemmas.Bool.Decides.{Decides-eqb}
 use Rattle.std.proofs.lemmas.Cmp.{nat_eq_equiv}
 use Rattle.std.proofs.lemmas.Map.Made.{is_member-Decides, is_member-filter}
 use Rattle.std.specs.List.{list_any, slice_get}
-use Rattle.std.specs.Option.{is_some, option_map_or, option_or}
+use Rattle.std.specs.Option.{option_map_or, option_or}
 use Rattle.std.specs.Prelude.{nat_eq, option_map}
 use Rattle.std.specs.Set.{is_member}
 use Rattle.agent_events.specs.declared.order.OrderRow.{OrderRow}
@@ -21,7 +21,9 @@ use Rattle.register_machine.specs.journal.Journals.{Journal}
 use Rattle.register_machine.specs.journal.Kinds.{accounts_of, household_of}
 use Rattle.register_machine.specs.pricing.CorrectedOrders.{orders_of, stands}
 use Rattle.standing_orders.proofs.OwnPlaces.{got-within, last-shifted}
+use Rattle.standing_orders.specs.ClassHouseholds.{AreNoted, is_listed, listed_under}
 use Rattle.standing_orders.specs.Rows.{AreOwners, is_owner}
+use Rattle.standing_orders.specs.declared.class_households.ClassHouseholds.{ClassHouseholds}
 
 -- ---- the last order of a household
 
@@ -230,28 +232,35 @@ among-named accounts household class (row ∷ rows) (owner ∷ owners) are =
 
 -- ---- the households that are left
 
--- whether a household is among those that are left, given that those listed are all with an order
-is-kept : (class : ℕ) (rows : List OrderRow) (owners listed : List ℕ) (household : ℕ) → is_member nat_eq listed household ≡ is_some (last_place (is_owner household) owners)
-    → is_naming class rows owners household ≡ true → is_member nat_eq listed household ≡ true
-is-kept class rows owners listed household all naming = by (last_place (is_owner household) owners) refl
+-- a household that names the class is listed under it
+naming-listed : (classes : ClassHouseholds) (class household : ℕ) (rows : List OrderRow) (owners : List ℕ) → AreNoted classes rows owners
+    → is_naming class rows owners household ≡ true → is_listed classes class household ≡ true
+naming-listed classes class household [] owners noted naming = cc
+naming-listed classes class household (row ∷ rows) [] noted naming = cc
+naming-listed classes class household (row ∷ rows) (owner ∷ owners) noted naming =
+    by (is_owner household owner && names_standing class row) refl naming (naming-listed classes class household rows owners noted.1)
   where
-    by : (found : Option ℕ) → last_place (is_owner household) owners ≡ found → is_member nat_eq listed household ≡ true
-    by (Some n) found_is = all ∙ ap (λ (found : Option ℕ). is_some found) found_is
-    by None found_is = absurd (never (sym naming ∙ naming-none class household rows owners found_is))
-      where
-        never : true ≡ false → ⊥
-        never h = cc
+    own : is_owner household owner ≡ true → names_standing class row ≡ true → is_listed classes class household ≡ true
+    own is names =
+        subst (λ (h : ℕ). is_listed classes class h ≡ true) (eqb-true owner household is)
+        (noted.0 class (and_parts (stands row) (names_class class row) names).1)
+
+    by : (is : Bool) → (is_owner household owner && names_standing class row) ≡ is → (is || is_naming class rows owners household) ≡ true
+        → (is_naming class rows owners household ≡ true → is_listed classes class household ≡ true) → is_listed classes class household ≡ true
+    by true at all rest =
+        let parts = and_parts (is_owner household owner) (names_standing class row) at in
+        own parts.0 parts.1
+    by false at later rest = rest later
 
 left-among : (test : ℕ → Bool) (listed : List ℕ) (household : ℕ) → is_member nat_eq (filter test listed) household ≡ (is_member nat_eq listed household && test household)
 left-among test listed household =
     is_member-filter nat_eq_equiv test household (λ other same. ap test (eqb-true household other same)) listed
 
-pub are-naming : (journal : Journal) (owners : List ℕ) (class : ℕ) (listed left households : List ℕ)
-    → ((h : ℕ) → is_member nat_eq listed h ≡ is_some (last_place (is_owner h) owners))
-    → left ≡ filter (is_naming class (orders_of journal) owners) listed
+pub are-naming : (journal : Journal) (owners : List ℕ) (classes : ClassHouseholds) (class : ℕ) (left households : List ℕ)
+    → left ≡ filter (is_naming class (orders_of journal) owners) (listed_under classes class)
     → ((h : ℕ) → Contains left h → Contains households h) → ((h : ℕ) → Contains households h → Contains left h)
-    → AreNaming journal owners class households
-are-naming journal owners class listed left households all is keeps adds_none are = record {
+    → AreNaming journal owners classes class households
+are-naming journal owners classes class left households is keeps adds_none are noted = record {
   own = λ h among. sym (same h) ∙ naming-of h (adds_none h among);
   others = λ h none. by h none (names_somewhere (book_behind journal) h class) refl;
 }
@@ -259,21 +268,33 @@ are-naming journal owners class listed left households all is keeps adds_none ar
     same : (h : ℕ) → is_naming class (orders_of journal) owners h ≡ names_somewhere (book_behind journal) h class
     same h = among-named (accounts_of journal) h class (orders_of journal) owners are
 
-    among-left : (h : ℕ) → is_member nat_eq left h ≡ (is_member nat_eq listed h && is_naming class (orders_of journal) owners h)
-    among-left h = ap (λ xs. is_member nat_eq xs h) is ∙ left-among (is_naming class (orders_of journal) owners) listed h
+    among-left : (h : ℕ) → is_member nat_eq left h ≡ (is_listed classes class h && is_naming class (orders_of journal) owners h)
+    among-left h =
+        ap (λ xs. is_member nat_eq xs h) is
+        ∙ left-among (is_naming class (orders_of journal) owners) (listed_under classes class) h
 
     naming-of : (h : ℕ) → Contains left h → is_naming class (orders_of journal) owners h ≡ true
     naming-of h among =
-        (and_parts (is_member nat_eq listed h) (is_naming class (orders_of journal) owners h)
+        (and_parts (is_listed classes class h) (is_naming class (orders_of journal) owners h)
         (sym (among-left h) ∙ (is_member-Decides Decides-eqb left h).1 among)).1
 
     left-is : (h : ℕ) → is_naming class (orders_of journal) owners h ≡ true → Contains left h
     left-is h naming =
         (is_member-Decides Decides-eqb left h).0
         (among-left h
-        ∙ (ap (λ listed_is. listed_is && is_naming class (orders_of journal) owners h) (is-kept class (orders_of journal) owners listed h (all h) naming)
+        ∙ (ap (λ listed. listed && is_naming class (orders_of journal) owners h)
+        (naming-listed classes class h (orders_of journal) owners noted naming)
         ∙ naming))
 
     by : (h : ℕ) → (Contains households h → ⊥) → (b : Bool) → names_somewhere (book_behind journal) h class ≡ b → b ≡ false
     by h none true at = absurd (none (keeps h (left-is h (same h ∙ at))))
     by h none false at = refl
+
+-- those that are left are listed
+pub left-listed : (owners : List ℕ) (rows : List OrderRow) (classes : ClassHouseholds) (class : ℕ) (left : List ℕ)
+    → left ≡ filter (is_naming class rows owners) (listed_under classes class)
+    → (h : ℕ) → Contains left h → is_listed classes class h ≡ true
+left-listed owners rows classes class left is h among =
+    (and_parts (is_listed classes class h) (is_naming class rows owners h)
+    (sym (left-among (is_naming class rows owners) (listed_under classes class) h)
+    ∙ (sym (ap (λ xs. is_member nat_eq xs h) is) ∙ (is_member-Decides Decides-eqb left h).1 among))).0

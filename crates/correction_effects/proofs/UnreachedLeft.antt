@@ -11,8 +11,6 @@ use Rattle.register_laws.specs.CorrectionReach.{EventReach, LeavesPart, order_ch
 use Rattle.register_laws.specs.Lawful.{book_behind}
 use Rattle.register_machine.specs.journal.Journals.{Journal, with_event}
 use Rattle.register_machine.specs.journal.Kinds.{accounts_of, household_of}
-use Rattle.register_machine.specs.pricing.CorrectedOrders.{orders_of}
-use Rattle.standing_orders.specs.Rows.{AreOwners}
 
 -- one household at most rises
 pub alone-rises : (found : Option ℕ) → IsStrictlyIncreasing (option_to_list found)
@@ -27,7 +25,7 @@ another-owner (Some owner) household none = by (owner == household) refl
     by true is = absurd (none (0, omega arith, eqb-true owner household is))
     by false is = refl
 
-module _ (journal : Journal) (event : Event) (owners households : List ℕ) (reach : EventReach journal event) (are : AreOwners (accounts_of journal) (orders_of journal) owners) (household : ℕ) (none : Contains households household → ⊥) where
+module _ (journal : Journal) (event : Event) (households : List ℕ) (reach : EventReach journal event) (household : ℕ) (none : Contains households household → ⊥) where
   abbrev Left : Type 0
   Left = LeavesPart (book_behind journal) (book_behind (with_event journal event)) household
 
@@ -36,14 +34,14 @@ module _ (journal : Journal) (event : Event) (owners households : List ℕ) (rea
       reach.order (account, ref_no) changed household
       (another-owner (household_of (accounts_of journal) account) household (subst (λ (hs : List ℕ). Contains hs household → ⊥) alone none))
 
-  by-kind : (kind : EventKind) → event.kind ≡ kind → is_correction kind ≡ true → AreReached journal owners kind households → Left
+  by-kind : (kind : EventKind) → event.kind ≡ kind → is_correction kind ≡ true → AreReached journal kind households → Left
   by-kind (EventKind.Enter form) at is reached = of-order form.order.account form.order.ref_no (ap order_changed at) reached
   by-kind (EventKind.Replace form) at is reached = of-order form.order.account form.order.ref_no (ap order_changed at) reached
   by-kind (EventKind.Void form) at is reached = of-order form.account form.ref_no (ap order_changed at) reached
-  by-kind (EventKind.FixPrice form) at is reached = reach.price form at household ((reached are).others household none)
-  by-kind (EventKind.FixRate form) at is reached = reach.rate form at household ((reached are).others household none)
+  by-kind (EventKind.FixPrice form) at is reached = reach.price form at household (reached.others household none)
+  by-kind (EventKind.FixRate form) at is reached = reach.rate form at household (reached.others household none)
   by-kind _ at is reached = absurd (true≢false (sym is))
 
-pub leaves_unreached : (journal : Journal) (event : Event) (owners households : List ℕ) → LeavesUnreached journal event owners households
-leaves_unreached journal event owners households is reach are reached household none =
-    by-kind journal event owners households reach are household none event.kind refl is reached
+pub leaves_unreached : (journal : Journal) (event : Event) (households : List ℕ) → LeavesUnreached journal event households
+leaves_unreached journal event households is reach reached household none =
+    by-kind journal event households reach household none event.kind refl is reached

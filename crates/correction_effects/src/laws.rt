@@ -39,6 +39,6 @@ pub fn the_least_is_the_first_of_all()
 
 /// A correction leaves the parts of the households that it doesn't reopen.
 pub fn unreached_households_are_left()
-    ensures { (journal : Journal) (event : Event) (owners households : List ℕ)
-        → LeavesUnreached journal event owners households }
+    ensures { (journal : Journal) (event : Event) (households : List ℕ)
+        → LeavesUnreached journal event households }
 {}

@@ -1,30 +1,36 @@
 //! The households that a corrected price or rate of a class can reach: those with a standing order that names the class.
-ghost use Rattle.std.specs.Prelude.{◌≡◌, ◌==◌, ◌++◌, ℕ, Contains, IfOk, OnOk, filter, option_to_list};
+ghost use Rattle.std.specs.Prelude.{◌≡◌, ◌==◌, ◌++◌, ℕ, Contains, IfOk, OnOk, filter, option_to_list, true};
 ghost use Rattle.std.specs.List.{list_any};
 ghost use Rattle.std.specs.List.Sorted.{IsStrictlyIncreasing};
 ghost use Rattle.correction_effects.specs.Naming.{AreNaming, is_naming, names_at, names_standing};
 ghost use Rattle.register_machine.specs.pricing.CorrectedOrders.{orders_of};
 ghost use Rattle.register_machine.specs.pricing.OrderClasses.{classes_in};
+ghost use Rattle.standing_orders.specs.ClassHouseholds.{is_listed};
 
 use agent_events::{Body, OrderRow};
 use money_units::NoMemory;
 use order_book::OrderBook;
-use standing_orders::HouseholdOrders;
+use standing_orders::{ClassHouseholds, HouseholdOrders};
 use std::alloc::Global;
 
 /// The households, each once and rising, that have an order which stands and names the class, be it the one that an exchange goes
-/// to. Of each household it goes back over its orders up to the last such one.
+/// to. It looks at the households that have ever named the class and no others, and of each goes back over its orders up to the
+/// last such one.
 pub fn households_naming(
     alloc: Global,
     book: &OrderBook,
     index: &HouseholdOrders,
+    classes: &ClassHouseholds,
     class: u32,
 ) -> Result<Vec<u32>, NoMemory>
     ensures naming { IfOk result (λ households.
-        AreNaming book.now.journal index.now.owners class households.items) }
+        AreNaming book.now.journal index.now.owners classes.now class households.items) }
+    ensures listed { IfOk result (λ households. (household : ℕ)
+        → Contains households.items household
+        → is_listed classes.now class household ≡ true) }
     ensures rising { IfOk result (λ households. IsStrictlyIncreasing households.items) }
 {
-    let mut households = index.households(alloc)?;
+    let mut households = classes.households(alloc, class)?;
     keep_naming(&mut households, book, index, class);
     put_each_once(&mut households);
     Ok(households)

@@ -1,35 +1,41 @@
 //! The households whose parts of the register a correction can change.
 ghost use Rattle.std.specs.Prelude.{◌≡◌, IfOk, option_to_list};
 ghost use Rattle.std.specs.List.Sorted.{IsStrictlyIncreasing};
-ghost use Rattle.correction_effects.specs.Reached.{AreReached};
+ghost use Rattle.correction_effects.specs.Reached.{AreReachedBy};
 ghost use Rattle.register_machine.specs.journal.Kinds.{accounts_of, household_of};
 
 use crate::naming::{households_naming, push_found};
 use agent_events::{EventKind, Identifier};
 use money_units::NoMemory;
 use order_book::OrderBook;
-use standing_orders::HouseholdOrders;
+use standing_orders::{ClassHouseholds, HouseholdOrders};
 use std::alloc::Global;
 
 /// The households that a correction of this kind reopens, each once and rising: that of the account whose order it enters, replaces
-/// or voids, where the account is known; those whose standing orders name the class of a corrected price or rate, for which it goes
-/// back over each household's orders up to the last one that does. An event of any other kind is no correction and reopens none.
+/// or voids, where the account is known; those whose standing orders name the class of a corrected price or rate, for which it looks
+/// at the households that have named the class and goes back over the orders of each up to the last one that does. An event of any
+/// other kind is no correction and reopens none.
 pub fn households_reached(
     alloc: Global,
     book: &OrderBook,
     index: &HouseholdOrders,
+    classes: &ClassHouseholds,
     kind: &EventKind,
 ) -> Result<Vec<u32>, NoMemory>
     ensures reached { IfOk result (λ households.
-        AreReached book.now.journal index.now.owners kind.now households.items) }
+        AreReachedBy book.now.journal index.now.owners classes.now kind.now households.items) }
     ensures rising { IfOk result (λ households. IsStrictlyIncreasing households.items) }
 {
     match kind {
         EventKind::Enter(form) => household_alone(alloc, book, form.order.account),
         EventKind::Replace(form) => household_alone(alloc, book, form.order.account),
         EventKind::Void(form) => household_alone(alloc, book, form.account),
-        EventKind::FixPrice(form) => households_naming(alloc, book, index, form.class.number()),
-        EventKind::FixRate(form) => households_naming(alloc, book, index, form.class.number()),
+        EventKind::FixPrice(form) => {
+            households_naming(alloc, book, index, classes, form.class.number())
+        }
+        EventKind::FixRate(form) => {
+            households_naming(alloc, book, index, classes, form.class.number())
+        }
         _ => Ok(Vec::new(alloc)),
     }
 }

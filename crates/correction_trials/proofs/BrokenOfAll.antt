@@ -113,38 +113,38 @@ first-owned journal event after lawful knows trade is =
 -- ---- a household that isn't reached
 
 -- the correction isn't about its order
-not-its : (journal : Journal) (owners households : List ℕ) (kind : EventKind) (household : ℕ) → AreReached journal owners kind households → list_any (nat_eq household) households ≡ false → option_map_or (λ (own : Order). is_of_household (accounts_of journal) household own.account) (order_corrected kind) false ≡ false
-not-its journal owners households (EventKind.Enter form) household reached none =
+not-its : (journal : Journal) (households : List ℕ) (kind : EventKind) (household : ℕ) → AreReached journal kind households → list_any (nat_eq household) households ≡ false → option_map_or (λ (own : Order). is_of_household (accounts_of journal) household own.account) (order_corrected kind) false ≡ false
+not-its journal households (EventKind.Enter form) household reached none =
     another-owner (household_of (accounts_of journal) form.order.account) household (ap (list_any (nat_eq household)) (sym reached) ∙ none)
-not-its journal owners households (EventKind.Replace form) household reached none =
+not-its journal households (EventKind.Replace form) household reached none =
     another-owner (household_of (accounts_of journal) form.order.account) household (ap (list_any (nat_eq household)) (sym reached) ∙ none)
-not-its journal owners households _ household reached none = refl
+not-its journal households _ household reached none = refl
 
 -- nor does it replace one of its orders
-pub unreplaced : (journal : Journal) (owners households : List ℕ) (kind : EventKind) (household : ℕ) → AreReached journal owners kind households → list_any (nat_eq household) households ≡ false → ReplacesNone journal kind household
-unreplaced journal owners households kind household reached none form at =
+pub unreplaced : (journal : Journal) (households : List ℕ) (kind : EventKind) (household : ℕ) → AreReached journal kind households → list_any (nat_eq household) households ≡ false → ReplacesNone journal kind household
+unreplaced journal households kind household reached none form at =
     another-owner (household_of (accounts_of journal) form.order.account) household
-    (ap (list_any (nat_eq household)) (sym (subst (λ k. AreReached journal owners k households) at reached)) ∙ none)
+    (ap (list_any (nat_eq household)) (sym (subst (λ k. AreReached journal k households) at reached)) ∙ none)
 
 -- an element passes the test for itself
 any-of : (household : ℕ) (households : List ℕ) → Contains households household → list_any (nat_eq household) households ≡ true
 any-of household households among = list_any-from_Contains nat_eq_equiv household households among
 
-pub part-left : (books : DeskBooks) (event : Event) (known : Known) (households : List ℕ) (household : ℕ) → IsTriedOver books event known → AreReached books.book.journal books.orders.owners event.kind households → list_any (nat_eq household) households ≡ false → LeavesPart (book_behind books.book.journal) (book_behind (with_event books.book.journal event)) household
+pub part-left : (books : DeskBooks) (event : Event) (known : Known) (households : List ℕ) (household : ℕ) → IsTriedOver books event known → AreReached books.book.journal event.kind households → list_any (nat_eq household) households ≡ false → LeavesPart (book_behind books.book.journal) (book_behind (with_event books.book.journal event)) household
 part-left books event known households household is reached none =
-    leaves_unreached books.book.journal event books.orders.owners households is.corrects is.trial.reach is.books_are.index.owned reached household
+    leaves_unreached books.book.journal event households is.corrects is.trial.reach reached household
     (λ among. true≢false (sym (any-of household households among) ∙ none))
 
-unbroken : (books : DeskBooks) (event : Event) (known : Known) (households : List ℕ) (household : ℕ) → IsTriedOver books event known → AreReached books.book.journal books.orders.owners event.kind households → All (λ row. 0 < row.order.ref_no) (orders_of books.book.journal) → list_any (nat_eq household) households ≡ false → broken_in books.book.journal event household ≡ None
+unbroken : (books : DeskBooks) (event : Event) (known : Known) (households : List ℕ) (household : ℕ) → IsTriedOver books event known → AreReached books.book.journal event.kind households → All (λ row. 0 < row.order.ref_no) (orders_of books.book.journal) → list_any (nat_eq household) households ≡ false → broken_in books.book.journal event household ≡ None
 unbroken books event known households household is reached numbered none =
     unreached_is_unbroken books.book.journal is.books_are.lawful numbered household (order_corrected event.kind) (replay (book_behind (with_event books.book.journal event)))
-    (not-its books.book.journal books.orders.owners households event.kind household reached none)
+    (not-its books.book.journal households event.kind household reached none)
     (part-left books event known households household is reached none).whole
 
 -- ---- all households
 
 module _ (books : DeskBooks) (event : Event) (known : Known) (households : List ℕ) (change : Option Moves) (first : Option BrokenTrade)
-    (is : IsTriedOver books event known) (reached : AreReached books.book.journal books.orders.owners event.kind households)
+    (is : IsTriedOver books event known) (reached : AreReached books.book.journal event.kind households)
     (numbered : All (λ row. 0 < row.order.ref_no) (orders_of books.book.journal)) (are : AreReopened books event known households change first) where
   abbrev journal_now : Journal
   journal_now = books.book.journal

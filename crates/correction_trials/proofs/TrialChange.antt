@@ -83,7 +83,7 @@ unmoved (change ∷ moves) household day none =
         ap (λ (b : Bool). fold (day_if_moved household) (cond b (day_after_move day change) day) moves) is ∙ rest e
 
 module _ (books : DeskBooks) (event : Event) (known : Known) (households : List ℕ) (change : Moves) (first : Option BrokenTrade)
-    (is : IsTriedOver books event known) (reached : AreReached books.book.journal books.orders.owners event.kind households)
+    (is : IsTriedOver books event known) (reached : AreReached books.book.journal event.kind households)
     (are : AreReopened books event known households (Some change) first) (apart : AreApart change.moves) (lawful : IsLawful (with_event books.book.journal event)) where
   abbrev before_it : Book
   before_it = book_behind books.book.journal

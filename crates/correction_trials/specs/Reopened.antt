@@ -106,7 +106,7 @@ pub record AreJoined (change : Option Moves) (one both : Moves) : Type 0 where
 pub record IsReopenedWhole (books : DeskBooks) (event : Event) (known : Known) (change : Option Moves) (first : Option BrokenTrade) : Type 0 where
   pub households : List ℕ
   pub rising : IsStrictlyIncreasing households
-  pub reached : AreReached books.book.journal books.orders.owners event.kind households
+  pub reached : AreReached books.book.journal event.kind households
   pub all : AreReopened books event known households change first
 
 -- For each household that the correction reaches, each once, at most as many steps as there are sheets; and no more than there are behind the
@@ -114,6 +114,6 @@ pub record IsReopenedWhole (books : DeskBooks) (event : Event) (known : Known) (
 pub record TakesFewSteps (books : DeskBooks) (event : Event) (touched before after : ℕ) : Type 0 where
   pub households : List ℕ
   pub rising : IsStrictlyIncreasing households
-  pub reached : AreReached books.book.journal books.orders.owners event.kind households
+  pub reached : AreReached books.book.journal event.kind households
   pub few : after ≤ before + length households * length (book_behind books.book.journal).table.sheets
   pub behind : after ≤ before + sum_by (sheets_replayed books.kept touched (length books.prices.table.sheets)) households

@@ -78,12 +78,12 @@ pub fn try_correction<L: StepLedger>(
     ensures kept { IfOk result (KeepsStates books.old.book.journal event.now books.new.kept) }
     ensures steps { OnOk result ((households : List ℕ)
         × IsStrictlyIncreasing households
-        × AreReached books.old.book.journal books.old.orders.owners event.now.kind households
+        × AreReached books.old.book.journal event.now.kind households
         × (steps.new ≤ steps.old
         + length households * length (book_behind books.old.book.journal).table.sheets)) }
     ensures behind { OnOk result ((households : List ℕ)
         × IsStrictlyIncreasing households
-        × AreReached books.old.book.journal books.old.orders.owners event.now.kind households
+        × AreReached books.old.book.journal event.now.kind households
         × (steps.new ≤ steps.old
         + sum_by (sheets_replayed books.old.kept
         (first_touched books.old.prices.table.sheets event.now.kind)
@@ -246,7 +246,7 @@ fn try_with<L: StepLedger>(
         patch,
         sheet: last_number(&books.prices)?,
     };
-    let households = households_reached(alloc, books.book.orders(), &books.orders, event.kind())?;
+    let households = reached(alloc, books, event)?;
     let reopened = reopen_all(alloc, books, event, &facts, &households, before, steps)?;
     let tried = said(alloc, books, event, &facts, patch, reopened, steps)?;
     Ok(Trial {
@@ -254,6 +254,17 @@ fn try_with<L: StepLedger>(
         households,
         before,
     })
+}
+
+// The households that the correction can reach.
+fn reached(alloc: Global, books: &DeskBooks, event: &Event) -> Result<Vec<u32>, NoMemory>
+    requires { AreBooksOf books.now.book.journal books.now }
+    ensures reached { IfOk result (λ households.
+        AreReached books.now.book.journal event.now.kind households.items) }
+    ensures rising { IfOk result (λ households. IsStrictlyIncreasing households.items) }
+{
+    let orders = books.book.orders();
+    households_reached(alloc, orders, &books.orders, &books.classes, event.kind())
 }
 
 // The number of the last sheet, 0 where there is none.

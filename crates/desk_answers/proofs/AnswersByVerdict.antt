@@ -34,12 +34,12 @@ fresh_said journal known now caller request event result same e given =
     (IfOk-weaker result (λ answered. answer_given answered ≡ first_answer journal event (last_says journal event)) (IsAnswer journal now caller request)
     (λ answered is. fresh_answered journal now caller request event e ∙ sym is) given)
 
-pub fresh_steps : {E : Type 0} (journal : Journal) (owners : List ℕ) {said : Verdict} {event : Event} (before after : ℕ) (result : Result Answered E) → said ≡ Verdict.Fresh event → IfOk result (λ answered. TakesSteps journal owners event answered.change before after) → IfOk result (λ answered. AreStepsOf journal owners said answered.change before after)
-fresh_steps journal owners before after result e taken =
-    subst (λ (v : Verdict). IfOk result (λ (answered : Answered). AreStepsOf journal owners v answered.change before after)) (sym e) taken
+pub fresh_steps : {E : Type 0} (journal : Journal) {said : Verdict} {event : Event} (before after : ℕ) (result : Result Answered E) → said ≡ Verdict.Fresh event → IfOk result (λ answered. TakesSteps journal event answered.change before after) → IfOk result (λ answered. AreStepsOf journal said answered.change before after)
+fresh_steps journal before after result e taken =
+    subst (λ (v : Verdict). IfOk result (λ (answered : Answered). AreStepsOf journal v answered.change before after)) (sym e) taken
 
 -- what isn't new takes no step
-pub none_steps : {E : Type 0} (journal : Journal) (owners : List ℕ) {said : Verdict} (kind : Verdict) (count : ℕ) (result : Result Answered E) → said ≡ kind → ((change : Option EventChange) → AreStepsOf journal owners kind change count count) → IfOk result (λ answered. answered.change ≡ None) → IfOk result (λ answered. AreStepsOf journal owners said answered.change count count)
-none_steps journal owners {said = said} kind count result e all nothing =
-    IfOk-weaker result (λ answered. answered.change ≡ None) (λ answered. AreStepsOf journal owners said answered.change count count)
-    (λ answered is. subst (λ (v : Verdict). AreStepsOf journal owners v answered.change count count) (sym e) (all answered.change)) nothing
+pub none_steps : {E : Type 0} (journal : Journal) {said : Verdict} (kind : Verdict) (count : ℕ) (result : Result Answered E) → said ≡ kind → ((change : Option EventChange) → AreStepsOf journal kind change count count) → IfOk result (λ answered. answered.change ≡ None) → IfOk result (λ answered. AreStepsOf journal said answered.change count count)
+none_steps journal {said = said} kind count result e all nothing =
+    IfOk-weaker result (λ answered. answered.change ≡ None) (λ answered. AreStepsOf journal said answered.change count count)
+    (λ answered is. subst (λ (v : Verdict). AreStepsOf journal v answered.change count count) (sym e) (all answered.change)) nothing

@@ -181,9 +181,9 @@ asked_as journal known event {moment = moment} {caller = caller} {request = requ
     (subst (λ (j : Journal). IfOk result (IsAnswer j moment caller request)) same given)))
 
 -- and so are its steps
-pub steps_asked : {E : Type 0} (journal : Journal) (owners : List ℕ) (event : Event) {moment : ℕ} {caller : Caller} {request : Request} (before after : ℕ) (result : Result Answered E) → moment ≡ event.moment → caller ≡ asker_of journal event.kind → request ≡ request_of event.kind
-    → IfOk result (λ answered. AreStepsOf journal owners (verdict (own_at journal moment caller) request) answered.change before after) → IfOk result (λ answered. AreStepsAsked journal owners event answered.change before after)
-steps_asked journal owners event {moment = moment} {caller = caller} {request = request} before after result then_too who asks given =
-    subst (λ (r : Request). IfOk result (λ (answered : Answered). AreStepsOf journal owners (verdict (own_at journal event.moment (asker_of journal event.kind)) r) answered.change before after)) asks
-    (subst (λ (c : Caller). IfOk result (λ (answered : Answered). AreStepsOf journal owners (verdict (own_at journal event.moment c) request) answered.change before after)) who
-    (subst (λ (m : ℕ). IfOk result (λ (answered : Answered). AreStepsOf journal owners (verdict (own_at journal m caller) request) answered.change before after)) then_too given))
+pub steps_asked : {E : Type 0} (journal : Journal) (event : Event) {moment : ℕ} {caller : Caller} {request : Request} (before after : ℕ) (result : Result Answered E) → moment ≡ event.moment → caller ≡ asker_of journal event.kind → request ≡ request_of event.kind
+    → IfOk result (λ answered. AreStepsOf journal (verdict (own_at journal moment caller) request) answered.change before after) → IfOk result (λ answered. AreStepsAsked journal event answered.change before after)
+steps_asked journal event {moment = moment} {caller = caller} {request = request} before after result then_too who asks given =
+    subst (λ (r : Request). IfOk result (λ (answered : Answered). AreStepsOf journal (verdict (own_at journal event.moment (asker_of journal event.kind)) r) answered.change before after)) asks
+    (subst (λ (c : Caller). IfOk result (λ (answered : Answered). AreStepsOf journal (verdict (own_at journal event.moment c) request) answered.change before after)) who
+    (subst (λ (m : ℕ). IfOk result (λ (answered : Answered). AreStepsOf journal (verdict (own_at journal m caller) request) answered.change before after)) then_too given))

@@ -55,8 +55,8 @@ sheet_is_none (EventKind.Void form) e = absurd (true≢false (sym e))
 sheet_is_none _ e = refl
 
 -- a sheet takes one step for each household that it moves, and is no correction
-pub sheet_steps : (journal : Journal) (owners : List ℕ) (event : Event) (change : Option EventChange) (before after : ℕ) → is_sheet event.kind ≡ true → TakeOneStepEach journal event (households_of (moves_in (ledger_of change))) before after → TakesSteps journal owners event change before after
-sheet_steps journal owners event change before after e each = record {
+pub sheet_steps : (journal : Journal) (event : Event) (change : Option EventChange) (before after : ℕ) → is_sheet event.kind ≡ true → TakeOneStepEach journal event (households_of (moves_in (ledger_of change))) before after → TakesSteps journal event change before after
+sheet_steps journal event change before after e each = record {
   sheet = λ _. each;
   correction = λ h. absurd (true≢false (sym h ∙ sheet_is_none event.kind e));
   other = λ h. absurd (true≢false (sym (ap (λ b. b || is_correction event.kind) e) ∙ h));

@@ -66,9 +66,9 @@ nothing-changes (Some change) none = absurd (cons-nil none)
 none-found : (event : Event) (change found : Option EventChange) → found ≡ change_to change event → events_of change ≡ [] → found ≡ None
 none-found event change found is none = is ∙ ap (λ c. change_to c event) (nothing-changes change none)
 
-no-steps : (journal : Journal) (owners : List ℕ) (event : Event) (before after : ℕ) (found : Option EventChange) → found ≡ None → after ≡ before → AreStepsFound journal owners event found before after
-no-steps journal owners event before after found none same =
-    subst (λ (f : Option EventChange). AreStepsFound journal owners event f before after) (sym none) (inl same)
+no-steps : (journal : Journal) (event : Event) (before after : ℕ) (found : Option EventChange) → found ≡ None → after ≡ before → AreStepsFound journal event found before after
+no-steps journal event before after found none same =
+    subst (λ (f : Option EventChange). AreStepsFound journal event f before after) (sym none) (inl same)
 
 -- ---- a new event, by what the last rule says
 
@@ -83,49 +83,49 @@ none-some : {X : Type 0} {x : X} → None ≡ Some x → ⊥
 none-some h = cc
 
 -- a correction that breaks an order takes its steps, and what is no sheet and no correction takes none
-broken-steps : (journal : Journal) (owners : List ℕ) (event own : Event) (change : Option EventChange) (situation : Situation) (why : Refusal) (before after : ℕ)
-    → breaks situation own ≡ Some why → (own.kind ≡ event.kind) ⊎ ((is_sheet own.kind || is_correction own.kind) ≡ false) → TakesSteps journal owners own change before after
-    → AreStepsFound journal owners event None before after
-broken-steps journal owners event own change situation why before after broken (inr other) steps = inl (steps.other other)
-broken-steps journal owners event own change situation why before after broken (inl same) steps = by_kind (is_correction own.kind) refl
+broken-steps : (journal : Journal) (event own : Event) (change : Option EventChange) (situation : Situation) (why : Refusal) (before after : ℕ)
+    → breaks situation own ≡ Some why → (own.kind ≡ event.kind) ⊎ ((is_sheet own.kind || is_correction own.kind) ≡ false) → TakesSteps journal own change before after
+    → AreStepsFound journal event None before after
+broken-steps journal event own change situation why before after broken (inr other) steps = inl (steps.other other)
+broken-steps journal event own change situation why before after broken (inl same) steps = by_kind (is_correction own.kind) refl
   where
-    by_kind : (corrects : Bool) → is_correction own.kind ≡ corrects → AreStepsFound journal owners event None before after
-    by_kind true is = inr (ap is_correction (sym same) ∙ is, subst (λ (kind : EventKind). StepsWhereReached journal owners kind before after) same (steps.correction is))
+    by_kind : (corrects : Bool) → is_correction own.kind ≡ corrects → AreStepsFound journal event None before after
+    by_kind true is = inr (ap is_correction (sym same) ∙ is, subst (λ (kind : EventKind). StepsWhereReached journal kind before after) same (steps.correction is))
     by_kind false is = absurd (none-some (sym (breaks-none situation own is) ∙ broken))
 
 -- one that isn't broken is found, but for an order with other moments
-kept-steps : (journal : Journal) (owners : List ℕ) (event own : Event) (change found : Option EventChange) (before after : ℕ)
+kept-steps : (journal : Journal) (event own : Event) (change found : Option EventChange) (before after : ℕ)
     → found ≡ change_to change event → own ∷ [] ≡ events_of change
     → (own.kind ≡ event.kind) ⊎ ((is_sheet own.kind || is_correction own.kind) ≡ false)
-    → (keeps_moments own.kind event.kind ≡ true → own ≡ event) → TakesSteps journal owners own change before after
-    → AreStepsFound journal owners event found before after
-kept-steps journal owners event own None found before after is brings kind same steps = absurd (cons-nil brings)
-kept-steps journal owners event own (Some change) found before after is brings kind same steps =
+    → (keeps_moments own.kind event.kind ≡ true → own ≡ event) → TakesSteps journal own change before after
+    → AreStepsFound journal event found before after
+kept-steps journal event own None found before after is brings kind same steps = absurd (cons-nil brings)
+kept-steps journal event own (Some change) found before after is brings kind same steps =
     by_moments (keeps_moments change.event.kind event.kind) refl
   where
     here : own ≡ change.event
     here = ap (λ (events : List Event). get_or events 0 own) brings
 
-    by_moments : (keeps : Bool) → keeps_moments change.event.kind event.kind ≡ keeps → AreStepsFound journal owners event found before after
+    by_moments : (keeps : Bool) → keeps_moments change.event.kind event.kind ≡ keeps → AreStepsFound journal event found before after
     by_moments true e =
-        subst (λ (f : Option EventChange). AreStepsFound journal owners event f before after) (sym (is ∙ ap (λ b. when b change) e))
-        (subst (λ (v : Event). TakesSteps journal owners v (Some change) before after) (same (ap (λ (v : Event). keeps_moments v.kind event.kind) here ∙ e)) steps)
+        subst (λ (f : Option EventChange). AreStepsFound journal event f before after) (sym (is ∙ ap (λ b. when b change) e))
+        (subst (λ (v : Event). TakesSteps journal v (Some change) before after) (same (ap (λ (v : Event). keeps_moments v.kind event.kind) here ∙ e)) steps)
     by_moments false e = none_by kind
       where
         none : found ≡ None
         none = is ∙ ap (λ b. when b change) e
 
-        none_by : (own.kind ≡ event.kind) ⊎ ((is_sheet own.kind || is_correction own.kind) ≡ false) → AreStepsFound journal owners event found before after
-        none_by (inr other) = no-steps journal owners event before after found none (steps.other other)
+        none_by : (own.kind ≡ event.kind) ⊎ ((is_sheet own.kind || is_correction own.kind) ≡ false) → AreStepsFound journal event found before after
+        none_by (inr other) = no-steps journal event before after found none (steps.other other)
         none_by (inl alike) =
             absurd (true≢false (sym (ap (λ (k : EventKind). keeps_moments k event.kind) (sym (ap (λ (v : Event). v.kind) here) ∙ alike) ∙ keeps-itself event.kind) ∙ e))
 
 -- ---- by the verdict
 
-pub steps_found : (journal : Journal) (owners : List ℕ) (event : Event) (answered : Answered) (found : Option EventChange) (before after : ℕ)
-    → found ≡ change_to answered.change event → IsAskedAgain journal event answered → AreStepsAsked journal owners event answered.change before after
-    → AreStepsFound journal owners event found before after
-steps_found journal owners event answered found before after is asked steps = by_verdict (verdict situation request) refl steps
+pub steps_found : (journal : Journal) (event : Event) (answered : Answered) (found : Option EventChange) (before after : ℕ)
+    → found ≡ change_to answered.change event → IsAskedAgain journal event answered → AreStepsAsked journal event answered.change before after
+    → AreStepsFound journal event found before after
+steps_found journal event answered found before after is asked steps = by_verdict (verdict situation request) refl steps
   where
     situation : Situation
     situation = own_at journal event.moment (asker_of journal event.kind)
@@ -139,22 +139,22 @@ steps_found journal owners event answered found before after is asked steps = by
     nothing : (said : Verdict) → verdict situation request ≡ said → (answer_by situation request said).events ≡ [] → found ≡ None
     nothing said e none = none-found event answered.change found is (sym (given said e) ∙ none)
 
-    by_broken : (own : Event) → verdict situation request ≡ Verdict.Fresh own → TakesSteps journal owners own answered.change before after → (broken : Option Refusal) → breaks situation own ≡ broken → AreStepsFound journal owners event found before after
+    by_broken : (own : Event) → verdict situation request ≡ Verdict.Fresh own → TakesSteps journal own answered.change before after → (broken : Option Refusal) → breaks situation own ≡ broken → AreStepsFound journal event found before after
     by_broken own e taken None keeps =
         let brings = fresh_brings situation request own e in
         let events = sym (ap (λ (broken : Option Refusal). (fresh_answer situation own broken).events) keeps) ∙ given (Verdict.Fresh own) e in
-        kept-steps journal owners event own answered.change found before after is events
+        kept-steps journal event own answered.change found before after is events
         (kind-brought event.kind own.kind situation.now (due_now situation request) (brings.1 ∙ ap (λ (v : Event). Some v.kind) brings.2))
         (brought-again journal event own (ap (λ (a : Answer). a.events) asked ∙ sym events)) taken
     by_broken own e taken (Some why) keeps =
         let brings = fresh_brings situation request own e in
-        subst (λ (f : Option EventChange). AreStepsFound journal owners event f before after)
+        subst (λ (f : Option EventChange). AreStepsFound journal event f before after)
         (sym (nothing (Verdict.Fresh own) e (ap (λ (broken : Option Refusal). (fresh_answer situation own broken).events) keeps)))
-        (broken-steps journal owners event own answered.change situation why before after keeps
+        (broken-steps journal event own answered.change situation why before after keeps
         (kind-brought event.kind own.kind situation.now (due_now situation request) (brings.1 ∙ ap (λ (v : Event). Some v.kind) brings.2)) taken)
 
-    by_verdict : (said : Verdict) → verdict situation request ≡ said → AreStepsOf journal owners said answered.change before after → AreStepsFound journal owners event found before after
+    by_verdict : (said : Verdict) → verdict situation request ≡ said → AreStepsOf journal said answered.change before after → AreStepsFound journal event found before after
     by_verdict (Verdict.Fresh own) e taken = by_broken own e taken (breaks situation own) refl
-    by_verdict (Verdict.Again place) e taken = no-steps journal owners event before after found (nothing (Verdict.Again place) e (again-nothing journal place)) taken
-    by_verdict Verdict.Query e taken = no-steps journal owners event before after found (nothing Verdict.Query e refl) taken
-    by_verdict (Verdict.Refused why) e taken = no-steps journal owners event before after found (nothing (Verdict.Refused why) e refl) taken
+    by_verdict (Verdict.Again place) e taken = no-steps journal event before after found (nothing (Verdict.Again place) e (again-nothing journal place)) taken
+    by_verdict Verdict.Query e taken = no-steps journal event before after found (nothing Verdict.Query e refl) taken
+    by_verdict (Verdict.Refused why) e taken = no-steps journal event before after found (nothing (Verdict.Refused why) e refl) taken

@@ -11,7 +11,7 @@ use Rattle.std.specs.Prelude.{IfSome}
 use Rattle.agent_events.specs.Events.{Event}
 use Rattle.agent_events.specs.declared.event.EventKind.{EventKind}
 use Rattle.checkpoint_replay.specs.Moves.{households_of}
-use Rattle.correction_trials.specs.correction_effects.Naming.{AreNaming}
+use Rattle.correction_trials.specs.correction_effects.Naming.{IsNaming}
 use Rattle.correction_trials.specs.correction_effects.Reached.{household_alone}
 use Rattle.desk_answers.proofs.CountedHouseholds.{class_count, sheet_count}
 use Rattle.desk_answers.specs.Fresh.{ledger_of, moves_in}
@@ -23,10 +23,7 @@ use Rattle.correction_trials.specs.desk_books.declared.change.EventChange.{Event
 use Rattle.event_laws.specs.EventReplays.{is_correction, is_sheet}
 use Rattle.register_laws.specs.Lawful.{book_behind}
 use Rattle.register_machine.specs.journal.Journals.{Journal, with_event}
-use Rattle.register_machine.specs.journal.Kinds.{accounts_of}
 use Rattle.register_machine.specs.journal.Lawful.{IsLawful}
-use Rattle.register_machine.specs.pricing.CorrectedOrders.{orders_of}
-use Rattle.standing_orders.specs.Rows.{AreOwners}
 
 -- households that rise are different
 rising-differ : (households : List ℕ) → IsStrictlyIncreasing households → IsDistinct nat_eq households
@@ -42,19 +39,19 @@ within few most sheets before after less steps =
 
 -- ---- a correction, whether it is refused or not
 
-module _ (journal : Journal) (owners : List ℕ) (before after : ℕ) (lawful : IsLawful journal) (owned : AreOwners (accounts_of journal) (orders_of journal) owners) where
-  of-class : (class : ℕ) → (households : List ℕ) × IsStrictlyIncreasing households × AreNaming journal owners class households × (after ≤ before + length households * length (book_behind journal).table.sheets)
+module _ (journal : Journal) (before after : ℕ) (lawful : IsLawful journal) where
+  of-class : (class : ℕ) → (households : List ℕ) × IsStrictlyIncreasing households × IsNaming (book_behind journal) class households × (after ≤ before + length households * length (book_behind journal).table.sheets)
       → after ≤ before + class_reach journal class * length (book_behind journal).table.sheets
   of-class class (households, rising, naming, few) =
       within (length households) (class_reach journal class) (length (book_behind journal).table.sheets) before after
-      (class_count journal class households lawful (rising-differ households rising) (naming owned).own) few
+      (class_count journal class households lawful (rising-differ households rising) naming.own) few
 
   of-account : (account : ℕ) → (households : List ℕ) × IsStrictlyIncreasing households × (households ≡ household_alone journal account) × (after ≤ before + length households * length (book_behind journal).table.sheets)
       → after ≤ before + account_reach journal account * length (book_behind journal).table.sheets
   of-account account (households, rising, alone, few) =
       subst (λ (hs : List ℕ). after ≤ before + length hs * length (book_behind journal).table.sheets) alone few
 
-  correction-within : (event : Event) (kind : EventKind) → is_correction kind ≡ true → StepsWhereReached journal owners kind before after → after ≤ before + most_steps_of journal event kind
+  correction-within : (event : Event) (kind : EventKind) → is_correction kind ≡ true → StepsWhereReached journal kind before after → after ≤ before + most_steps_of journal event kind
   correction-within event (EventKind.FixPrice form) is few = of-class form.class few
   correction-within event (EventKind.FixRate form) is few = of-class form.class few
   correction-within event (EventKind.Enter form) is few = of-account form.order.account few
@@ -62,12 +59,12 @@ module _ (journal : Journal) (owners : List ℕ) (before after : ℕ) (lawful : 
   correction-within event (EventKind.Void form) is few = of-account form.account few
   correction-within event _ is few = absurd (true≢false (sym is))
 
-  pub correction_within : (event : Event) → is_correction event.kind ≡ true → StepsWhereReached journal owners event.kind before after → after ≤ before + most_steps journal event
+  pub correction_within : (event : Event) → is_correction event.kind ≡ true → StepsWhereReached journal event.kind before after → after ≤ before + most_steps journal event
   correction_within event is few = correction-within event event.kind is few
 
   -- ---- an event that follows
 
-  sheet-within : (event : Event) (kind : EventKind) (change : Option EventChange) → event.kind ≡ kind → IsLawful (with_event journal event) → TakesSteps journal owners event change before after → is_sheet kind ≡ true → after ≤ before + most_steps_of journal event kind
+  sheet-within : (event : Event) (kind : EventKind) (change : Option EventChange) → event.kind ≡ kind → IsLawful (with_event journal event) → TakesSteps journal event change before after → is_sheet kind ≡ true → after ≤ before + most_steps_of journal event kind
   sheet-within event (EventKind.Sheet form) change is follows steps sheet =
       let each = steps.sheet (ap is_sheet is) in
       let few = sheet_count journal event form (households_of (moves_in (ledger_of change))) follows is each.apart (each.reached form is) in
@@ -77,7 +74,7 @@ module _ (journal : Journal) (owners : List ℕ) (before after : ℕ) (lawful : 
   none-within : (most : ℕ) → after ≡ before → after ≤ before + most
   none-within most same = omega (arith, same)
 
-  pub found_within : (event : Event) (change : Option EventChange) → IsLawful (with_event journal event) → TakesSteps journal owners event change before after → after ≤ before + most_steps journal event
+  pub found_within : (event : Event) (change : Option EventChange) → IsLawful (with_event journal event) → TakesSteps journal event change before after → after ≤ before + most_steps journal event
   found_within event change follows steps = by_kind (is_sheet event.kind) (is_correction event.kind) refl refl
     where
       by_kind : (sheet correction : Bool) → is_sheet event.kind ≡ sheet → is_correction event.kind ≡ correction → after ≤ before + most_steps journal event
@@ -87,7 +84,7 @@ module _ (journal : Journal) (owners : List ℕ) (before after : ℕ) (lawful : 
 
   -- ---- a stored event
 
-  pub few_found : (event : Event) (found : Option EventChange) → ((change : EventChange) → found ≡ Some change → IsLawful (with_event journal event)) → AreStepsFound journal owners event found before after → AreFewSteps journal event found before after
+  pub few_found : (event : Event) (found : Option EventChange) → ((change : EventChange) → found ≡ Some change → IsLawful (with_event journal event)) → AreStepsFound journal event found before after → AreFewSteps journal event found before after
   few_found event (Some change) follows steps = found_within event (Some change) (follows change refl) steps
   few_found event None follows (inl same) = inl same
   few_found event None follows (inr (is, steps)) = inr (is, correction_within event is steps)

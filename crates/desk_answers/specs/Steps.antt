@@ -16,38 +16,38 @@ use Rattle.register_machine.specs.run.Verdicts.{verdict}
 use Rattle.sheet_trials.specs.Reached.{TakeOneStepEach}
 
 -- at most as many steps as there are sheets, for each household that a correction can reach, each once
-abbrev pub StepsWhereReached : Journal → List ℕ → EventKind → ℕ → ℕ → Type 0
-StepsWhereReached journal owners kind before after =
-    (households : List ℕ) × IsStrictlyIncreasing households × AreReached journal owners kind households
+abbrev pub StepsWhereReached : Journal → EventKind → ℕ → ℕ → Type 0
+StepsWhereReached journal kind before after =
+    (households : List ℕ) × IsStrictlyIncreasing households × AreReached journal kind households
     × (after ≤ before + length households * length (book_behind journal).table.sheets)
 
 -- a new sheet takes one step for each household that it moves, for which it isn't quiet, a new correction those of the households that it can reach, and
 -- any other new event none
-pub record TakesSteps (journal : Journal) (owners : List ℕ) (event : Event) (change : Option EventChange) (before after : ℕ) : Type 0 where
+pub record TakesSteps (journal : Journal) (event : Event) (change : Option EventChange) (before after : ℕ) : Type 0 where
   pub sheet : is_sheet event.kind ≡ true → TakeOneStepEach journal event (households_of (moves_in (ledger_of change))) before after
-  pub correction : is_correction event.kind ≡ true → StepsWhereReached journal owners event.kind before after
+  pub correction : is_correction event.kind ≡ true → StepsWhereReached journal event.kind before after
   pub other : (is_sheet event.kind || is_correction event.kind) ≡ false → after ≡ before
 
 -- and what isn't new takes none
-abbrev pub AreStepsOf : Journal → List ℕ → Verdict → Option EventChange → ℕ → ℕ → Type 0
-AreStepsOf journal owners (Verdict.Fresh event) change before after =
-    TakesSteps journal owners event change before after
-AreStepsOf journal owners (Verdict.Again place) change before after = after ≡ before
-AreStepsOf journal owners Verdict.Query change before after = after ≡ before
-AreStepsOf journal owners (Verdict.Refused why) change before after = after ≡ before
+abbrev pub AreStepsOf : Journal → Verdict → Option EventChange → ℕ → ℕ → Type 0
+AreStepsOf journal (Verdict.Fresh event) change before after =
+    TakesSteps journal event change before after
+AreStepsOf journal (Verdict.Again place) change before after = after ≡ before
+AreStepsOf journal Verdict.Query change before after = after ≡ before
+AreStepsOf journal (Verdict.Refused why) change before after = after ≡ before
 
 -- ---- An event that is asked for again.
 
 -- by its own request, its asker and its moment
-abbrev pub AreStepsAsked : Journal → List ℕ → Event → Option EventChange → ℕ → ℕ → Type 0
-AreStepsAsked journal owners event change before after =
-    AreStepsOf journal owners (verdict (own_at journal event.moment (asker_of journal event.kind)) (request_of event.kind))
+abbrev pub AreStepsAsked : Journal → Event → Option EventChange → ℕ → ℕ → Type 0
+AreStepsAsked journal event change before after =
+    AreStepsOf journal (verdict (own_at journal event.moment (asker_of journal event.kind)) (request_of event.kind))
     change before after
 
 -- One that follows the journal takes the steps of a new event; one that doesn't takes those of a correction, or none.
-abbrev pub AreStepsFound : Journal → List ℕ → Event → Option EventChange → ℕ → ℕ → Type 0
-AreStepsFound journal owners event (Some change) before after =
-    TakesSteps journal owners event (Some change) before after
-AreStepsFound journal owners event None before after =
+abbrev pub AreStepsFound : Journal → Event → Option EventChange → ℕ → ℕ → Type 0
+AreStepsFound journal event (Some change) before after =
+    TakesSteps journal event (Some change) before after
+AreStepsFound journal event None before after =
     (after ≡ before)
-    ⊎ ((is_correction event.kind ≡ true) × StepsWhereReached journal owners event.kind before after)
+    ⊎ ((is_correction event.kind ≡ true) × StepsWhereReached journal event.kind before after)

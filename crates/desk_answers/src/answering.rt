@@ -100,7 +100,7 @@ pub fn answer_request<L: StepLedger>(
     ensures answer { IfOk result (IsAnswer books.new.book.journal moment caller request.now) }
     ensures ready { IfOk result (λ answered. IsReadyToNote books.new answered.change) }
     ensures steps { IfOk result (λ answered. AreStepsOf books.old.book.journal
-        books.old.orders.owners (verdict (own_at books.old.book.journal moment caller) request.now)
+        (verdict (own_at books.old.book.journal moment caller) request.now)
         answered.change steps.old steps.new) }
 {
     let said = verdict_on(alloc, books, moment, caller, request)?;

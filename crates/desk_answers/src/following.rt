@@ -81,7 +81,7 @@ fn asked_again<L: StepLedger>(
     ensures answer { IfOk result (IsAskedAgain books.old.book.journal event.now) }
     ensures ready { IfOk result (λ answered. IsReadyToNote books.new answered.change) }
     ensures steps { IfOk result (λ answered. AreStepsAsked books.old.book.journal
-        books.old.orders.owners event.now answered.change steps.old steps.new) }
+        event.now answered.change steps.old steps.new) }
 {
     let moment = event.moment();
     let kind = event.kind();
@@ -109,7 +109,7 @@ pub fn follows<L: StepLedger>(
     ensures none { IfOk result (λ found. found ≡ None
         → IsLawful (with_event books.old.book.journal event.now) → ⊥) }
     ensures steps { IfOk result (λ found. AreStepsFound books.old.book.journal
-        books.old.orders.owners event.now found steps.old steps.new) }
+        event.now found steps.old steps.new) }
     ensures few { IfOk result (λ found. AreFewSteps books.old.book.journal
         event.now found steps.old steps.new) }
 {

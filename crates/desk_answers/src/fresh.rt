@@ -84,7 +84,7 @@ fn answer_correction<L: StepLedger>(
         ≡ first_answer books.old.book.journal event (last_says books.old.book.journal event)) }
     ensures ready { IfOk result (λ answered. IsReadyToNote books.new answered.change) }
     ensures steps { IfOk result (λ answered. TakesSteps books.old.book.journal
-        books.old.orders.owners event answered.change steps.old steps.new) }
+        event answered.change steps.old steps.new) }
 {
     match try_correction(alloc, books, &event, steps)? {
         Tried::Breaks(refusal) => Ok(reply_alone(Reply::Refused(refusal))),
@@ -108,7 +108,7 @@ pub(crate) fn answer_fresh<L: StepLedger>(
         ≡ first_answer books.old.book.journal event (last_says books.old.book.journal event)) }
     ensures ready { IfOk result (λ answered. IsReadyToNote books.new answered.change) }
     ensures steps { IfOk result (λ answered. TakesSteps books.old.book.journal
-        books.old.orders.owners event answered.change steps.old steps.new) }
+        event answered.change steps.old steps.new) }
 {
     if is_sheet(event.kind()) {
         answer_sheet(alloc, books, event, steps)

@@ -7,6 +7,7 @@ use Rattle.agent_events.specs.declared.request.CalendarForm.{CalendarForm}
 use Rattle.desk_books.proofs.CashAfter.{cash_after}
 use Rattle.desk_books.proofs.IndexAfter.{index_after}
 use Rattle.desk_books.proofs.LedgerAfter.{KeepsLedger, ledger_after}
+use Rattle.desk_books.proofs.NotedAfter.{noted_after}
 use Rattle.desk_books.specs.BooksOfJournals.{AreBooksOf}
 use Rattle.desk_books.specs.LedgerChanges.{IsPosted}
 use Rattle.desk_books.specs.OrderChanges.{owners_after, waiting_after}
@@ -25,6 +26,8 @@ use Rattle.register_laws.specs.OneEventMore.{corrected_table, corrected_table_by
 use Rattle.register_machine.specs.journal.Journals.{Journal, with_event}
 use Rattle.register_machine.specs.journal.Kinds.{calendar_in, calendars_of}
 use Rattle.register_machine.specs.pricing.CorrectedOrders.{orders_of}
+use Rattle.standing_orders.specs.ClassHouseholds.{AreNoted}
+use Rattle.standing_orders.specs.declared.class_households.ClassHouseholds.{ClassHouseholds}
 use Rattle.statement_laws.specs.LawfulStatements.{IsTimely}
 use Rattle.kept_of_journals.specs.waiting_laws.IndexOfJournals.{IsIndexOf}
 
@@ -43,6 +46,7 @@ pub record IsApplied (books : DeskBooks) (change : EventChange) (after : DeskBoo
   pub prices : after.prices.table ≡ corrected_table_by books.prices.table change.event.moment change.event.kind
   pub tables : after.tables ≡ tables_with books.tables change.tables
   pub owners : after.orders.owners ≡ owners_after change.orders books.orders.owners
+  pub classes : after.classes ≡ books.classes
   pub waiting : after.orders.waiting
       ≡ waiting_after change.orders after.prices.table.sheets (orders_of after.book.journal) books.orders.owners books.orders.waiting
   pub posted : IsPosted (length books.book.journal) change.ledger books.ledger books.cash after.ledger after.cash
@@ -57,6 +61,7 @@ books_after books change after are ready applied = record {
   prices = prices;
   tables = subst (AreTablesOf behind) (sym (applied.tables ∙ ready.tables)) (tables_go_on journal books.tables change.event are.tables ready.in_range);
   index = index;
+  classes = classes;
   ledger = ledger.is;
   tallied = ledger.tallied;
   installs = ledger.installs;
@@ -93,3 +98,9 @@ books_after books change after are ready applied = record {
         subst (λ owners. IsIndexOf behind owners after.orders.waiting) (sym applied.owners)
         (subst (IsIndexOf behind (owners_after change.orders books.orders.owners)) (sym waiting)
         (index_after journal change.event books.orders.owners books.orders.waiting ready.follows are.index change.orders ready.orders))
+
+    classes : AreNoted after.classes (orders_of behind) after.orders.owners
+    classes =
+        subst (λ (noted : ClassHouseholds). AreNoted noted (orders_of behind) after.orders.owners) (sym applied.classes)
+        (subst (AreNoted books.classes (orders_of behind)) (sym applied.owners)
+        (noted_after books.classes journal change.event books.orders.owners ready.follows are.index.owned are.classes change.orders ready.orders ready.classes))

@@ -73,6 +73,7 @@ books_of_no_event books empty = record {
   prices = ap (λ (book : Book). book.table) empty.prices ∙ empty-prices;
   tables = subst (AreTablesOf []) (sym empty.tables) none_yet;
   index = subst (λ owners. IsIndexOf [] owners books.orders.waiting) (sym empty.owners) (subst (IsIndexOf [] []) (sym empty.waiting) empty-index);
+  classes = tt;
   ledger = subst (IsLedgerOf (book_behind [])) (sym empty.parts) empty_ledger;
   tallied = empty.tallied;
   installs = omega (arith, empty.installs);

@@ -2,6 +2,8 @@
 pub mod FirstBooks
 -- the index of orders behind an event
 pub mod IndexAfter
+-- the households listed under classes behind an event
+pub mod NotedAfter
 -- the ledger behind an event
 pub mod LedgerAfter
 -- the cash book behind an event

@@ -1,5 +1,5 @@
--- What the desk keeps of a journal: the book of orders, the tables by number, the prices, the index of orders, the ledger, the
--- cash book and the kept states, each that of the journal.
+-- What the desk keeps of a journal: the book of orders, the tables by number, the prices, the index of orders, the households
+-- that have named each class, the ledger, the cash book and the kept states, each that of the journal.
 use Rattle.std.specs.Prelude.{None, Some, length, slice_get, take, ℕ, ◌≡◌, ◌≤◌}
 use Rattle.agent_events.specs.Events.{Event}
 use Rattle.agent_events.specs.declared.order.Party.{Party}
@@ -15,7 +15,9 @@ use Rattle.register_laws.specs.Lawful.{book_behind}
 use Rattle.register_laws.specs.OneEventMore.{corrected_table}
 use Rattle.register_machine.specs.journal.Journals.{Journal}
 use Rattle.register_machine.specs.journal.Lawful.{IsLawful}
+use Rattle.register_machine.specs.pricing.CorrectedOrders.{orders_of}
 use Rattle.register_machine.specs.replay.Replay.{replay}
+use Rattle.standing_orders.specs.ClassHouseholds.{AreNoted}
 use Rattle.statement_laws.specs.LawfulStatements.{IsTimely}
 use Rattle.kept_of_journals.specs.waiting_laws.IndexOfJournals.{IsIndexOf}
 
@@ -34,6 +36,7 @@ pub record AreBooksOf (journal : Journal) (books : DeskBooks) : Type 0 where
   pub prices : books.prices.table ≡ corrected_table journal
   pub tables : AreTablesOf journal books.tables
   pub index : IsIndexOf journal books.orders.owners books.orders.waiting
+  pub classes : AreNoted books.classes (orders_of journal) books.orders.owners
   pub ledger : IsLedgerOf (book_behind journal) books.ledger.parts
   pub tallied : IsTallied books.ledger
   pub installs : books.ledger.totals.cash.posts ≤ length journal

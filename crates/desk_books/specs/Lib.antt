@@ -2,6 +2,8 @@
 pub mod BooksOfJournals
 -- what an event does to the index of orders
 pub mod OrderChanges
+-- when the households of orders are listed under their classes
+pub mod NotedClasses
 -- what a sheet or a correction makes of the ledger
 pub mod LedgerChanges
 -- when an event is ready to be noted in the books

@@ -2,6 +2,7 @@
 use Rattle.std.specs.Prelude.{◌≡◌, ◌≤◌}
 use Rattle.agent_events.specs.declared.event.EventKind.{EventKind}
 use Rattle.desk_books.specs.LedgerChanges.{HasRoomForLedger, IsLedgerChange}
+use Rattle.desk_books.specs.NotedClasses.{NotesOrder}
 use Rattle.desk_books.specs.OrderChanges.{ChangesOrders}
 use Rattle.desk_books.specs.declared.books.DeskBooks.{DeskBooks}
 use Rattle.desk_books.specs.declared.change.EventChange.{EventChange}
@@ -11,6 +12,7 @@ use Rattle.kept_of_journals.specs.KeptOfBooks.{AreKeptOf}
 use Rattle.price_changes.specs.Changes.{HasRoomFor as HasPriceRoom, listing_brought}
 use Rattle.register_laws.specs.Lawful.{book_behind}
 use Rattle.register_machine.specs.journal.Journals.{with_event}
+use Rattle.register_machine.specs.journal.Kinds.{accounts_of}
 use Rattle.register_machine.specs.journal.Lawful.{IsLawful}
 
 -- a calendar that an event brings has a time of day, in minutes after midnight
@@ -30,6 +32,7 @@ pub record IsReady (books : DeskBooks) (change : EventChange) : Type 0 where
   pub in_range : IsInRange change.event.kind
   pub orders : ChangesOrders books.book.journal change.event.kind change.orders
   pub order_room : 1 ≤ books.orders.spare
+  pub classes : NotesOrder books.classes (accounts_of books.book.journal) change.event.kind
   pub ledger : IsLedgerChange books.book.journal change.event books.ledger.parts change.ledger
   pub kept : AreKeptOf (book_behind (with_event books.book.journal change.event)) books.kept
   pub ledger_room : HasRoomForLedger books.ledger books.cash change.ledger

@@ -10,17 +10,18 @@ use journal_tables::JournalTables;
 use kept_states::KeptStates;
 use money_units::NoMemory;
 use order_intake::Book;
-use standing_orders::HouseholdOrders;
+use standing_orders::{ClassHouseholds, HouseholdOrders};
 use std::alloc::Global;
 
-/// The book of orders, the tables by number, the prices, the index of orders, the ledger, the cash book and the kept states of
-/// one journal.
+/// The book of orders, the tables by number, the prices, the index of orders, the households that have named each class, the
+/// ledger, the cash book and the kept states of one journal.
 #[derive(Drop)]
 pub struct DeskBooks {
     pub book: Book,
     pub tables: JournalTables,
     pub prices: PriceBook,
     pub orders: HouseholdOrders,
+    pub classes: ClassHouseholds,
     pub ledger: Ledger,
     pub cash: CashBook,
     pub kept: KeptStates,
@@ -38,6 +39,7 @@ impl DeskBooks {
             tables: JournalTables::new(alloc),
             prices,
             orders: HouseholdOrders::new(alloc),
+            classes: ClassHouseholds::new(alloc),
             ledger,
             cash: CashBook::new(alloc),
             kept: KeptStates::new(alloc),

@@ -5,8 +5,10 @@ mod applying;
 mod books;
 mod change;
 mod index;
+mod noting;
 mod posting;
 mod preparing;
 
 pub use crate::books::DeskBooks;
 pub use crate::change::{EventChange, LedgerChange, OrderChange};
+pub use crate::noting::note_order;

@@ -12,6 +12,7 @@ ghost use Rattle.register_machine.specs.journal.Lawful.{IsLawful};
 use crate::books::DeskBooks;
 use crate::change::{EventChange, LedgerChange};
 use crate::index::order_change;
+use crate::noting::note_classes;
 use crate::posting::reserve_ledger;
 use agent_events::{Event, EventKind};
 use money_units::NoMemory;
@@ -46,6 +47,7 @@ impl DeskBooks {
         let orders = order_change(self.book.orders(), event.kind());
         reserve_orders(&mut self.book, &mut self.orders)?;
         reserve_ledger(&mut self.ledger, &mut self.cash, &ledger)?;
+        note_classes(alloc, &mut self.classes, self.book.orders(), event.kind())?;
         Ok(EventChange {
             event,
             prices,

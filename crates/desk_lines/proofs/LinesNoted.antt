@@ -6,6 +6,7 @@ use Rattle.dealer_lines.specs.Lines.{line_event}
 use Rattle.desk_books.proofs.BooksAfter.{books_after}
 use Rattle.desk_books.proofs.KeptAfter.{kept_behind}
 use Rattle.desk_books.specs.BooksOfJournals.{AreBooksOf}
+use Rattle.desk_books.specs.NotedClasses.{IsOrderNoted}
 use Rattle.desk_books.specs.declared.books.DeskBooks.{DeskBooks}
 use Rattle.desk_books.specs.declared.change.EventChange.{EventChange}
 use Rattle.desk_books.specs.declared.change.OrderChange.{OrderChange}
@@ -31,12 +32,13 @@ pub record HasLine (books : DeskBooks) (moment : ℕ) (placed : Placed) (househo
   pub tables : after.tables ≡ books.tables
   pub owners : after.orders.owners ≡ books.orders.owners ++ household ∷ []
   pub waiting : after.orders.waiting ≡ books.orders.waiting ++ length books.orders.owners ∷ []
+  pub classes : after.classes ≡ books.classes
   pub ledger : after.ledger ≡ books.ledger
   pub cash : after.cash ≡ books.cash
   pub kept : after.kept ≡ books.kept
 
-pub line_noted : (books : DeskBooks) (moment : ℕ) (placed : Placed) (household : ℕ) (after : DeskBooks) → AreBooksOf books.book.journal books → IsLawful (with_event books.book.journal (line_event moment placed)) → 1 ≤ books.book.spare → 1 ≤ books.orders.spare → household_of (accounts_of books.book.journal) placed.order.account ≡ Some household → HasLine books moment placed household after → AreBooksOf (with_event books.book.journal (line_event moment placed)) after
-line_noted books moment placed household after are lawful room order_room found has =
+pub line_noted : (books : DeskBooks) (moment : ℕ) (placed : Placed) (household : ℕ) (after : DeskBooks) → AreBooksOf books.book.journal books → IsLawful (with_event books.book.journal (line_event moment placed)) → 1 ≤ books.book.spare → 1 ≤ books.orders.spare → household_of (accounts_of books.book.journal) placed.order.account ≡ Some household → IsOrderNoted books.classes (accounts_of books.book.journal) placed.order → HasLine books moment placed household after → AreBooksOf (with_event books.book.journal (line_event moment placed)) after
+line_noted books moment placed household after are lawful room order_room found listed has =
     books_after books (line_change moment placed household) after are
     (record {
       follows = lawful;
@@ -49,6 +51,7 @@ line_noted books moment placed household after are lawful room order_room found 
       in_range = tt;
       orders = (household, found, refl);
       order_room = order_room;
+      classes = listed;
       ledger = refl;
       kept = kept_behind books.book.journal (line_event moment placed) books.kept lawful are.kept (λ corrects. absurd (true≢false (sym corrects)));
       ledger_room = tt;
@@ -58,6 +61,7 @@ line_noted books moment placed household after are lawful room order_room found 
       prices = ap (λ book. book.table) has.prices;
       tables = has.tables;
       owners = has.owners;
+      classes = has.classes;
       waiting = has.waiting;
       posted = (has.ledger, has.cash);
       kept = has.kept;

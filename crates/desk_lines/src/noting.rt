@@ -1,26 +1,56 @@
 //! Makes room for the orders of lines, and notes them.
-ghost use Rattle.std.specs.Prelude.{◌≡◌, ◌≤◌, ◌++◌, ◌-◌, Some, is_some, true, OnOk};
+ghost use Rattle.std.specs.Prelude.{◌≡◌, ◌≤◌, ◌++◌, ◌-◌, ℕ, Some, is_some, length, true, OnOk};
 ghost use Rattle.dealer_lines.specs.Lines.{line_event, line_events};
 ghost use Rattle.desk_books.specs.BooksOfJournals.{AreBooksOf, ShowTheSame};
-ghost use Rattle.desk_lines.specs.ReadyLines.{AreReadyToNote};
+ghost use Rattle.desk_books.specs.NotedClasses.{IsOrderNoted};
+ghost use Rattle.desk_lines.specs.ReadyLines.{AreLinesNoted, AreReadyToNote};
 ghost use Rattle.register_machine.specs.journal.Journals.{with_event};
 ghost use Rattle.register_machine.specs.journal.Kinds.{accounts_of, household_of};
 ghost use Rattle.register_machine.specs.journal.Lawful.{IsLawful};
+ghost use Rattle.standing_orders.specs.ClassHouseholds.{is_listed};
 
 use agent_events::{Event, EventKind, Placed};
-use desk_books::DeskBooks;
+use desk_books::{DeskBooks, note_order};
 use money_units::{Moment, NoMemory};
 use order_book::OrderBook;
+use standing_orders::ClassHouseholds;
+use std::alloc::Global;
 
-/// Makes room for so many orders. The books show what they showed before, after `NoMemory` too.
-pub fn reserve_lines(books: &mut DeskBooks, orders: usize) -> Result<(), NoMemory>
+/// Makes room for the orders of lines, and lists their households under the classes that they name. The books show what they
+/// showed before, after `NoMemory` too.
+pub fn reserve_lines(
+    alloc: Global,
+    books: &mut DeskBooks,
+    placed: &[Placed],
+) -> Result<(), NoMemory>
     ensures same { ShowTheSame books.old books.new }
     ensures journal { books.new.book.journal ≡ books.old.book.journal }
-    ensures room { OnOk result (orders ≤ books.new.book.spare) }
-    ensures order_room { OnOk result (orders ≤ books.new.orders.spare) }
+    ensures room { OnOk result (length placed.now ≤ books.new.book.spare) }
+    ensures order_room { OnOk result (length placed.now ≤ books.new.orders.spare) }
+    ensures classes { OnOk result
+        (AreLinesNoted books.new.classes (accounts_of books.new.book.journal) placed.now) }
 {
-    books.book.reserve(orders)?;
-    books.orders.reserve(orders)?;
+    books.book.reserve(placed.len())?;
+    books.orders.reserve(placed.len())?;
+    note_classes(alloc, &mut books.classes, books.book.orders(), placed)?;
+    Ok(())
+}
+
+// Lists the household of each order's account under the order's classes.
+fn note_classes(
+    alloc: Global,
+    classes: &mut ClassHouseholds,
+    book: &OrderBook,
+    placed: &[Placed],
+) -> Result<(), NoMemory>
+    ensures noted { OnOk result
+        (AreLinesNoted classes.new (accounts_of book.now.journal) placed.now) }
+    ensures kept { (class household : ℕ) → is_listed classes.old class household ≡ true
+        → is_listed classes.new class household ≡ true }
+{
+    for line in placed {
+        note_order(alloc, classes, book, &line.order)?;
+    }
     Ok(())
 }
 
@@ -41,10 +71,14 @@ fn note_line(books: &mut DeskBooks, moment: Moment, placed: &Placed)
     requires follows { IsLawful (with_event books.old.book.journal (line_event moment placed.now)) }
     requires room { 1 ≤ books.old.book.spare }
     requires order_room { 1 ≤ books.old.orders.spare }
+    requires classes { IsOrderNoted books.old.classes (accounts_of books.old.book.journal)
+        placed.now.order }
     ensures noted { AreBooksOf
         (with_event books.old.book.journal (line_event moment placed.now)) books.new }
     ensures room { books.new.book.spare ≡ books.old.book.spare - 1 }
     ensures order_room { books.new.orders.spare ≡ books.old.orders.spare - 1 }
+    ensures classes { books.new.classes ≡ books.old.classes }
+    ensures accounts { accounts_of books.new.book.journal ≡ accounts_of books.old.book.journal }
 {
     let household = household_of(books.book.orders(), placed.order.account.number());
     let place = books.book.len();

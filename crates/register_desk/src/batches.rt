@@ -41,7 +41,7 @@ impl Desk {
     {
         let answered = answer_batch(self.alloc, &self.books, moment, caller, lines)?;
         let batch = batch_of_lines(self.alloc, answered.moment, answered.placed.as_slice())?;
-        reserve_lines(&mut self.books, answered.placed.len())?;
+        reserve_lines(self.alloc, &mut self.books, answered.placed.as_slice())?;
         Ok(PreparedBatch {
             answered,
             base: self.books.book.len(),

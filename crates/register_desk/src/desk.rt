@@ -71,7 +71,6 @@ impl Desk {
         // A new sheet takes one step for each household that it moves, a new correction those of the households that it can reach,
         // and any other request none.
         ensures steps { IfOk result (λ prepared. AreStepsOf self.old.book.journal
-            self.old.orders.owners
             (verdict (own_at self.old.book.journal moment caller) request.now)
             prepared.change steps.old steps.new) }
     {

@@ -57,7 +57,7 @@ one-more-kept book household state old new own others is are other = by (nat_eq 
     by false apart = subst (All (IsAsOf book other)) (sym (others other apart)) (are other)
 
 -- books whose kept states still are what the households came to show the same
-pub kept-show-the-same : (journal : Journal) (books : DeskBooks) (kept : List (ℕ × HouseholdStates)) → (AreKeptOf (book_behind journal) books.kept → AreKeptOf (book_behind journal) kept) → AreBooksOf journal books → AreBooksOf journal (record { book = books.book; tables = books.tables; prices = books.prices; orders = books.orders; ledger = books.ledger; cash = books.cash; kept = kept })
+pub kept-show-the-same : (journal : Journal) (books : DeskBooks) (kept : List (ℕ × HouseholdStates)) → (AreKeptOf (book_behind journal) books.kept → AreKeptOf (book_behind journal) kept) → AreBooksOf journal books → AreBooksOf journal (record { book = books.book; tables = books.tables; prices = books.prices; orders = books.orders; classes = books.classes; ledger = books.ledger; cash = books.cash; kept = kept })
 kept-show-the-same journal books kept stay are = record {
   noted = are.noted;
   lawful = are.lawful;
@@ -65,6 +65,7 @@ kept-show-the-same journal books kept stay are = record {
   prices = are.prices;
   tables = are.tables;
   index = are.index;
+  classes = are.classes;
   ledger = are.ledger;
   tallied = are.tallied;
   installs = are.installs;

@@ -5,6 +5,8 @@ pub mod Places
 pub mod Rows
 -- the chain of each household's orders, back from the last one
 pub mod Chains
+-- the households that have named each class
+pub mod ClassHouseholds
 -- the index as its readers see it
 pub mod Index
 -- what the index keeps

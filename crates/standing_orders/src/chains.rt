@@ -1,7 +1,6 @@
 //! The orders of a household one after the other, back from the last one.
-ghost use Rattle.std.specs.Prelude.{◌≡◌, ◌≤◌, ◌<◌, ◌+◌, ◌++◌, ◌∷◌, [], ℕ, List, Some, IfOk, OnOk, is_some, length, nat_eq, option_and_then, slice_get, if◌then◌else◌, vec_len, vec_capacity};
-ghost use Rattle.std.specs.HashMap.{get, keys, spare};
-ghost use Rattle.std.specs.Set.{is_member};
+ghost use Rattle.std.specs.Prelude.{◌≡◌, ◌≤◌, ◌<◌, ◌+◌, ◌++◌, ◌∷◌, [], ℕ, List, Some, OnOk, length, nat_eq, option_and_then, slice_get, if◌then◌else◌, vec_len, vec_capacity};
+ghost use Rattle.std.specs.HashMap.{get, spare};
 ghost use Rattle.standing_orders.specs.Chains.{KeepsOwners, HasChainRoom};
 
 use money_units::NoMemory;
@@ -43,16 +42,6 @@ impl Chains {
         self.earlier.get(place).copied().flatten()
     }
 
-    /// The households that have an order, each once, in no order of theirs.
-    pub fn households(&self, alloc: Global) -> Result<Vec<u32>, NoMemory>
-        ensures { IfOk result (λ found. (household : ℕ)
-            → is_member nat_eq found.items household
-            ≡ is_some (get nat_eq self.now.last household)) }
-    {
-        let found = listed_keys(alloc, &self.last)?;
-        Ok(found)
-    }
-
     /// Takes the memory for so many orders.
     pub fn reserve(&mut self, orders: usize) -> Result<(), NoMemory>
         ensures same { (owners : List ℕ) → KeepsOwners self.old owners
@@ -79,17 +68,6 @@ impl Chains {
         put_last(&mut self.last, household, place);
         push_within(&mut self.owners, household);
     }
-}
-
-// The keys of the map, in its order.
-fn listed_keys(alloc: Global, last: &HashMap<u32, usize>) -> Result<Vec<u32>, NoMemory>
-    ensures { IfOk result (λ found. found.items ≡ keys last.now) }
-{
-    let mut found = Vec::with_capacity(alloc, last.len())?;
-    for household in last.keys() {
-        found.push(*household)?;
-    }
-    Ok(found)
 }
 
 fn put_last(last: &mut HashMap<u32, usize>, household: u32, place: usize)

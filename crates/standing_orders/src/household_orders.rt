@@ -1,6 +1,5 @@
 //! The orders of each household, and those that may wait for a price.
-ghost use Rattle.std.specs.Prelude.{◌≡◌, ◌≤◌, ◌<◌, ◌-◌, ◌+◌, ◌++◌, ◌∷◌, [], ℕ, Some, IfOk, OnOk, filter, is_some, length, nat_eq, slice_get, take, vec_capacity};
-ghost use Rattle.std.specs.Set.{is_member};
+ghost use Rattle.std.specs.Prelude.{◌≡◌, ◌≤◌, ◌<◌, ◌-◌, ◌+◌, ◌++◌, ◌∷◌, [], ℕ, Some, IfOk, OnOk, filter, length, slice_get, take, vec_capacity};
 ghost use Rattle.order_book.specs.LastPlaces.{last_place};
 ghost use Rattle.register_machine.specs.pricing.CorrectedOrders.{orders_of};
 ghost use Rattle.standing_orders.specs.Places.{passes_at, with_place, RisesWithin};
@@ -60,17 +59,6 @@ impl HouseholdOrders {
         ensures rises { RisesWithin 0 (length self.now.owners) self.now.waiting }
     {
         self.waiting.as_slice()
-    }
-
-    /// The households that have an order, each once, in no order of theirs. It costs a look at each of them, and none at
-    /// their orders.
-    pub fn households(&self, alloc: Global) -> Result<Vec<u32>, NoMemory>
-        ensures { IfOk result (λ found. (household : ℕ)
-            → is_member nat_eq found.items household
-            ≡ is_some (last_place (is_owner household) self.now.owners)) }
-    {
-        let found = self.chains.households(alloc)?;
-        Ok(found)
     }
 
     /// The place of the last order of a household.

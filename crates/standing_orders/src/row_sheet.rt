@@ -35,7 +35,8 @@ pub(crate) fn row_waits(prices: &PriceBook, row: &OrderRow) -> bool
     !row.struck && sheet_number(prices, row).is_none()
 }
 
-fn class_of(body: &Body) -> u32
+/// The class of an order.
+pub(crate) fn class_of(body: &Body) -> u32
     ensures { result ≡ class_of body.now }
 {
     match body {
@@ -50,7 +51,8 @@ fn class_of(body: &Body) -> u32
     }
 }
 
-fn target_of(body: &Body) -> Option<u32>
+/// The class that an exchange goes to.
+pub(crate) fn target_of(body: &Body) -> Option<u32>
     ensures { result ≡ target_of body.now }
 {
     match body {

@@ -12,6 +12,7 @@ returns-clause-same g c = λ journal are. record {
   prices = are.prices;
   tables = are.tables;
   index = are.index;
+  classes = are.classes;
   ledger = are.ledger;
   tallied = are.tallied;
   installs = are.installs;

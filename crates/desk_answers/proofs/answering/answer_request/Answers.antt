@@ -50,20 +50,20 @@ returns-in-Fresh-clause-answer g c =
 
 pub returns-in-Refused-clause-steps : goal.returns-in-Refused-clause-steps
 returns-in-Refused-clause-steps g c =
-    subst (λ (v : Verdict). AreStepsOf c.args.books.now.book.journal c.args.books.now.orders.owners v c.reply_alone.result.change c.args.steps.now c.args.steps.now)
+    subst (λ (v : Verdict). AreStepsOf c.args.books.now.book.journal v c.reply_alone.result.change c.args.steps.now c.args.steps.now)
     (sym (sym c.in_ok-said.ensures ∙ c.in-Refused.is)) refl
 
 pub returns-in-Again-clause-steps : goal.returns-in-Again-clause-steps
 returns-in-Again-clause-steps g c =
-    none_steps c.args.books.now.book.journal c.args.books.now.orders.owners (Verdict.Again c.in-Again.place) c.args.steps.now
+    none_steps c.args.books.now.book.journal (Verdict.Again c.in-Again.place) c.args.steps.now
     c.answer_again.result (sym c.in_ok-said.ensures ∙ c.in-Again.is) (λ change. refl) c.answer_again.ensures.nothing
 
 pub returns-in-Query-clause-steps : goal.returns-in-Query-clause-steps
 returns-in-Query-clause-steps g c =
-    none_steps c.args.books.now.book.journal c.args.books.now.orders.owners Verdict.Query c.args.steps.now
+    none_steps c.args.books.now.book.journal Verdict.Query c.args.steps.now
     c.answer_look.result (sym c.in_ok-said.ensures ∙ c.in-Query.is) (λ change. refl) c.answer_look.ensures.nothing
 
 pub returns-in-Fresh-clause-steps : goal.returns-in-Fresh-clause-steps
 returns-in-Fresh-clause-steps g c =
-    fresh_steps c.args.books.now.book.journal c.args.books.now.orders.owners c.args.steps.now _ c.answer_fresh.result
+    fresh_steps c.args.books.now.book.journal c.args.steps.now _ c.answer_fresh.result
     (sym c.in_ok-said.ensures ∙ c.in-Fresh.is) c.answer_fresh.ensures.steps

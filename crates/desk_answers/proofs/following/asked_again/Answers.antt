@@ -28,7 +28,7 @@ returns-clause-answer g c =
 
 pub returns-clause-steps : goal.returns-clause-steps
 returns-clause-steps g c =
-    steps_asked c.args.books.now.book.journal c.args.books.now.orders.owners c.args.event.now c.args.steps.now _ c.answer_request.result
+    steps_asked c.args.books.now.book.journal c.args.event.now c.args.steps.now _ c.answer_request.result
     c.moment-moment.ensures
     (c.asker_of-caller.ensures ∙ ap (λ (kind : EventKind). asker_of c.args.books.now.book.journal kind) c.kind-kind.ensures.kind)
     (c.in_ok-request.ensures ∙ ap (λ (kind : EventKind). request_of kind) c.kind-kind.ensures.kind)

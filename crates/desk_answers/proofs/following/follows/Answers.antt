@@ -28,7 +28,7 @@ returns-then-is_before-clause-steps g c = inl refl
 
 pub returns-clause-steps : goal.returns-clause-steps
 returns-clause-steps g c =
-    steps_found c.args.books.now.book.journal c.args.books.now.orders.owners c.args.event.now c.in_ok-answered.answered c.change_to.result
+    steps_found c.args.books.now.book.journal c.args.event.now c.in_ok-answered.answered c.change_to.result
     c.args.steps.now _ c.change_to.ensures c.in_ok-answered.ensures.answer c.in_ok-answered.ensures.steps
 
 pub returns-then-is_before-clause-few : goal.returns-then-is_before-clause-few
@@ -37,8 +37,8 @@ returns-then-is_before-clause-few g c = inl refl
 pub returns-clause-few : goal.returns-clause-few
 returns-clause-few g c =
     let journal = c.args.books.now.book.journal in
-    few_found journal c.args.books.now.orders.owners c.args.steps.now _ c.requires.books.lawful c.requires.books.index.owned c.args.event.now c.change_to.result
+    few_found journal c.args.steps.now _ c.requires.books.lawful c.args.event.now c.change_to.result
     (found_lawful journal c.asked_again.new.books c.args.event.now c.change_to.result c.asked_again.ensures.journal
     (found_ready journal c.asked_again.new.books c.args.event.now c.in_ok-answered.answered c.change_to.result c.change_to.ensures c.in_ok-answered.ensures.answer c.in_ok-answered.ensures.ready))
-    (steps_found journal c.args.books.now.orders.owners c.args.event.now c.in_ok-answered.answered c.change_to.result
+    (steps_found journal c.args.event.now c.in_ok-answered.answered c.change_to.result
     c.args.steps.now _ c.change_to.ensures c.in_ok-answered.ensures.answer c.in_ok-answered.ensures.steps)

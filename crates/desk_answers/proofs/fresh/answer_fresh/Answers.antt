@@ -25,6 +25,6 @@ returns-then-is_sheet-clause-steps g c =
     let sheet : is_sheet c.args.event.kind ≡ true = sym (ap is_sheet c.kind.ensures.kind) ∙ (sym c.is_sheet.ensures ∙ c.if-is_sheet.true) in
     IfOk-weaker c.answer_sheet.result
     (λ (answered : Answered). TakeOneStepEach journal c.args.event (households_of (moves_in (ledger_of answered.change))) c.args.steps.now c.answer_sheet.new.steps)
-    (λ (answered : Answered). TakesSteps journal c.args.books.now.orders.owners c.args.event answered.change c.args.steps.now c.answer_sheet.new.steps)
-    (λ answered each. sheet_steps journal c.args.books.now.orders.owners c.args.event answered.change c.args.steps.now c.answer_sheet.new.steps sheet each)
+    (λ (answered : Answered). TakesSteps journal c.args.event answered.change c.args.steps.now c.answer_sheet.new.steps)
+    (λ answered each. sheet_steps journal c.args.event answered.change c.args.steps.now c.answer_sheet.new.steps sheet each)
     c.answer_sheet.ensures.steps

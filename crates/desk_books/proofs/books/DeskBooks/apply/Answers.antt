@@ -42,7 +42,7 @@ returns c =
     let books = c.args.self.now in
     let change = c.args.change in
     books_after books change
-    (record { book = c.note-2.new.self; tables = c.note.new.self; prices = c.apply.new.prices; orders = c.apply_orders.new.orders; ledger = c.post_ledger.new.ledger; cash = c.post_ledger.new.cash; kept = books.kept })
+    (record { book = c.note-2.new.self; tables = c.note.new.self; prices = c.apply.new.prices; orders = c.apply_orders.new.orders; classes = books.classes; ledger = c.post_ledger.new.ledger; cash = c.post_ledger.new.cash; kept = books.kept })
     c.requires.books c.requires.ready
     (record {
       noted = c.note-2.ensures.journal;
@@ -52,6 +52,7 @@ returns c =
           ∙ ap (λ kind. corrected_table_by books.prices.table change.event.moment kind) c.kind.ensures.kind);
       tables = c.note.ensures;
       owners = c.apply_orders.ensures.owners;
+      classes = refl;
       waiting =
           c.apply_orders.ensures.waiting
           ∙ ap (λ (book : NotedJournal). waiting_after change.orders c.apply.new.prices.table.sheets (orders_of book.journal) books.orders.owners books.orders.waiting) c.orders.ensures;

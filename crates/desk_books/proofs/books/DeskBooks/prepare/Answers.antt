@@ -4,6 +4,7 @@ use Rattle.desk_books.proofs.KeptAfter.{kept_behind}
 use Rattle.desk_books.proofs.NamedOrders.{names_its_order}
 use Rattle.desk_books.proofs.books.DeskBooks.prepare.Goals as goal
 use Rattle.desk_books.specs.LedgerChanges.{IsLedgerChange}
+use Rattle.desk_books.specs.NotedClasses.{NotesOrder}
 use Rattle.desk_books.specs.OrderChanges.{ChangesOrders, NamesItsOrder}
 use Rattle.desk_books.specs.ReadyChanges.{HasItsMinute}
 use Rattle.journal_tables.proofs.EventTables.{brings_loads}
@@ -14,6 +15,7 @@ use Rattle.order_book.specs.Books.{NotedJournal}
 use Rattle.price_changes.proofs.LawfulChanges.{changes_prices}
 use Rattle.price_changes.specs.Changes.{HasGoodCalendar, HasRoomFor, listing_brought}
 use Rattle.register_machine.specs.journal.Journals.{with_event}
+use Rattle.register_machine.specs.journal.Kinds.{accounts_of}
 use Rattle.register_machine.specs.journal.Lawful.{IsLawful}
 
 pub prepare-requires : goal.prepare-requires
@@ -48,6 +50,10 @@ returns-clause-ready c =
           (ap (λ (book : NotedJournal). book.journal) c.orders.ensures ∙ noted)
           (subst (λ kind. ChangesOrders c.orders.result.now.journal kind c.order_change-orders.result) c.kind-4.ensures.kind c.order_change-orders.ensures);
       order_room = c.in_ok-reserve_orders.ensures.room;
+      classes =
+          subst (λ kind. NotesOrder c.note_classes.new.classes (accounts_of c.reserve_orders.new.book.journal) kind) c.kind-5.ensures.kind
+          (subst (λ (book : NotedJournal). NotesOrder c.note_classes.new.classes (accounts_of book.journal) c.kind-5.result.now) c.orders-2.ensures
+          c.in_ok-note_classes.ensures);
       ledger =
           subst (λ journal. IsLedgerChange journal c.args.event c.reserve_ledger.new.ledger.parts c.args.ledger) noted
           (stays_a_change c.args.self.now.book.journal c.args.event c.args.self.now.ledger.parts c.reserve_ledger.new.ledger.parts c.args.ledger c.reserve_ledger.ensures.parts c.requires.ledger);
