@@ -12,6 +12,8 @@ pub mod CashAfter
 pub mod KeptAfter
 -- the books behind an event
 pub mod BooksAfter
+-- books with more room
+pub mod RoomMade
 -- what moves a ledger with more room
 pub mod MovesStay
 -- the orders that an event names stand

@@ -1,8 +1,7 @@
 -- The households listed under classes, behind an event.
-use Rattle.std.proofs.Common.{Bool, List, None, Option, Some, [], ap, arith, cond, length, map, refl, subst, suc, sym, true, ℕ, ◌++◌, ◌==◌, ◌∙◌, ◌∷◌, ◌≡◌}
-use Rattle.std.proofs.lemmas.Bool.{and_parts, eqb-true, true≢false}
+use Rattle.std.proofs.Common.{Bool, List, Some, [], ap, arith, cond, false, length, map, refl, subst, sym, true, ℕ, ◌++◌, ◌==◌, ◌∙◌, ◌∷◌, ◌≡◌}
+use Rattle.std.proofs.lemmas.Bool.{and_parts, eqb-true}
 use Rattle.std.proofs.lemmas.List.{length-map}
-use Rattle.std.specs.List.{list_any}
 use Rattle.agent_events.specs.Events.{Event}
 use Rattle.agent_events.specs.declared.event.EventKind.{EventKind}
 use Rattle.agent_events.specs.declared.order.Order.{Order}
@@ -67,11 +66,10 @@ module _ (classes : ClassHouseholds) where
 
       by : (is : Bool) → replaces row.order form ≡ is
           → IsNoted classes (cond is (record { place = row.place; receipt = form.receipt; struck = row.struck; order = form.order }) row) owner
-      by true at class names =
+      by true at = λ class.
           new owner class
           (ap (household_of accounts) (eqb-true form.order.account row.order.account (and_parts (form.order.account == row.order.account) (form.order.ref_no == row.order.ref_no) at).0)
           ∙ heads are)
-          names
       by false at = noted.0
 
 module _ (classes : ClassHouseholds) (journal : Journal) (event : Event) (owners : List ℕ) (lawful : IsLawful (with_event journal event)) (are : AreOwners (accounts_of journal) (orders_of journal) owners) (noted : AreNoted classes (orders_of journal) owners) where
@@ -81,7 +79,7 @@ module _ (classes : ClassHouseholds) (journal : Journal) (event : Event) (owners
       ∙ (ap length are ∙ length-map owners Some)
 
   -- the orders behind the event, by its kind
-  After : EventKind → OrderChange → Type 0
+  abbrev After : EventKind → OrderChange → Type 0
   After kind change = AreNoted classes (orders_after (length journal) (orders_of journal) kind) (owners_after change owners)
 
   same : (kind : EventKind) (change : OrderChange) → change ≡ OrderChange.Nothing → AreNoted classes (orders_after (length journal) (orders_of journal) kind) owners → After kind change

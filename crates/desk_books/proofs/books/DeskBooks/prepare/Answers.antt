@@ -1,7 +1,8 @@
-use Rattle.std.proofs.Common.{ap, subst, sym, ◌∙◌}
+use Rattle.std.proofs.Common.{ap, refl, subst, sym, ◌∙◌}
 use Rattle.desk_books.proofs.MovesStay.{stays_a_change}
 use Rattle.desk_books.proofs.KeptAfter.{kept_behind}
 use Rattle.desk_books.proofs.NamedOrders.{names_its_order}
+use Rattle.desk_books.proofs.RoomMade.{show_the_same}
 use Rattle.desk_books.proofs.books.DeskBooks.prepare.Goals as goal
 use Rattle.desk_books.specs.LedgerChanges.{IsLedgerChange}
 use Rattle.desk_books.specs.NotedClasses.{NotesOrder}
@@ -53,7 +54,7 @@ returns-clause-ready c =
       classes =
           subst (λ kind. NotesOrder c.note_classes.new.classes (accounts_of c.reserve_orders.new.book.journal) kind) c.kind-5.ensures.kind
           (subst (λ (book : NotedJournal). NotesOrder c.note_classes.new.classes (accounts_of book.journal) c.kind-5.result.now) c.orders-2.ensures
-          c.in_ok-note_classes.ensures);
+          c.in_ok-note_classes.ensures.noted);
       ledger =
           subst (λ journal. IsLedgerChange journal c.args.event c.reserve_ledger.new.ledger.parts c.args.ledger) noted
           (stays_a_change c.args.self.now.book.journal c.args.event c.args.self.now.ledger.parts c.reserve_ledger.new.ledger.parts c.args.ledger c.reserve_ledger.ensures.parts c.requires.ledger);
@@ -62,3 +63,45 @@ returns-clause-ready c =
           (kept_behind c.args.self.now.book.journal c.args.event c.args.self.now.kept c.requires.follows c.requires.books.kept c.requires.kept);
       ledger_room = c.in_ok-reserve_ledger.ensures.room;
     }
+
+pub returns-in_err-note_classes-clause-same : goal.returns-in_err-note_classes-clause-same
+returns-in_err-note_classes-clause-same c =
+    let books = c.args.self.now in
+    show_the_same books
+    (record { book = c.reserve_orders.new.book; tables = books.tables; prices = c.prepare.new.prices; orders = c.reserve_orders.new.orders; classes = c.note_classes.new.classes; ledger = c.reserve_ledger.new.ledger; cash = c.reserve_ledger.new.cash; kept = books.kept })
+    (record {
+      journal = c.reserve_orders.ensures.journal;
+      prices = c.prepare.ensures.table;
+      tables = refl;
+      owners = c.reserve_orders.ensures.owners;
+      waiting = c.reserve_orders.ensures.waiting;
+      classes = c.note_classes.ensures.kept;
+      parts = c.reserve_ledger.ensures.parts;
+      tallied = c.reserve_ledger.ensures.tallied;
+      installs = c.reserve_ledger.ensures.installs;
+      balances = c.reserve_ledger.ensures.balances;
+      gains = c.reserve_ledger.ensures.gains;
+      posts = c.reserve_ledger.ensures.posts;
+      kept = refl;
+    })
+
+pub returns-clause-same : goal.returns-clause-same
+returns-clause-same c =
+    let books = c.args.self.now in
+    show_the_same books
+    (record { book = c.reserve_orders.new.book; tables = books.tables; prices = c.prepare.new.prices; orders = c.reserve_orders.new.orders; classes = c.note_classes.new.classes; ledger = c.reserve_ledger.new.ledger; cash = c.reserve_ledger.new.cash; kept = books.kept })
+    (record {
+      journal = c.reserve_orders.ensures.journal;
+      prices = c.prepare.ensures.table;
+      tables = refl;
+      owners = c.reserve_orders.ensures.owners;
+      waiting = c.reserve_orders.ensures.waiting;
+      classes = c.note_classes.ensures.kept;
+      parts = c.reserve_ledger.ensures.parts;
+      tallied = c.reserve_ledger.ensures.tallied;
+      installs = c.reserve_ledger.ensures.installs;
+      balances = c.reserve_ledger.ensures.balances;
+      gains = c.reserve_ledger.ensures.gains;
+      posts = c.reserve_ledger.ensures.posts;
+      kept = refl;
+    })

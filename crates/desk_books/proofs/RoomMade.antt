@@ -1,0 +1,63 @@
+-- Books in which room was made, and more households are listed under classes, show what they showed before.
+use Rattle.std.proofs.Common.{subst, sym, true, ℕ, ◌∙◌, ◌≡◌, ◌≤◌}
+use Rattle.agent_events.specs.declared.order.Party.{Party}
+use Rattle.checkpoint_replay.specs.Parts.{part_in}
+use Rattle.checkpoint_replay.specs.Tallied.{IsTallied}
+use Rattle.desk_books.proofs.NotedAfter.{noted_kept}
+use Rattle.desk_books.specs.BooksOfJournals.{IsCashOf, ShowTheSame}
+use Rattle.desk_books.specs.declared.books.DeskBooks.{DeskBooks}
+use Rattle.desk_looks.specs.EventReplies.{AreKeptFor}
+use Rattle.gain_loss_book.specs.Posted.{Books, cash_held, gains_kept}
+use Rattle.journal_tables.specs.TablesOfJournals.{AreTablesOf}
+use Rattle.kept_of_journals.specs.KeptOfBooks.{AreKeptOf}
+use Rattle.kept_of_journals.specs.waiting_laws.IndexOfJournals.{IsIndexOf}
+use Rattle.register_laws.specs.Lawful.{book_behind}
+use Rattle.register_machine.specs.journal.Journals.{Journal}
+use Rattle.register_machine.specs.pricing.CorrectedOrders.{orders_of}
+use Rattle.standing_orders.specs.ClassHouseholds.{AreNoted, is_listed}
+use Rattle.std.specs.Prelude.{length, take}
+
+-- What the two have in common, field by field.
+pub record AreAlike (before after : DeskBooks) : Type 0 where
+  pub journal : after.book.journal ≡ before.book.journal
+  pub prices : after.prices.table ≡ before.prices.table
+  pub tables : after.tables ≡ before.tables
+  pub owners : after.orders.owners ≡ before.orders.owners
+  pub waiting : after.orders.waiting ≡ before.orders.waiting
+  pub classes : (class household : ℕ) → is_listed before.classes class household ≡ true → is_listed after.classes class household ≡ true
+  pub parts : (household : ℕ) → part_in after.ledger.parts household ≡ part_in before.ledger.parts household
+  pub tallied : IsTallied before.ledger → IsTallied after.ledger
+  pub installs : after.ledger.totals.cash.posts ≡ before.ledger.totals.cash.posts
+  pub balances : (party : Party) → cash_held after.cash party ≡ cash_held before.cash party
+  pub gains : (place : ℕ) → gains_kept after.cash place ≡ gains_kept before.cash place
+  pub posts : after.cash.posts ≡ before.cash.posts
+  pub kept : after.kept ≡ before.kept
+
+pub cash_alike : (journal : Journal) (before after : Books) → ((party : Party) → cash_held after party ≡ cash_held before party) → ((place : ℕ) → gains_kept after place ≡ gains_kept before place) → after.posts ≡ before.posts
+    → IsCashOf journal before → IsCashOf journal after
+cash_alike journal before after balances gains posts are = record {
+  balances = λ party. balances party ∙ are.balances party;
+  gains = λ place event got. subst (AreKeptFor (take place journal) event) (sym (gains place)) (are.gains place event got);
+  no_more = λ place past. gains place ∙ are.no_more place past;
+  posts = subst (λ n. n ≤ length journal) (sym posts) are.posts;
+}
+
+pub show_the_same : (before after : DeskBooks) → AreAlike before after → ShowTheSame before after
+show_the_same before after alike journal are = record {
+  noted = alike.journal ∙ are.noted;
+  lawful = are.lawful;
+  timely = are.timely;
+  prices = alike.prices ∙ are.prices;
+  tables = subst (AreTablesOf journal) (sym alike.tables) are.tables;
+  index =
+      subst (λ owners. IsIndexOf journal owners after.orders.waiting) (sym alike.owners)
+      (subst (IsIndexOf journal before.orders.owners) (sym alike.waiting) are.index);
+  classes =
+      subst (AreNoted after.classes (orders_of journal)) (sym alike.owners)
+      (noted_kept before.classes after.classes alike.classes (orders_of journal) before.orders.owners are.classes);
+  ledger = record { part = λ household. alike.parts household ∙ are.ledger.part household };
+  tallied = alike.tallied are.tallied;
+  installs = subst (λ n. n ≤ length journal) (sym alike.installs) are.installs;
+  cash = cash_alike journal before.cash after.cash alike.balances alike.gains alike.posts are.cash;
+  kept = subst (AreKeptOf (book_behind journal)) (sym alike.kept) are.kept;
+}
