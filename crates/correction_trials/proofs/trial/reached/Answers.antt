@@ -1,12 +1,18 @@
 use Rattle.std.proofs.Common.{subst}
+use Rattle.std.proofs.lemmas.Result.{IfOk-weaker}
 use Rattle.agent_events.specs.declared.event.EventKind.{EventKind}
-use Rattle.correction_effects.specs.Reached.{AreReachedBy}
-use Rattle.order_book.specs.Books.{NotedJournal}
+use Rattle.correction_effects.specs.Reached.{AreReached, AreReachedBy}
 use Rattle.correction_trials.proofs.trial.reached.Goals as goal
+use Rattle.order_book.specs.Books.{NotedJournal}
 
 pub returns-clause-reached : goal.returns-clause-reached
-returns-clause-reached c households =
-    subst (λ (kind : EventKind). AreReachedBy c.args.books.now.book.journal c.args.books.now.orders.owners c.args.books.now.classes kind households.items) c.kind.ensures.kind
-    (subst (λ (book : NotedJournal). AreReachedBy book.journal c.args.books.now.orders.owners c.args.books.now.classes c.kind.result.now households.items) c.orders-orders.ensures
-    c.households_reached.ensures.reached)
-    c.requires.index.owned c.requires.classes
+returns-clause-reached c =
+    let books = c.args.books.now in
+    IfOk-weaker c.households_reached.result
+    (λ households. AreReachedBy c.orders-orders.result.now.journal books.orders.owners books.classes c.kind.result.now households.items)
+    (λ households. AreReached books.book.journal c.args.event.now.kind households.items)
+    (λ households reached.
+        subst (λ (kind : EventKind). AreReachedBy books.book.journal books.orders.owners books.classes kind households.items) c.kind.ensures.kind
+        (subst (λ (book : NotedJournal). AreReachedBy book.journal books.orders.owners books.classes c.kind.result.now households.items) c.orders-orders.ensures reached)
+        c.requires.index.owned c.requires.classes)
+    c.households_reached.ensures.reached
