@@ -1,5 +1,5 @@
 -- The answer and its steps, by the verdict: what a repeat, a look and a new event are answered is the machine's answer.
-use Rattle.std.proofs.Common.{List, None, Option, Result, ap, subst, sym, ℕ, ◌∙◌, ◌≡◌}
+use Rattle.std.proofs.Common.{None, Option, Result, ap, subst, sym, ℕ, ◌∙◌, ◌≡◌}
 use Rattle.std.proofs.lemmas.Result.{IfOk-weaker}
 use Rattle.std.specs.Prelude.{IfOk}
 use Rattle.agent_events.specs.Events.{Event}

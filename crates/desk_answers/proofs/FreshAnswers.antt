@@ -1,6 +1,6 @@
 -- The answer to the event that a request brings: its first reply, and the event, which then follows the journal; or the refusal of
 -- the last rule, which is the same whoever asks.
-use Rattle.std.proofs.Common.{List, None, Option, Some, [], ap, false, is_some, refl, subst, sym, true, ℕ, ◌++◌, ◌||◌, ◌∙◌, ◌∷◌, ◌≡◌, ◌≤◌}
+use Rattle.std.proofs.Common.{None, Option, Some, [], ap, false, is_some, refl, subst, sym, true, ℕ, ◌++◌, ◌||◌, ◌∙◌, ◌∷◌, ◌≡◌, ◌≤◌}
 use Rattle.std.proofs.lemmas.Bool.{true≢false}
 use Rattle.agent_events.specs.Events.{Event}
 use Rattle.agent_events.specs.declared.event.EventKind.{EventKind}
