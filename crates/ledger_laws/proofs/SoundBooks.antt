@@ -97,7 +97,7 @@ has_a_sound_book journal lawful = record {
 classes-agree : (known : Known) (book : Book) → TablesAgree known book → (class : ℕ) → class_numbered (map class_in_book known.terms) class ≡ class_numbered book.classes class
 classes-agree known book agree class = class_found known.terms class ∙ agree.terms class
 
-books-alike : (known : Known) (book : Book) → TablesAgree known book → BooksAlike (book_of_facts known) book
+pub books-alike : (known : Known) (book : Book) → TablesAgree known book → BooksAlike (book_of_facts known) book
 books-alike known book agree = record {
   price = λ class moment. ap (λ sheets. price_before sheets class moment) agree.sheets;
   front = λ class. ap (λ o. option_map_or (λ (terms : ClassForm). terms.front) o []) (classes-agree known book agree class);
@@ -107,7 +107,7 @@ books-alike known book agree = record {
   rate = λ class moment. sym (rate_found known.rates class moment) ∙ agree.rates class moment;
 }
 
-have-terms : (known : Known) (book : Book) → TablesAgree known book → HaveTerms known book
+pub have-terms : (known : Known) (book : Book) → TablesAgree known book → HaveTerms known book
 have-terms known book agree class there =
     same (terms_numbered known.terms class)
     ∙ (ap is_some (agree.terms class) ∙ (find-any (is_class class) book.classes ∙ there))

@@ -1,5 +1,8 @@
-use Rattle.register_laws.proofs.FixesOnePrice.{fixes_one_price}
+use Rattle.register_laws.proofs.FixesOnePrice.{fixes-sheet, has-sheet}
+use Rattle.register_laws.proofs.NothingBefore.{last-brought}
 use Rattle.register_laws.proofs.journal_laws.corrections_of_lawful_journals_fix_one_price.Goals as goal
 
 pub returns : goal.returns
-returns c = fixes_one_price
+returns c journal event all form is =
+    let sheet = has-sheet journal event all form is in
+    (sheet.0, fixes-sheet journal (last-brought journal event all).0 form sheet.0 sheet.1)
