@@ -11,7 +11,7 @@ use Rattle.agent_events.specs.Fields.{prices, within}
 use Rattle.agent_events.specs.declared.request.FixPriceForm.{FixPriceForm}
 use Rattle.agent_events.specs.declared.request.Request.{Request}
 use Rattle.forward_price.proofs.TurnFacts.{none_negative}
-use Rattle.forward_price.specs.PriceTables.{AreNumbered, Table, corrected_price, corrected_sheet, with_prices, with_sheets}
+use Rattle.forward_price.specs.PriceTables.{AreNumbered, Table, corrected_price, corrected_sheet, with_prices, with_sheets, with_correction}
 use Rattle.forward_price.specs.Sheets.{lists_class}
 use Rattle.forward_price.specs.Turns.{is_offered_at, must_list, pricing_pairs}
 use Rattle.forward_price.specs.declared.price_sheet.Opening.{Opening}
@@ -24,7 +24,7 @@ use Rattle.register_laws.proofs.TablesGoOn.{prices-kept}
 use Rattle.register_laws.proofs.Tests.{any-with, is-false}
 use Rattle.register_laws.proofs.ViewsGoOn.{turned}
 use Rattle.register_laws.specs.Lawful.{IsBrought, own_at}
-use Rattle.register_laws.specs.OneEventMore.{LawfulFixesOnePrice, corrected_table, FixesOnePrice}
+use Rattle.register_laws.specs.OneEventMore.{LawfulFixesOnePrice, corrected_table, with_price_fixed}
 use Rattle.forward_price.specs.Orderly.{IsOrderly}
 use Rattle.register_machine.specs.journal.Journals.{Journal, with_event}
 use Rattle.register_machine.specs.journal.Lawful.{IsLawful}
@@ -231,15 +231,15 @@ has-sheet journal event all form is = (
     sheet = any-with (lists_at form.class form.moment) (corrected_table journal).sheets priced
 
 -- it fixes the price of that sheet alone
-pub fixes-sheet : (journal : Journal) → IsLawful journal → (form : FixPriceForm) (number : ℕ) → list_any (λ sheet. sheet.number == number && lists_at form.class form.moment sheet) (corrected_table journal).sheets ≡ true → FixesOnePrice journal form number
-fixes-sheet journal lawful form number listed = record {
-  listed = listed;
-  table = ap (with_sheets (corrected_table journal))
-      (maps-alike (sheet_as_corrected (form ∷ [])) (corrected_sheet form.class number form.nav) (corrected_table journal).sheets
-      (sheet-fixed (corrected_table journal) form number (orderly_tables journal lawful).corrected (numbered journal lawful).corrected listed));
-}
+pub fixes-it-alone : (journal : Journal) (form : FixPriceForm) (number : ℕ) → IsLawful journal → list_any (λ sheet. sheet.number == number && lists_at form.class form.moment sheet) (corrected_table journal).sheets ≡ true → with_price_fixed form (corrected_table journal) ≡ with_correction (corrected_table journal) form.class number form.nav
+fixes-it-alone journal form number lawful listed =
+    ap (with_sheets (corrected_table journal))
+    (maps-alike (sheet_as_corrected (form ∷ [])) (corrected_sheet form.class number form.nav) (corrected_table journal).sheets
+    (sheet-fixed (corrected_table journal) form number (orderly_tables journal lawful).corrected (numbered journal lawful).corrected listed))
 
 pub fixes_one_price : (journal : Journal) (event : Event) → LawfulFixesOnePrice journal event
 fixes_one_price journal event all form is =
-    let sheet = has-sheet journal event all form is in
-    (sheet.0, fixes-sheet journal (last-brought journal event all).0 form sheet.0 sheet.1)
+    let sheet = has-sheet journal event all form is in (
+      sheet.0,
+      record { listed = sheet.1; table = fixes-it-alone journal form sheet.0 (last-brought journal event all).0 sheet.1 },
+    )
