@@ -15,8 +15,7 @@ use Rattle.fund_calendar.specs.PricingDays.{IsMoment, Listing}
 use Rattle.household_fold.proofs.BookFacts.{class_found, household_found, rate_found}
 use Rattle.household_fold.specs.Facts.{Known, class_in_book, terms_numbered}
 use Rattle.class_terms.specs.declared.form.TermsForm.{TermsForm}
-use Rattle.ledger_laws.proofs.ReplaysAsPart.{sheets_give_facts}
-use Rattle.ledger_laws.specs.SoundBooks.{HaveTerms, IsDated, LawfulHasASoundBook, ListsItsClasses, NamesItsClasses, TablesAgree, TablesGiveFacts}
+use Rattle.ledger_laws.specs.SoundBooks.{HaveTerms, IsDated, LawfulHasASoundBook, ListsItsClasses, NamesItsClasses, TablesAgree}
 use Rattle.register_laws.proofs.NamesStand.{names_stand}
 use Rattle.register_laws.proofs.OrderlyBooks.{lawful_book_is_orderly}
 use Rattle.register_laws.proofs.TablesAreOrderly.{IsCalendar, classes-seen, kept, orderly_tables}
@@ -115,9 +114,3 @@ have-terms known book agree class there =
     same : (o : Option TermsForm) → is_some o ≡ is_some (option_map class_in_book o)
     same None = refl
     same (Some terms) = refl
-
-pub tables_give_facts : (known : Known) (book : Book) → TablesGiveFacts known book
-tables_give_facts known book agree numbered = record {
-  facts = sheets_give_facts known book (books-alike known book agree) agree.sheets numbered;
-  terms = have-terms known book agree;
-}
