@@ -39,9 +39,9 @@ use Rattle.register_machine.specs.pricing.OrderClasses.{classes_in}
 use Rattle.standing_orders.proofs.PricedLast.{settled_more}
 use Rattle.standing_orders.specs.Places.{RisesWithin, is_among}
 use Rattle.standing_orders.specs.Rows.{is_settled, sheet_number, waits}
-use Rattle.waiting_laws.proofs.IndexSteps.{got-more, got-under, number-fixed}
+use Rattle.waiting_laws.proofs.IndexSteps.{got-more, got-under, number-fixed, as-many}
 use Rattle.waiting_laws.specs.IndexOfJournals.{IsIndexOf, sheets_of}
-use Rattle.waiting_laws.specs.SettledOrders.{AreSettled, CorrectionLeavesSettled, LawfulLeavesSettled, ReplacesNone, first_waiting}
+use Rattle.waiting_laws.specs.SettledOrders.{AreSettled, CorrectionLeavesSettled, LawfulLeavesSettled, ReplacesNone, first_waiting, SettledBeforeWaiting}
 
 none-some : {X : Type 0} {x : X} → None ≡ Some x → ⊥
 none-some e = cc
@@ -178,7 +178,7 @@ number-within sheets row n numbers has = by (next_sheet sheets (classes_in row.o
         subst (λ (m : ℕ). m ≤ length sheets) (some-same is)
         (All-contains (λ (sheet : Sheet). sheet.number ≤ length sheets) sheets s (λ k d short. let at = numbers.each k d short in omega (arith, at, short)) chosen.among)
 
-pub first-within : (many : ℕ) (places : List ℕ) → RisesWithin 0 many places → first_waiting places many ≤ many
+first-within : (many : ℕ) (places : List ℕ) → RisesWithin 0 many places → first_waiting places many ≤ many
 first-within many [] rises = omega arith
 first-within many (place ∷ places) rises = let high = rises.1 in omega (arith, high)
 
@@ -192,3 +192,16 @@ settled-before journal owners waiting lawful is household place row short there 
     by false on found e = refl
     by true on None e = absurd (waits-not (ap (λ b. b && is_none (sheet_number (sheets_of journal) row)) on ∙ ap (λ (found : Option ℕ). is_none found) e))
     by true on (Some n) e = le-leb n (length (sheets_of journal)) (number-within (sheets_of journal) row n (numbered journal lawful).corrected e)
+
+-- and the first place that waits is one of an order, or behind all of them
+pub begun-before : (journal : Journal) (owners waiting : List ℕ) → IsIndexOf journal owners waiting → first_waiting waiting (length owners) ≤ length (orders_of journal)
+begun-before journal owners waiting is =
+    let many = as-many (accounts_of journal) (orders_of journal) owners is.owned in
+    let few = first-within (length owners) waiting is.within in
+    omega (arith, many, few)
+
+pub settled_before_waiting : (journal : Journal) (owners waiting : List ℕ) → SettledBeforeWaiting journal owners waiting
+settled_before_waiting journal owners waiting lawful is = record {
+  begun = begun-before journal owners waiting is;
+  settled = settled-before journal owners waiting lawful is;
+}
