@@ -33,7 +33,7 @@ value-step nav before mils =
     up-to (value_at nav before) (value_at nav (before + mils)) (value_at-rises nav before (before + mils) (omega arith))
 
 -- the values of pieces sum to the value of all their mils
-values-from : (nav before : ℕ) (pieces : List Piece) → value_at nav before + sum_by value_of (with_values nav before pieces) ≡ value_at nav (before + sum_by mils_of pieces)
+pub values-from : (nav before : ℕ) (pieces : List Piece) → value_at nav before + sum_by value_of (with_values nav before pieces) ≡ value_at nav (before + sum_by mils_of pieces)
 unfolding with_values
 values-from nav before [] = add-zero (value_at nav before) ∙ ap (value_at nav) (sym (add-zero before))
 values-from nav before (p ∷ ps) =
@@ -43,12 +43,8 @@ values-from nav before (p ∷ ps) =
     ∙ values-from nav (before + p.mils) ps
     ∙ ap (value_at nav) (add_assoc before p.mils (sum_by mils_of ps)))
 
-from-zero : (a b c d : ℕ) → a ≡ 0 → c ≡ d → a + b ≡ c → b ≡ d
+pub from-zero : (a b c d : ℕ) → a ≡ 0 → c ≡ d → a + b ≡ c → b ≡ d
 from-zero a b c d z e h = omega arith
-
-pub values-whole : (nav : ℕ) (pieces : List Piece) → sum_by value_of (with_values nav 0 pieces) ≡ value_at nav (sum_by mils_of pieces)
-values-whole nav pieces =
-    from-zero (value_at nav 0) (sum_by value_of (with_values nav 0 pieces)) (value_at nav (0 + sum_by mils_of pieces)) (value_at nav (sum_by mils_of pieces)) (value-zero nav) (ap (value_at nav) (zero-add (sum_by mils_of pieces))) (values-from nav 0 pieces)
 
 -- no rate passes the greatest of the schedule
 pub rate-ceiling : (i top : ℕ) (schedule : List ℕ) → All (λ rate. rate ≤ top) schedule → get_or schedule i 0 ≤ top

@@ -3,11 +3,9 @@ use Rattle.std.proofs.Common.{◌≡◌, ℕ, zero, suc, ◌+◌, ◌-◌, ◌<�
 use Rattle.std.proofs.lemmas.Bool.{cases_lt}
 use Rattle.std.proofs.lemmas.List.{get_or_past}
 use Rattle.std.proofs.lemmas.List.Sums.{sum_by-cons}
-use Rattle.fund_calendar.specs.Dates.{anniversaries}
-use Rattle.fund_calendar.proofs.AnniversaryLemmas.{anniversaries-rise}
 use Rattle.share_lots.specs.declared.lot.Piece.{Piece}
 use Rattle.share_lots.specs.Values.{value_at}
-use Rattle.contingent_charge.specs.DeferredCharge.{NeverRises, rate_on, Valued, with_values, base_of}
+use Rattle.contingent_charge.specs.DeferredCharge.{NeverRises, Valued, with_values, base_of}
 use Rattle.contingent_charge.proofs.ChargeLemmas.{mils_of}
 
 pub valued-pieces : (nav before : ℕ) (pieces : List Piece) → map (λ (item : Valued). item.piece) (with_values nav before pieces) ≡ pieces
@@ -50,7 +48,7 @@ bases-charged (x ∷ xs) =
     ])
 
 -- a later row has no greater rate, and past the schedule there is none
-row-falls : (schedule : List ℕ) (i j : ℕ) → NeverRises schedule → i ≤ j → get_or schedule j 0 ≤ get_or schedule i 0
+pub row-falls : (schedule : List ℕ) (i j : ℕ) → NeverRises schedule → i ≤ j → get_or schedule j 0 ≤ get_or schedule i 0
 row-falls schedule i j falls h = elim (cases_lt j (length schedule)) [
   | inl within ↦ elim (cases_lt i j) [
     | inl lt ↦ falls i j 0 lt within
@@ -58,7 +56,3 @@ row-falls schedule i j falls h = elim (cases_lt j (length schedule)) [
   ]
   | inr past ↦ rw (get_or_past schedule j 0 past) (omega arith)
 ]
-
-pub rate-falls : (bought sold later : ℕ) (schedule : List ℕ) → NeverRises schedule → sold ≤ later → later ≤ 84005 → rate_on bought later schedule ≤ rate_on bought sold schedule
-rate-falls bought sold later schedule falls h within =
-    row-falls schedule (anniversaries bought sold) (anniversaries bought later) falls (anniversaries-rise bought sold later h within)

@@ -19,7 +19,7 @@ use Rattle.agent_events.specs.declared.request.Request.{Request}
 use Rattle.agent_events.specs.declared.request.SheetForm.{SheetForm}
 use Rattle.event_laws.proofs.OneOfAName.{found-before}
 use Rattle.event_laws.proofs.OrdersWait.{cancelled_on_none, order_waits, published-there}
-use Rattle.event_laws.proofs.ReadsAlike.{replays_alike}
+use Rattle.event_laws.proofs.ReadsAlike.{first-same, sheets-same}
 use Rattle.event_laws.proofs.SheetMore.{orders-listed, price-before-more, standing-more, standing_on}
 use Rattle.event_laws.specs.EventReplays.{KeepsSheets, LawfulAddsSheet, LawfulLeavesReplay, is_correction, is_sheet, sheet_behind}
 use Rattle.event_laws.specs.ReadsAlike.{IsKnownRow, SheetAgrees, TermsAgree}
@@ -51,7 +51,7 @@ use Rattle.register_machine.specs.pricing.CorrectedOrders.{stands}
 use Rattle.register_machine.specs.pricing.DividendRates.{declares, fixes_rate, rate_at}
 use Rattle.register_machine.specs.pricing.OrderClasses.{class_of, classes_in, target_of}
 use Rattle.register_machine.specs.pricing.PublishedTable.{moment_of}
-use Rattle.register_machine.specs.replay.Replay.{all_in_turn, day_after_sheet, first_day, is_priced_on, orders_on, priced_in, priced_orders, replay, replay_over}
+use Rattle.register_machine.specs.replay.Replay.{all_in_turn, day_after_sheet, first_day, is_priced_on, orders_on, priced_in, priced_orders, replay, replay_over, replay_to}
 use Rattle.register_machine.specs.rules.InOrder.{broken_rule}
 use Rattle.register_machine.specs.rules.Orders.{is_published_at}
 
@@ -219,9 +219,9 @@ sheet-agrees journal event lawful (EventKind.Void form) is plain other k d short
 
 over-same : (journal : Journal) (event : Event) → IsLawful (with_event journal event) → is_correction event.kind ≡ false → strikes_order event.kind ≡ false → (sheets : List Sheet) → All (SheetAgrees (book_behind journal) (book_behind (with_event journal event))) sheets → replay_over (book_behind journal) sheets ≡ replay_over (book_behind (with_event journal event)) sheets
 over-same journal event lawful plain other sheets reads =
-    replays_alike (book_behind journal) (book_behind (with_event journal event)) (known_in journal) (named_in journal) sheets
+    (sheets-same (book_behind journal) (book_behind (with_event journal event)) (known_in journal) (named_in journal)
     (subst (λ b. TermsAgree (book_behind journal) b (known_in journal) (named_in journal)) (sym (book_goes_on journal event lawful)) (terms-agree journal (length journal) event.moment event.kind))
-    reads (known-rows journal (last-brought journal event lawful).0)
+    (known-rows journal (last-brought journal event lawful).0) sheets reads first_day first_day (first-same (known_in journal) (named_in journal))).same
 
 all-agree : (journal : Journal) (event : Event) → IsLawful (with_event journal event) → is_correction event.kind ≡ false → strikes_order event.kind ≡ false → All (SheetAgrees (book_behind journal) (book_behind (with_event journal event))) (book_behind journal).table.sheets
 all-agree journal event lawful plain other k d short =
@@ -270,28 +270,37 @@ leaves_replay journal event lawful plain other = by event.kind refl
     by (EventKind.Cancel form) is = cancel-leaves journal event lawful form is
     by kind is = others-leave journal event lawful plain other (subst (λ k. strikes_order k ≡ false) (sym is) refl)
 
-pub adds_sheet : (journal : Journal) (event : Event) → LawfulAddsSheet journal event
+-- ---- a sheet more
+
+-- it comes behind the others
+pub sheet-behind-all : (journal : Journal) (event : Event) → IsLawful (with_event journal event) → (form : SheetForm) → event.kind ≡ EventKind.Sheet form → (book_behind (with_event journal event)).table.sheets ≡ (book_behind journal).table.sheets ++ sheet_behind journal form ∷ []
+sheet-behind-all journal event lawful form is =
+    ap (λ (b : Book). b.table.sheets) (book_goes_on journal event lawful ∙ ap (book_after (length journal) (book_behind journal) event.moment) is)
+
+-- up to it nothing changes
+pub same-before : (journal : Journal) (event : Event) → IsLawful (with_event journal event) → (form : SheetForm) → event.kind ≡ EventKind.Sheet form → (number : ℕ) → number ≤ length (book_behind journal).table.sheets → replay_to (book_behind (with_event journal event)) number ≡ replay_to (book_behind journal) number
+same-before journal event lawful form is number few =
+    let sheets = (book_behind journal).table.sheets in
+    let plain = ap is_correction is in
+    let free = ap strikes_order is in
+    sym (over-same journal event lawful plain free (take number sheets) (All-take (SheetAgrees (book_behind journal) (book_behind (with_event journal event))) number sheets (all-agree journal event lawful plain free))
+    ∙ ap (replay_over (book_behind (with_event journal event))) (sym (ap (take number) (sheet-behind-all journal event lawful form is) ∙ take-append-le number sheets (sheet_behind journal form ∷ []) few)))
+
+-- and the replay goes on over it
+pub goes-over : (journal : Journal) (event : Event) → IsLawful (with_event journal event) → (form : SheetForm) → event.kind ≡ EventKind.Sheet form → replay (book_behind (with_event journal event)) ≡ day_after_sheet (book_behind (with_event journal event)) (priced_orders (book_behind (with_event journal event))) (replay (book_behind journal)) (sheet_behind journal form)
 unfolding replay
+goes-over journal event lawful form is =
+    let sheets = (book_behind journal).table.sheets in
+    let plain = ap is_correction is in
+    let free = ap strikes_order is in
+    ap (replay_over (book_behind (with_event journal event))) (sheet-behind-all journal event lawful form is)
+    ∙ (fold-append (day_after_sheet (book_behind (with_event journal event)) (priced_orders (book_behind (with_event journal event)))) first_day sheets (sheet_behind journal form ∷ [])
+    ∙ ap (λ day. day_after_sheet (book_behind (with_event journal event)) (priced_orders (book_behind (with_event journal event))) day (sheet_behind journal form))
+    (sym (over-same journal event lawful plain free sheets (all-agree journal event lawful plain free))))
+
+pub adds_sheet : (journal : Journal) (event : Event) → LawfulAddsSheet journal event
 adds_sheet journal event lawful form is = record {
-  sheets = after;
-  up_to = λ number few.
-      sym (over-same journal event lawful plain free (take number sheets) (All-take (SheetAgrees (book_behind journal) (book_behind (with_event journal event))) number sheets (all-agree journal event lawful plain free))
-      ∙ ap (replay_over (book_behind (with_event journal event))) (sym (ap (take number) after ∙ take-append-le number sheets (sheet_behind journal form ∷ []) few)));
-  goes_on =
-      ap (replay_over (book_behind (with_event journal event))) after
-      ∙ (fold-append (day_after_sheet (book_behind (with_event journal event)) (priced_orders (book_behind (with_event journal event)))) first_day sheets (sheet_behind journal form ∷ [])
-      ∙ ap (λ day. day_after_sheet (book_behind (with_event journal event)) (priced_orders (book_behind (with_event journal event))) day (sheet_behind journal form))
-      (sym (over-same journal event lawful plain free sheets (all-agree journal event lawful plain free))));
+  sheets = sheet-behind-all journal event lawful form is;
+  up_to = same-before journal event lawful form is;
+  goes_on = goes-over journal event lawful form is;
 }
-  where
-    sheets : List Sheet
-    sheets = (book_behind journal).table.sheets
-
-    plain : is_correction event.kind ≡ false
-    plain = ap is_correction is
-
-    free : strikes_order event.kind ≡ false
-    free = ap strikes_order is
-
-    after : (book_behind (with_event journal event)).table.sheets ≡ sheets ++ sheet_behind journal form ∷ []
-    after = ap (λ (b : Book). b.table.sheets) (book_goes_on journal event lawful ∙ ap (book_after (length journal) (book_behind journal) event.moment) is)

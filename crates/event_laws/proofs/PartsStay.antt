@@ -43,7 +43,7 @@ module _ (journal : Journal) (event : Event) (household : ℕ) where
       ap (λ found. option_map_or (λ owner. owner == household) (option_map (λ (form : AccountForm). form.household) found) false)
       (ap (find (has_number number)) (gathers-on account_in journal event) ∙ found-before (has_number number) (accounts_of journal) (option_to_list (account_in event.kind)) on)
 
-  part-same : (day : Day) → IsKnownDay (known_in journal) day → part_of (accounts_of (with_event journal event)) household day ≡ part_of (accounts_of journal) household day
+  pub part-same : (day : Day) → IsKnownDay (known_in journal) day → part_of (accounts_of (with_event journal event)) household day ≡ part_of (accounts_of journal) household day
   unfolding mine
   part-same day is =
       ap (λ register. record { register = register; trades = filter (λ (t : Trade). mine t.account) day.trades })

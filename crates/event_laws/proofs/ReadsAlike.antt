@@ -18,12 +18,12 @@ use Rattle.register_machine.specs.replay.Positions.{Position, Register, position
 use Rattle.register_machine.specs.replay.Purchase.{credit_of, is_counted, worth_on}
 use Rattle.register_machine.specs.replay.Replay.{day_after_sheet, first_day, orders_on, priced_orders}
 use Rattle.register_machine.specs.replay.Trades.{Day, nav_of, with_position, with_trade}
-use Rattle.event_laws.specs.ReadsAlike.{IsKnownRow, ReplaysAlike, SheetAgrees, TermsAgree}
+use Rattle.event_laws.specs.ReadsAlike.{IsKnownRow, SheetAgrees, TermsAgree}
 
 -- two days that are the same, with positions of known accounts and classes alone
-record SameKnown (known named : ℕ → Bool) (day after : Day) : Type 0 where
-  same : day ≡ after
-  counted : All (PositionCounts known named) day.register
+pub record SameKnown (known named : ℕ → Bool) (day after : Day) : Type 0 where
+  pub same : day ≡ after
+  pub counted : All (PositionCounts known named) day.register
 
 module _ (book other : Book) (known named : ℕ → Bool) (terms : TermsAgree book other known named) (sheet : Sheet) (reads : SheetAgrees book other sheet) where
   worth-same : (p : Position) → worth_on book sheet p ≡ worth_on other sheet p
@@ -78,7 +78,7 @@ module _ (book other : Book) (known named : ℕ → Bool) (terms : TermsAgree bo
 row-counts : (known named : ℕ → Bool) (row : OrderRow) → IsKnownRow known named row → RowCounts known named row
 row-counts known named row is = record { account = is.account; body = record { own = is.own; target = is.target } }
 
-sheets-same : (book other : Book) (known named : ℕ → Bool) → TermsAgree book other known named → All (IsKnownRow known named) (filter stands book.orders) → (sheets : List Sheet) → All (SheetAgrees book other) sheets → (d e : Day) → SameKnown known named d e → SameKnown known named (fold (day_after_sheet book (priced_orders book)) d sheets) (fold (day_after_sheet other (priced_orders other)) e sheets)
+pub sheets-same : (book other : Book) (known named : ℕ → Bool) → TermsAgree book other known named → All (IsKnownRow known named) (filter stands book.orders) → (sheets : List Sheet) → All (SheetAgrees book other) sheets → (d e : Day) → SameKnown known named d e → SameKnown known named (fold (day_after_sheet book (priced_orders book)) d sheets) (fold (day_after_sheet other (priced_orders other)) e sheets)
 sheets-same book other known named terms rows [] reads d e is = is
 sheets-same book other known named terms rows (sheet ∷ sheets) reads d e is =
     sheets-same book other known named terms rows sheets (All-tail (SheetAgrees book other) sheet sheets reads)
@@ -88,6 +88,5 @@ sheets-same book other known named terms rows (sheet ∷ sheets) reads d e is =
     (rows-standing (IsKnownRow known named) book sheet rows))
     is)
 
-pub replays_alike : (book other : Book) (known named : ℕ → Bool) (sheets : List Sheet) → ReplaysAlike book other known named sheets
-replays_alike book other known named sheets terms reads rows =
-    (sheets-same book other known named terms rows sheets reads first_day first_day (record { same = refl; counted = All-nil (PositionCounts known named) })).same
+pub first-same : (known named : ℕ → Bool) → SameKnown known named first_day first_day
+first-same known named = record { same = refl; counted = All-nil (PositionCounts known named) }

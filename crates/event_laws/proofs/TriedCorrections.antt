@@ -1,39 +1,32 @@
 -- The book of a correction on trial.
-use Rattle.std.proofs.Common.{Bool, List, None, [], ap, arith, cond, false, filter, get_or, is_some, length, map, option_to_list, refl, subst, suc, sym, true, zero, ℕ, ◌&&◌, ◌++◌, ◌<◌, ◌==◌, ◌∙◌, ◌∷◌, ◌≡◌, ◌≤◌}
+use Rattle.std.proofs.Common.{Bool, List, None, [], ap, arith, cond, false, filter, get_or, is_some, length, map, refl, subst, suc, sym, true, zero, ℕ, ◌&&◌, ◌++◌, ◌<◌, ◌==◌, ◌∙◌, ◌∷◌, ◌≡◌, ◌≤◌}
 use Rattle.std.proofs.lemmas.Bool.{and_parts, eqb-true, true≢false}
 use Rattle.std.proofs.lemmas.List.{length-map}
 use Rattle.std.proofs.lemmas.List.Elements.{filter_agree}
 use Rattle.agent_events.specs.Events.{Event}
 use Rattle.agent_events.specs.declared.event.EventKind.{EventKind}
 use Rattle.agent_events.specs.declared.order.OrderRow.{OrderRow}
-use Rattle.agent_events.specs.declared.request.AccountForm.{AccountForm}
-use Rattle.agent_events.specs.declared.request.ClassForm.{ClassForm}
 use Rattle.agent_events.specs.declared.request.EntryForm.{EntryForm}
 use Rattle.agent_events.specs.declared.request.FixPriceForm.{FixPriceForm}
 use Rattle.event_laws.specs.EventReplays.{is_correction}
 use Rattle.event_laws.specs.OrderTurns.{NamesOnce}
 use Rattle.event_laws.specs.TriedCorrections.{IsTried, TriedHasABook}
-use Rattle.forward_price.specs.PriceTables.{AreNumbered, Table}
+use Rattle.forward_price.specs.PriceTables.{AreNumbered}
 use Rattle.forward_price.specs.declared.price_sheet.Sheet.{Sheet}
 use Rattle.register_laws.proofs.BooksGoOn.{book_goes_on_by}
 use Rattle.register_laws.proofs.Choosing.{at_most_one}
 use Rattle.register_laws.proofs.ExecutedInTurn.{orders_in_turn}
 use Rattle.register_laws.proofs.ListParts.{filter-map}
-use Rattle.register_laws.proofs.OneEventMore.{gathers-on, rates_go_on}
 use Rattle.register_laws.proofs.OneTradeAnOrder.{one-named}
-use Rattle.register_laws.proofs.OrdersGoOn.{orders_go_on}
 use Rattle.register_laws.proofs.TablesAreOrderly.{numbered}
-use Rattle.register_laws.proofs.TablesGoOn.{corrected_table_goes_on}
 use Rattle.register_laws.proofs.Tests.{find-any}
 use Rattle.register_laws.specs.Lawful.{book_behind}
-use Rattle.register_laws.specs.OneEventMore.{book_after, corrected_table, corrected_table_by, orders_after, replaced_by, struck_by}
+use Rattle.register_laws.specs.OneEventMore.{book_after, orders_after, replaced_by, struck_by}
 use Rattle.register_machine.specs.journal.Journals.{Journal, with_event}
-use Rattle.register_machine.specs.journal.Kinds.{account_in, accounts_of, class_in, classes_of}
 use Rattle.register_machine.specs.journal.Lawful.{IsLawful}
 use Rattle.register_machine.specs.pricing.CorrectedBook.{Book}
-use Rattle.register_machine.specs.pricing.CorrectedOrders.{is_named, order_named, orders_of, replaces, row_as_sent}
+use Rattle.register_machine.specs.pricing.CorrectedOrders.{is_named, order_named, replaces, row_as_sent}
 use Rattle.register_machine.specs.pricing.CorrectedPrices.{sheet_as_corrected}
-use Rattle.register_machine.specs.pricing.DividendRates.{Rates, rates_of}
 
 -- ---- names
 
@@ -117,10 +110,20 @@ module _ (journal : Journal) (event : Event) (lawful : IsLawful journal) (tried 
   many-by (EventKind.Class form) is = absurd (true≢false (sym is))
   many-by _ is = refl
 
+  pub numbered-tried : AreNumbered (book_behind (with_event journal event)).table.sheets
+  numbered-tried =
+      subst (λ (b : Book). AreNumbered b.table.sheets) (sym after) (numbered-by event.kind tried.correction)
+
+  pub many-tried : length (book_behind (with_event journal event)).table.sheets ≡ length (book_behind journal).table.sheets
+  many-tried = ap (λ (b : Book). length b.table.sheets) after ∙ many-by event.kind tried.correction
+
+  pub names-tried : NamesOnce (book_behind (with_event journal event)).orders
+  names-tried = subst (λ (b : Book). NamesOnce b.orders) (sym after) (names-by event.kind refl)
+
 pub tried_has_a_book : (journal : Journal) (event : Event) → TriedHasABook journal event
 tried_has_a_book journal event lawful tried = record {
-  numbered = subst (λ (b : Book). AreNumbered b.table.sheets) (sym (after journal event lawful tried)) (numbered-by journal event lawful tried event.kind tried.correction);
-  as_many = ap (λ (b : Book). length b.table.sheets) (after journal event lawful tried) ∙ many-by journal event lawful tried event.kind tried.correction;
-  names = subst (λ (b : Book). NamesOnce b.orders) (sym (after journal event lawful tried)) (names-by journal event lawful tried event.kind refl);
+  numbered = numbered-tried journal event lawful tried;
+  as_many = many-tried journal event lawful tried;
+  names = names-tried journal event lawful tried;
   turns = (orders_in_turn (with_event journal event)).each;
 }

@@ -6,10 +6,10 @@ use Rattle.std.proofs.lemmas.List.Elements.{All-weaker}
 use Rattle.forward_price.specs.declared.price_sheet.Sheet.{Sheet}
 use Rattle.forward_price.specs.Sheets.{lists_all}
 use Rattle.forward_price.specs.Choices.{IsBest, IsChoice}
-use Rattle.forward_price.specs.PriceTables.{prices_order, is_earlier, next_sheet, NextPrice, IsPending, is_before, is_later, sheet_before, LastPrice}
+use Rattle.forward_price.specs.PriceTables.{prices_order, is_earlier, next_sheet, NextPrice, IsPending, is_before, is_later, LastPrice}
 use Rattle.forward_price.specs.Sheets.{lists_class}
 use Rattle.forward_price.proofs.ChoiceFacts.{best-choice}
-use Rattle.forward_price.proofs.TurnFacts.{earlier-order, later-order}
+use Rattle.forward_price.proofs.TurnFacts.{earlier-order}
 
 pub lt_fact : (a b : ℤ) → int_lt a b ≡ true → a <ℤ b
 lt_fact a b e = omega (arith, ints)
@@ -45,7 +45,7 @@ next_sheet-pending sheets asked receipt e =
 before_test : (class : ℕ) (moment : ℤ) (o : Sheet) → lists_class o.prices class ≡ true → o.moment <ℤ moment → is_before class moment o ≡ true
 before_test class moment o lists before = and_from (int_lt o.moment moment) (lists_class o.prices class) (lt_test o.moment moment before) lists
 
-last_by : (sheets : List Sheet) (class : ℕ) (moment : ℤ) (s : Sheet) → IsBest (is_before class moment) is_later sheets s → LastPrice sheets class moment s
+pub last_by : (sheets : List Sheet) (class : ℕ) (moment : ℤ) (s : Sheet) → IsBest (is_before class moment) is_later sheets s → LastPrice sheets class moment s
 last_by sheets class moment s is =
     let parts = and_parts (int_lt s.moment moment) (lists_class s.prices class) is.here in
     record {
@@ -54,7 +54,3 @@ last_by sheets class moment s is =
       before = lt_fact s.moment moment parts.0;
       last = All-weaker (λ o. is_before class moment o ≡ true → is_later o s ≡ false) (λ o. lists_class o.prices class ≡ true → o.moment <ℤ moment → o.moment ≤ℤ s.moment) (λ o h lists before. ge_fact s.moment o.moment (h (before_test class moment o lists before))) sheets is.best;
     }
-
-pub sheet_before-last : (sheets : List Sheet) (class : ℕ) (moment : ℤ) (s : Sheet) → sheet_before sheets class moment ≡ Some s → LastPrice sheets class moment s
-sheet_before-last sheets class moment s e =
-    last_by sheets class moment s (subst (IsChoice (is_before class moment) is_later sheets) e (best-choice (is_before class moment) is_later later-order sheets))

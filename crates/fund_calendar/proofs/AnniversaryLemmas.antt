@@ -44,19 +44,23 @@ later_year years more true false h = omega arith
 later_year years more false true h = omega arith
 later_year years more false false h = omega arith
 
+-- from the day on
+pub rise-from : (b m n : ℕ) → b ≤ m → m ≤ n → n ≤ 84005 → anniversaries b m ≤ anniversaries b n
+rise-from b m n start h within =
+    let first = has_anniversary b ((date_of m).year - (date_of b).year) m in
+    let second = has_anniversary b ((date_of n).year - (date_of b).year) n in
+    let bought = year_rises b m (omega arith) start in
+    let sold = year_rises m n within h in
+    rw (counted b m first start refl, counted b n second (omega arith) refl)
+    (elim (cases_lt (date_of m).year (date_of n).year) [
+      | inl later ↦ later_year ((date_of m).year - (date_of b).year) ((date_of n).year - (date_of b).year) first second (omega arith)
+      | inr ge ↦
+          let same : (date_of n).year ≡ (date_of m).year = omega arith in
+          rw same (same_year ((date_of m).year - (date_of b).year) first (has_anniversary b ((date_of m).year - (date_of b).year) n) (has_anniversary-later b ((date_of m).year - (date_of b).year) m n h))
+    ])
+
 pub anniversaries-rise : (b m n : ℕ) → m ≤ n → n ≤ 84005 → anniversaries b m ≤ anniversaries b n
 anniversaries-rise b m n h within = elim (cases_lt m b) [
   | inl before ↦ rw (none_before b m before) (omega arith)
-  | inr start ↦
-      let first = has_anniversary b ((date_of m).year - (date_of b).year) m in
-      let second = has_anniversary b ((date_of n).year - (date_of b).year) n in
-      let bought = year_rises b m (omega arith) start in
-      let sold = year_rises m n within h in
-      rw (counted b m first start refl, counted b n second (omega arith) refl)
-      (elim (cases_lt (date_of m).year (date_of n).year) [
-        | inl later ↦ later_year ((date_of m).year - (date_of b).year) ((date_of n).year - (date_of b).year) first second (omega arith)
-        | inr ge ↦
-            let same : (date_of n).year ≡ (date_of m).year = omega arith in
-            rw same (same_year ((date_of m).year - (date_of b).year) first (has_anniversary b ((date_of m).year - (date_of b).year) n) (has_anniversary-later b ((date_of m).year - (date_of b).year) m n h))
-      ])
+  | inr start ↦ rise-from b m n start h within
 ]

@@ -34,7 +34,7 @@ party-same _ _ e = absurd (true≢false (sym e))
 
 -- ---- entries: what comes to a party, and what goes from it
 
-record Entry : Type 0 where
+pub record Entry : Type 0 where
   pub party : Party
   pub flow : Flow
 
@@ -81,10 +81,10 @@ left-at side gone q (e ∷ es) =
         let tail : sum_by (part_at side q) (filter (is_other gone) es) ≡ sum_by (part_at side q) es = rest ∙ ap {B = ℕ} (λ b. cond b 0 (sum_by (part_at side q) es)) too in
         omega (arith, tail, more, sum_by-cons (part_at side q) e (filter (is_other gone) es))
 
-abbrev came : Entry → ℕ
+abbrev pub came : Entry → ℕ
 came entry = entry.flow.inflow
 
-abbrev went : Entry → ℕ
+abbrev pub went : Entry → ℕ
 went entry = entry.flow.outflow
 
 -- where as much comes to each party as goes from it, as much comes as goes
@@ -127,7 +127,7 @@ along m = entry_out m.giver m.cents ∷ entry_in m.taker m.cents ∷ []
 abbrev against : Movement → List Entry
 against m = entry_in m.giver m.cents ∷ entry_out m.taker m.cents ∷ []
 
-abbrev entries : List CashChange → List Movement → List Movement → List Entry
+abbrev pub entries : List CashChange → List Movement → List Movement → List Entry
 entries changes before after = map of_change changes ++ (flat_map against after ++ flat_map along before)
 
 mapped-sum : {X : Type 0} (g : Entry → ℕ) (f : X → Entry) (xs : List X) → sum_by g (map f xs) ≡ sum_by (λ x. g (f x)) xs
@@ -164,19 +164,22 @@ went-at : (changes : List CashChange) (before after : List Movement) (q : Party)
 went-at changes before after q =
     omega (arith, three-parts (part_at went q) (map of_change changes) (flat_map against after) (flat_map along before), mapped-sum (part_at went q) of_change changes, moved-sum (part_at went q) against (cents_received_in q) (λ m. second-alone (part_at went q) (entry_in m.giver m.cents) (entry_out m.taker m.cents) (nothing (same_party m.giver q))) after, moved-sum (part_at went q) along (cents_paid_in q) (λ m. first-alone (part_at went q) (entry_out m.giver m.cents) (entry_in m.taker m.cents) (nothing (same_party m.taker q))) before)
 
-came-all : (changes : List CashChange) (before after : List Movement) → sum_by came (entries changes before after) ≡ (all_changes changes).inflow + (cents_moved after + cents_moved before)
+pub came-all : (changes : List CashChange) (before after : List Movement) → sum_by came (entries changes before after) ≡ (all_changes changes).inflow + (cents_moved after + cents_moved before)
 came-all changes before after =
     omega (arith, three-parts came (map of_change changes) (flat_map against after) (flat_map along before), mapped-sum came of_change changes, moved-sum came against (λ m. m.cents) (λ m. first-alone came (entry_in m.giver m.cents) (entry_out m.taker m.cents) refl) after, moved-sum came along (λ m. m.cents) (λ m. second-alone came (entry_out m.giver m.cents) (entry_in m.taker m.cents) refl) before)
 
-went-all : (changes : List CashChange) (before after : List Movement) → sum_by went (entries changes before after) ≡ (all_changes changes).outflow + (cents_moved after + cents_moved before)
+pub went-all : (changes : List CashChange) (before after : List Movement) → sum_by went (entries changes before after) ≡ (all_changes changes).outflow + (cents_moved after + cents_moved before)
 went-all changes before after =
     omega (arith, three-parts went (map of_change changes) (flat_map against after) (flat_map along before), mapped-sum went of_change changes, moved-sum went against (λ m. m.cents) (λ m. second-alone went (entry_in m.giver m.cents) (entry_out m.taker m.cents) refl) after, moved-sum went along (λ m. m.cents) (λ m. first-alone went (entry_out m.giver m.cents) (entry_in m.taker m.cents) refl) before)
 
-pub changes_sum_to_zero : (changes : List CashChange) (before after : List Movement) → MovesAs changes before after → net (all_changes changes) ≡ pos 0
-changes_sum_to_zero changes before after moves =
-    let es = entries changes before after in
-    let even : sum_by came es ≡ sum_by went es = all-even (length es) es (omega arith) (λ q. even_at q) in
-    omega (arith, ints, even, came-all changes before after, went-all changes before after)
+-- as much comes to all parties as goes from them
+pub all-as-much : (changes : List CashChange) (before after : List Movement) → MovesAs changes before after → sum_by came (entries changes before after) ≡ sum_by went (entries changes before after)
+all-as-much changes before after moves =
+    let es = entries changes before after in all-even (length es) es (omega arith) (λ q. even_at q)
   where
     even_at : (q : Party) → sum_by (part_at came q) (entries changes before after) ≡ sum_by (part_at went q) (entries changes before after)
     even_at q = omega (arith, ints, came-at changes before after q, went-at changes before after q, moves q)
+
+pub changes_sum_to_zero : (changes : List CashChange) (before after : List Movement) → MovesAs changes before after → net (all_changes changes) ≡ pos 0
+changes_sum_to_zero changes before after moves =
+    omega (arith, ints, all-as-much changes before after moves, came-all changes before after, went-all changes before after)

@@ -55,7 +55,7 @@ stated_alike book other form name day other_day books days =
     ∙ ap (λ (lines : List ℕ). front ++ flat_map trade_line (filter (is_in_period form) other_day.trades) ++ middle ++ lines ++ end_line) (pieces_same (holding_line book) (holding_line other) (line_same book other books) (positions_of other_day.register form.account)))
 
 -- what is of one account among what is of some
-one_of_some : {X : Type 0} (owner : X → ℕ) (is_own : ℕ → Bool) (account : ℕ) → is_own account ≡ true → (xs : List X)
+pub one_of_some : {X : Type 0} (owner : X → ℕ) (is_own : ℕ → Bool) (account : ℕ) → is_own account ≡ true → (xs : List X)
     → filter (λ x. owner x == account) (filter (λ x. is_own (owner x)) xs) ≡ filter (λ x. owner x == account) xs
 one_of_some owner is_own account own [] = refl
 one_of_some {X} owner is_own account own (x ∷ xs) =

@@ -6,9 +6,9 @@ use Rattle.agent_events.specs.declared.trade.Trade.{Trade}
 use Rattle.forward_price.specs.declared.price_sheet.Sheet.{Sheet}
 use Rattle.register_machine.specs.pricing.CorrectedBook.{Book}
 use Rattle.register_machine.specs.pricing.PublishedTable.{moment_of}
-use Rattle.register_machine.specs.replay.Replay.{Priced, day_after_sheet, first_day, orders_on, priced_orders}
+use Rattle.register_machine.specs.replay.Replay.{Priced, day_after_sheet, orders_on}
 use Rattle.register_machine.specs.replay.Trades.{Day}
-use Rattle.holder_statements.specs.Periods.{AreDated, AreSheetsDated, IsNear, IsSheetNear, PartIsDated, ReplayIsDated}
+use Rattle.holder_statements.specs.Periods.{AreDated, AreSheetsDated, IsNear, IsSheetNear, PartIsDated}
 use Rattle.holder_statements.proofs.SheetTrades.{Grows, IsOn, step_grows}
 
 pairs_append : {X : Type 0} (R : X → X → Type 0) (xs ys : List X) → AllPairs R xs → AllPairs R ys → All (λ x. All (R x) ys) xs → AllPairs R (xs ++ ys)
@@ -21,7 +21,7 @@ pairs_append R (x ∷ xs) ys first second across (suc i) (suc j) d lt short =
     pairs_append R xs ys (λ a b e less within. first (suc a) (suc b) e (omega arith) (omega arith)) second (λ k e within. across (suc k) e (omega arith)) i j d (omega arith) (omega arith)
 
 -- a trade isn't later than any of these sheets
-abbrev IsBefore : List Sheet → Trade → Type 0
+abbrev pub IsBefore : List Sheet → Trade → Type 0
 IsBefore sheets trade = All (λ (sheet : Sheet). trade.moment ≤ moment_of sheet) sheets
 
 near_on : (sheet : Sheet) (trade : Trade) → IsSheetNear sheet → IsOn sheet trade → IsNear trade
@@ -47,7 +47,7 @@ before_more sheet sheets trades new climb before own =
     (λ k d short i e within. before k d short (suc i) e (omega arith))
     (λ k d short i e within. (let on = (own k d short).moment in let later = climb 0 (suc i) e (omega arith) (omega arith) in omega arith))
 
-dated_on : (book : Book) (priced : List Priced) (sheets : List Sheet) (day : Day) → AreSheetsDated sheets → AreDated day.trades → All (IsBefore sheets) day.trades → AreDated (fold (day_after_sheet book priced) day sheets).trades
+pub dated_on : (book : Book) (priced : List Priced) (sheets : List Sheet) (day : Day) → AreSheetsDated sheets → AreDated day.trades → All (IsBefore sheets) day.trades → AreDated (fold (day_after_sheet book priced) day sheets).trades
 dated_on book priced [] day sheets dated before = dated
 dated_on book priced (sheet ∷ sheets) day those dated before =
     let grows : Grows sheet day (day_after_sheet book priced day sheet) = step_grows book sheet (orders_on priced sheet) day in
@@ -61,11 +61,9 @@ dated_on book priced (sheet ∷ sheets) day those dated before =
     (subst (λ (trades : List Trade). All (IsBefore sheets) trades) (sym grows.grown)
     (before_more sheet sheets day.trades grows.new those.in_turn before grows.own))
 
-pub replay_is_dated : (book : Book) (sheets : List Sheet) → ReplayIsDated book sheets
-replay_is_dated book sheets those =
-    dated_on book (priced_orders book) sheets first_day those
-    (record { in_turn = λ i j d lt short. absurd (omega arith); near = All-nil IsNear })
-    (All-nil (IsBefore sheets))
+-- no trades are dated
+pub none_dated : AreDated []
+none_dated = record { in_turn = λ i j d lt short. absurd (omega arith); near = All-nil IsNear }
 
 pub part_is_dated : (is_of : Trade → Bool) (trades : List Trade) → PartIsDated is_of trades
 part_is_dated is_of trades dated = record {

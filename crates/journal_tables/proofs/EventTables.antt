@@ -120,26 +120,47 @@ moments-after forms _ range all = subst (All (λ form. form.moment ≤ 725811839
 
 -- ---- all of them
 
+module _ (journal : Journal) (tables : Tables) (event : Event) (are : AreTablesOf journal tables) where
+  pub terms-on : (class : ℕ) → option_map class_in_book (terms_numbered (terms_after tables.terms event.kind) class) ≡ class_numbered (classes_of (with_event journal event)) class
+  terms-on class =
+      terms-after tables.terms (classes_of journal) event.kind class (are.terms class)
+      ∙ ap (λ all. class_numbered all class) (sym (gathers-on class_in journal event))
+
+  pub accounts-on : (account : ℕ) → row_numbered (accounts_after tables.accounts event.kind) account ≡ option_map row_of_account (account_numbered (accounts_of (with_event journal event)) account)
+  accounts-on account =
+      accounts-after tables.accounts (accounts_of journal) event.kind account (are.accounts account)
+      ∙ ap (λ all. option_map row_of_account (account_numbered all account)) (sym (gathers-on account_in journal event))
+
+  pub rates-on : (class moment : ℕ) → option_map (λ row. row.rate) (rate_numbered (rates_after tables.rates event.kind) class moment) ≡ rate_given (rates_of (with_event journal event)) class moment
+  rates-on class moment =
+      rates-after tables.rates (rates_of journal) event.kind class moment (are.rates class moment)
+      ∙ ap (λ all. rate_given all class moment) (sym (rates_go_on journal event))
+
+  pub few-terms-on : length (terms_after tables.terms event.kind) ≤ length (classes_of (with_event journal event))
+  few-terms-on =
+      subst (λ all. length (terms_after tables.terms event.kind) ≤ length all) (sym (gathers-on class_in journal event))
+      (terms-few tables.terms (classes_of journal) event.kind are.few_terms)
+
+  pub few-accounts-on : (household : ℕ) → count_by (λ row. row.household == household) (accounts_after tables.accounts event.kind) ≤ count_by (λ form. form.household == household) (accounts_of (with_event journal event))
+  few-accounts-on household =
+      subst (λ all. count_by (λ row. row.household == household) (accounts_after tables.accounts event.kind) ≤ count_by (λ form. form.household == household) all)
+      (sym (gathers-on account_in journal event))
+      (accounts-few tables.accounts (accounts_of journal) event.kind household (are.few_accounts household))
+
+  pub moments-on : IsInRange event.kind → All (λ form. form.moment ≤ 7258118399) (each_in sheet_in (with_event journal event))
+  moments-on range =
+      subst (All (λ form. form.moment ≤ 7258118399)) (sym (gathers-on sheet_in journal event))
+      (moments-after (each_in sheet_in journal) event.kind range are.moments)
+
 pub tables_go_on : (journal : Journal) (tables : Tables) (event : Event) → TablesGoOn journal tables event
 tables_go_on journal tables event are range = record {
   stand = stand-after tables event.kind range are.stand;
-  terms = λ class.
-      terms-after tables.terms (classes_of journal) event.kind class (are.terms class)
-      ∙ ap (λ all. class_numbered all class) (sym (gathers-on class_in journal event));
-  accounts = λ account.
-      accounts-after tables.accounts (accounts_of journal) event.kind account (are.accounts account)
-      ∙ ap (λ all. option_map row_of_account (account_numbered all account)) (sym (gathers-on account_in journal event));
-  rates = λ class moment.
-      rates-after tables.rates (rates_of journal) event.kind class moment (are.rates class moment)
-      ∙ ap (λ all. rate_given all class moment) (sym (rates_go_on journal event));
-  few_terms = subst (λ all. length (terms_after tables.terms event.kind) ≤ length all) (sym (gathers-on class_in journal event))
-      (terms-few tables.terms (classes_of journal) event.kind are.few_terms);
-  few_accounts = λ household.
-      subst (λ all. count_by (λ row. row.household == household) (accounts_after tables.accounts event.kind) ≤ count_by (λ form. form.household == household) all)
-      (sym (gathers-on account_in journal event))
-      (accounts-few tables.accounts (accounts_of journal) event.kind household (are.few_accounts household));
-  moments = subst (All (λ form. form.moment ≤ 7258118399)) (sym (gathers-on sheet_in journal event))
-      (moments-after (each_in sheet_in journal) event.kind range are.moments);
+  terms = terms-on journal tables event are;
+  accounts = accounts-on journal tables event are;
+  rates = rates-on journal tables event are;
+  few_terms = few-terms-on journal tables event are;
+  few_accounts = few-accounts-on journal tables event are;
+  moments = moments-on journal tables event are range;
 }
 
 -- a class that a lawful journal brings has good loads

@@ -7,16 +7,17 @@ use Rattle.agent_events.specs.declared.request.FixPriceForm.{FixPriceForm}
 use Rattle.forward_price.specs.Sheets.{lists_class}
 use Rattle.forward_price.specs.declared.price_sheet.Sheet.{Sheet}
 use Rattle.household_fold.specs.Facts.{no_sheet}
-use Rattle.journal_tables.specs.TablesOfJournals.{HasPatch, IsPricedOn, LawfulHasPatch, patch_by}
+use Rattle.journal_tables.specs.TablesOfJournals.{HasPatch, IsPricedOn, patch_by}
 use Rattle.register_laws.proofs.Choosing.{none_some}
-use Rattle.register_laws.proofs.FixesOnePrice.{any-place, fixes_one_price, one-sheet}
+use Rattle.register_laws.proofs.FixesOnePrice.{any-place, has-sheet, one-sheet}
 use Rattle.register_laws.proofs.TablesAreOrderly.{orderly_tables}
 use Rattle.register_laws.proofs.Tests.{any-with, find-any}
 use Rattle.register_laws.specs.OneEventMore.{corrected_table}
-use Rattle.register_machine.specs.journal.Journals.{Journal}
+use Rattle.register_machine.specs.journal.Journals.{Journal, with_event}
 use Rattle.register_machine.specs.journal.Lawful.{IsLawful}
 use Rattle.register_machine.specs.pricing.PublishedTable.{moment_of}
 use Rattle.register_machine.specs.rules.NamedThings.{lists_at}
+use Rattle.agent_events.specs.declared.event.EventKind.{EventKind}
 
 -- the sheet in a place has the number, lists the class, and has the moment
 record IsPriced (form : FixPriceForm) (number : ℕ) (sheet : Sheet) : Type 0 where
@@ -78,15 +79,17 @@ found-any {X} q other (y ∷ ys) x e passes = by_test (q y) refl e (λ found. fo
         late true = refl
         late false = refl
 
-pub has_patch : (journal : Journal) (event : Event) (form : FixPriceForm) → LawfulHasPatch journal event form
-has_patch journal event form lawful is = by_found (find (lists_at form.class form.moment) (corrected_table journal).sheets) refl
-  where
-    listed : list_any (lists_at form.class form.moment) (corrected_table journal).sheets ≡ true
-    listed =
-        let fixes = fixes_one_price journal event lawful form is in
-        let found = any-with (λ (sheet : Sheet). sheet.number == fixes.0 && lists_at form.class form.moment sheet) (corrected_table journal).sheets fixes.1.listed in
-        found.2 (lists_at form.class form.moment) (and_parts (found.0.number == fixes.0) (lists_at form.class form.moment found.0) found.1).1
+-- a correction of a price is for a sheet that lists its class at its moment
+pub is-listed : (journal : Journal) (event : Event) → IsLawful (with_event journal event) → (form : FixPriceForm) → event.kind ≡ EventKind.FixPrice form → list_any (lists_at form.class form.moment) (corrected_table journal).sheets ≡ true
+is-listed journal event lawful form is =
+    let sheet = has-sheet journal event lawful form is in
+    let found = any-with (λ (s : Sheet). s.number == sheet.0 && lists_at form.class form.moment s) (corrected_table journal).sheets sheet.1 in
+    found.2 (lists_at form.class form.moment) (and_parts (found.0.number == sheet.0) (lists_at form.class form.moment found.0) found.1).1
 
+-- so it has its patch
+pub listed-patch : (journal : Journal) (form : FixPriceForm) → list_any (lists_at form.class form.moment) (corrected_table journal).sheets ≡ true → (number : ℕ) × HasPatch journal form number
+listed-patch journal form listed = by_found (find (lists_at form.class form.moment) (corrected_table journal).sheets) refl
+  where
     by_found : (o : Option Sheet) → find (lists_at form.class form.moment) (corrected_table journal).sheets ≡ o → (number : ℕ) × HasPatch journal form number
     by_found None none =
         absurd (true≢false (sym listed ∙ (sym (find-any (lists_at form.class form.moment) (corrected_table journal).sheets) ∙ ap is_some none)))

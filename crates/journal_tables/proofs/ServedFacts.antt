@@ -1,6 +1,5 @@
 -- What a step reads of the tables of a lawful journal: facts that fit, the book of the journal, and the sheet of its number.
 use Rattle.std.proofs.Common.{All, List, None, Option, Some, [], ap, arith, false, find, inl, inr, is_some, length, map, option_map, refl, slice_get, subst, sym, true, unwrap_or, ℕ, ◌-◌, ◌∙◌, ◌≡◌, ◌≤◌}
-use Rattle.std.proofs.lemmas.List.{length-map}
 use Rattle.std.proofs.lemmas.Option.{get_or_from_slice_get, slice_get_cases}
 use Rattle.std.specs.List.{list_any}
 use Rattle.std.specs.Option.{option_map_or, option_or}
@@ -8,25 +7,20 @@ use Rattle.agent_events.specs.Events.{Event}
 use Rattle.agent_events.specs.declared.event.EventKind.{EventKind}
 use Rattle.agent_events.specs.declared.request.AccountForm.{AccountForm}
 use Rattle.agent_events.specs.declared.request.DividendForm.{DividendForm}
-use Rattle.agent_events.specs.declared.request.FixPriceForm.{FixPriceForm}
 use Rattle.agent_events.specs.declared.request.FixRateForm.{FixRateForm}
-use Rattle.agent_events.specs.declared.request.SheetForm.{SheetForm}
 use Rattle.agent_events.specs.declared.rows.RateRow.{RateRow}
 use Rattle.forward_price.proofs.NumberFacts.{numbered_at}
-use Rattle.forward_price.specs.PriceTables.{Table, sheets_with_nav, corrected_sheet, price_before, sheet_numbered, with_correction}
+use Rattle.forward_price.specs.PriceTables.{price_before, sheet_numbered}
 use Rattle.forward_price.specs.Sheets.{lists_class}
 use Rattle.fund_calendar.specs.PricingDays.{IsMoment}
 use Rattle.household_fold.proofs.BookFacts.{class_found, household_found, rate_found}
 use Rattle.household_fold.specs.Facts.{Known, book_of_facts, class_in_book, no_sheet, rate_numbered, sheet_at_hand, sheets_known, terms_numbered}
 use Rattle.journal_tables.proofs.EventTables.{tables_go_on}
-use Rattle.journal_tables.proofs.PricedSheets.{one-number}
 use Rattle.journal_tables.proofs.SheetsOfJournals.{corrected-known, corrected-timed}
-use Rattle.journal_tables.specs.Tables.{IsInRange, Tables, row_of_account, row_of_fix, tables_after, with_fixed_rate}
-use Rattle.journal_tables.specs.TablesOfJournals.{AreTablesOf, IsSheetOf, LawfulServes, LawfulServesFixedPrice, LawfulServesFixedRate, LawfulServesNewSheet, ServeFor, known_of, known_with_patch, known_with_rates, patch_by}
+use Rattle.journal_tables.specs.Tables.{IsInRange, Tables, row_of_account, tables_after}
+use Rattle.journal_tables.specs.TablesOfJournals.{AreTablesOf, IsSheetOf, ServeFor}
 use Rattle.register_laws.proofs.Choosing.{none_some}
-use Rattle.register_laws.proofs.FixesOnePrice.{fixes_one_price}
 use Rattle.register_laws.proofs.KeepsLimits.{keeps_its_limits}
-use Rattle.register_laws.proofs.NothingBefore.{last-brought}
 use Rattle.register_laws.proofs.OrderlyBooks.{sheets_are_numbered}
 use Rattle.register_laws.proofs.PricesAnew.{prices_anew}
 use Rattle.register_laws.proofs.Tests.{find-any}
@@ -34,7 +28,7 @@ use Rattle.register_laws.specs.AlikeBooks.{BooksAlike}
 use Rattle.register_laws.specs.Identities.{is_class}
 use Rattle.register_laws.specs.Lawful.{book_behind}
 use Rattle.register_laws.specs.LawfulLimits.{KeepsItsLimits}
-use Rattle.register_laws.specs.OneEventMore.{corrected_table, corrected_table_by, with_price_fixed}
+use Rattle.register_laws.specs.OneEventMore.{corrected_table, corrected_table_by}
 use Rattle.register_machine.specs.journal.Journals.{Journal, with_event}
 use Rattle.register_machine.specs.journal.Kinds.{account_numbered, accounts_of, class_numbered, classes_of}
 use Rattle.register_machine.specs.journal.Lawful.{IsLawful}
@@ -97,7 +91,7 @@ at-hand known journal sheets is = elim (slice_get_cases (corrected_table journal
         ap (λ o. unwrap_or o no_sheet) (numbered_at (corrected_table journal).sheets known.sheet (sheets_are_numbered journal) is.least)
         ∙ sym (ap (λ all. unwrap_or (sheet_numbered all known.sheet) no_sheet) sheets)
 
-numbered-there : (journal : Journal) (sheet : ℕ) → IsSheetOf journal sheet → is_some (sheet_numbered (corrected_table journal).sheets sheet) ≡ true
+pub numbered-there : (journal : Journal) (sheet : ℕ) → IsSheetOf journal sheet → is_some (sheet_numbered (corrected_table journal).sheets sheet) ≡ true
 numbered-there journal sheet is = elim (slice_get_cases (corrected_table journal).sheets (sheet - 1)).1 [
   | inl there ↦ ap is_some (sym (numbered_at (corrected_table journal).sheets sheet (sheets_are_numbered journal) is.least) ∙ there.2)
   | inr past ↦ absurd (let le = past.0 in let least = is.least in let most = is.most in omega (arith, le, least, most))
@@ -109,7 +103,7 @@ mapped-some : {X Y : Type 0} (f : X → Y) (o : Option X) → is_some (option_ma
 mapped-some f None = refl
 mapped-some f (Some x) = refl
 
-serve : (known : Known) (journal : Journal) → IsLawful journal → AreTablesOf journal (tables_in known) → sheets_known known ≡ (corrected_table journal).sheets → is_some (sheet_numbered known.table.sheets known.sheet) ≡ true → IsSheetOf journal known.sheet → ServeFor known journal
+pub serve : (known : Known) (journal : Journal) → IsLawful journal → AreTablesOf journal (tables_in known) → sheets_known known ≡ (corrected_table journal).sheets → is_some (sheet_numbered known.table.sheets known.sheet) ≡ true → IsSheetOf journal known.sheet → ServeFor known journal
 serve known journal lawful are sheets there is = record {
   fit = record {
     sheet = there;
@@ -136,58 +130,21 @@ serve known journal lawful are sheets there is = record {
     limits : KeepsItsLimits journal
     limits = keeps_its_limits journal lawful
 
-pub serves : (journal : Journal) (tables : Tables) (sheet : ℕ) → LawfulServes journal tables sheet
-serves journal tables sheet lawful are is =
-    serve (known_of journal tables sheet) journal lawful are refl (numbered-there journal sheet is) is
-
 -- ---- under a correction on trial
 
 -- the corrected table behind an event of this kind
-table-behind : (journal : Journal) (event : Event) (kind : EventKind) → IsLawful (with_event journal event) → event.kind ≡ kind → corrected_table (with_event journal event) ≡ corrected_table_by (corrected_table journal) event.moment kind
+pub table-behind : (journal : Journal) (event : Event) (kind : EventKind) → IsLawful (with_event journal event) → event.kind ≡ kind → corrected_table (with_event journal event) ≡ corrected_table_by (corrected_table journal) event.moment kind
 table-behind journal event kind lawful is =
     (prices_anew journal event lawful).table ∙ ap (corrected_table_by (corrected_table journal) event.moment) is
 
 -- as many sheets are as many
-sheet-still : (journal other : Journal) (sheet : ℕ) → length (corrected_table other).sheets ≡ length (corrected_table journal).sheets → IsSheetOf journal sheet → IsSheetOf other sheet
+pub sheet-still : (journal other : Journal) (sheet : ℕ) → length (corrected_table other).sheets ≡ length (corrected_table journal).sheets → IsSheetOf journal sheet → IsSheetOf other sheet
 sheet-still journal other sheet same is = record {
   least = is.least;
   most = subst (λ n. sheet ≤ n) (sym same) is.most;
 }
 
-tables-behind : (journal : Journal) (tables : Tables) (event : Event) (kind : EventKind) → event.kind ≡ kind → IsInRange kind → AreTablesOf journal tables → AreTablesOf (with_event journal event) (tables_after tables kind)
+pub tables-behind : (journal : Journal) (tables : Tables) (event : Event) (kind : EventKind) → event.kind ≡ kind → IsInRange kind → AreTablesOf journal tables → AreTablesOf (with_event journal event) (tables_after tables kind)
 tables-behind journal tables event kind is range are =
     subst (λ k. AreTablesOf (with_event journal event) (tables_after tables k)) is
     (tables_go_on journal tables event are (subst IsInRange (sym is) range))
-
-pub serves_fixed_price : (journal : Journal) (tables : Tables) (event : Event) (form : FixPriceForm) (number sheet : ℕ) → LawfulServesFixedPrice journal tables event form number sheet
-serves_fixed_price journal tables event form number sheet lawful is are there priced =
-    serve (known_with_patch (known_of journal tables sheet) (patch_by form number)) (with_event journal event) lawful
-    (tables-behind journal tables event (EventKind.FixPrice form) is tt are)
-    (sym sheets) (numbered-there journal sheet there)
-    (sheet-still journal (with_event journal event) sheet
-    (ap length sheets ∙ length-map (corrected_table journal).sheets (corrected_sheet form.class number form.nav)) there)
-  where
-    table : with_price_fixed form (corrected_table journal) ≡ with_correction (corrected_table journal) form.class number form.nav
-    table =
-        let fixes = fixes_one_price journal event lawful form is in
-        subst (λ n. with_price_fixed form (corrected_table journal) ≡ with_correction (corrected_table journal) form.class n form.nav)
-        (one-number journal form fixes.0 number (last-brought journal event lawful).0 fixes.1.listed priced) fixes.1.table
-
-    sheets : (corrected_table (with_event journal event)).sheets ≡ sheets_with_nav form.class number form.nav (corrected_table journal).sheets
-    sheets =
-        ap (λ (table : Table). table.sheets) (table-behind journal event (EventKind.FixPrice form) lawful is ∙ table)
-
-pub serves_fixed_rate : (journal : Journal) (tables : Tables) (event : Event) (form : FixRateForm) (sheet : ℕ) → LawfulServesFixedRate journal tables event form sheet
-serves_fixed_rate journal tables event form sheet lawful is most are there =
-    serve (known_with_rates (known_of journal tables sheet) (with_fixed_rate tables.rates (row_of_fix form))) (with_event journal event) lawful
-    (tables-behind journal tables event (EventKind.FixRate form) is most are)
-    (sym sheets) (numbered-there journal sheet there)
-    (sheet-still journal (with_event journal event) sheet (ap length sheets) there)
-  where
-    sheets : (corrected_table (with_event journal event)).sheets ≡ (corrected_table journal).sheets
-    sheets = ap (λ (table : Table). table.sheets) (table-behind journal event (EventKind.FixRate form) lawful is)
-
-pub serves_new_sheet : (journal : Journal) (tables : Tables) (event : Event) (form : SheetForm) (sheet : ℕ) → LawfulServesNewSheet journal tables event form sheet
-serves_new_sheet journal tables event form sheet lawful is range are there =
-    serves (with_event journal event) tables sheet lawful
-    (tables-behind journal tables event (EventKind.Sheet form) is range are) there

@@ -8,19 +8,13 @@ use Rattle.agent_events.specs.declared.order.OrderRow.{OrderRow}
 use Rattle.agent_events.specs.declared.trade.Outcome.{Outcome}
 use Rattle.agent_events.specs.declared.trade.Trade.{Trade}
 use Rattle.agent_events.specs.declared.trade.TradeKind.{TradeKind}
-use Rattle.gain_loss_book.specs.Movements.{if_filled, mils_brought, mils_brought_by, mils_taken, mils_taken_by, trades_mils}
-use Rattle.gain_loss_book.specs.Flows.{net}
-use Rattle.ledger_laws.specs.ClassTotals.{IsNetOfTrades, LawfulTotalsByHouseholds, OrderlyTotalsByDifferences}
-use Rattle.register_laws.proofs.HouseholdSums.{sums_over_households}
-use Rattle.register_laws.proofs.LawfulReplaysKept.{has_a_lawful_book}
+use Rattle.gain_loss_book.specs.Movements.{if_filled, mils_brought, mils_brought_by, mils_taken, mils_taken_by}
+use Rattle.ledger_laws.specs.ClassTotals.{IsNetOfTrades, OrderlyTotalsByDifferences}
 use Rattle.register_laws.proofs.ListParts.{filter-swap}
 use Rattle.register_laws.proofs.ReplayedAlone.{replayed_alone}
 use Rattle.register_laws.proofs.SharesByTrades.{shares_go_by_trades}
 use Rattle.register_laws.proofs.Sums.{sum-same}
 use Rattle.register_laws.specs.Households.{is_of_household, is_own_row, own_book, part_of}
-use Rattle.register_laws.specs.HouseholdSums.{household_numbers}
-use Rattle.register_laws.specs.Lawful.{book_behind}
-use Rattle.register_machine.specs.journal.Journals.{Journal}
 use Rattle.register_laws.specs.Trades.{if_filled as in_filled}
 use Rattle.register_laws.specs.Trades.{IsOrderly, IsOutstandingByTrades, LeavesItsClass, is_order_of, mils_in, mils_in_by, mils_out, mils_out_by}
 use Rattle.register_machine.specs.corrections.Cash.{outstanding}
@@ -110,7 +104,7 @@ totals_by_differences book orderly = record {
 -- ---- over all households
 
 -- numbers that are added up as whole ones
-added-up : (f : ℕ → ℤ) (g : ℕ → ℕ) → ((x : ℕ) → pos (g x) ≡ f x) → (so_far : ℕ) (xs : List ℕ) → pos (so_far + sum_by g xs) ≡ fold (λ sum x. sum +ℤ f x) (pos so_far) xs
+pub added-up : (f : ℕ → ℤ) (g : ℕ → ℕ) → ((x : ℕ) → pos (g x) ≡ f x) → (so_far : ℕ) (xs : List ℕ) → pos (so_far + sum_by g xs) ≡ fold (λ sum x. sum +ℤ f x) (pos so_far) xs
 added-up f g same so_far [] =
     let none : so_far + sum_by g [] ≡ so_far = omega arith in ap pos none
 added-up f g same so_far (x ∷ xs) =
@@ -118,13 +112,3 @@ added-up f g same so_far (x ∷ xs) =
     ap pos first
     ∙ (added-up f g same (so_far + g x) xs
     ∙ ap (λ (sum : ℤ). fold (λ s y. s +ℤ f y) sum xs) (ap (λ (n : ℤ). pos so_far +ℤ n) (same x)))
-
-pub totals_by_households : (journal : Journal) → LawfulTotalsByHouseholds journal
-totals_by_households journal lawful class =
-    let book = book_behind journal in
-    let totals = totals_by_differences book (has_a_lawful_book journal lawful).orderly in
-    let parts : ℕ → Day = λ household. part_of book.accounts household (replay book) in
-    let all : outstanding (replay book).register class ≡ 0 + sum_by (λ household. outstanding (parts household).register class) (household_numbers journal) =
-    omega (arith, (sums_over_households journal lawful).whole.mils class) in
-    ap pos all
-    ∙ added-up (λ household. net (trades_mils (parts household).trades class)) (λ household. outstanding (parts household).register class) (λ household. totals.in_parts household class) 0 (household_numbers journal)

@@ -51,12 +51,12 @@ module _ (known : Known) (rows : List NumberedOrder) (book : Book) (household : 
       ∙ (days-from (from + 1) count (omega (arith, within))
       ∙ ap (days_behind known rows (from + 1) count) (sheet-behind from (omega (arith, within))))
 
-  days-first : (number : ℕ) → number ≤ length book.table.sheets → part_of book.accounts household (replay_to book number) ≡ days_behind known rows 0 number first_day
+  pub days-first : (number : ℕ) → number ≤ length book.table.sheets → part_of book.accounts household (replay_to book number) ≡ days_behind known rows 0 number first_day
   days-first number within =
       let none : 0 + number ≡ number = omega arith in
       ap (λ n. part_of book.accounts household (replay_to book n)) (sym none) ∙ days-from 0 number (omega (arith, within))
 
-  days-whole : part_of book.accounts household (replay book) ≡ days_behind known rows 0 (length book.table.sheets) first_day
+  pub days-whole : part_of book.accounts household (replay book) ≡ days_behind known rows 0 (length book.table.sheets) first_day
   unfolding replay
   days-whole =
       ap (λ sheets. part_of book.accounts household (replay_over book sheets)) (sym (take-length book.table.sheets))

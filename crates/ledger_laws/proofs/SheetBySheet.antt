@@ -6,12 +6,10 @@ use Rattle.std.specs.Prelude.{AllPairs}
 use Rattle.agent_events.specs.declared.order.Order.{Order}
 use Rattle.forward_price.specs.declared.price_sheet.Sheet.{Sheet}
 use Rattle.household_replay.specs.Replays.{NumberedOrder, orders_under}
-use Rattle.ledger_laws.specs.OrderRows.{RowsStandSheetBySheet, under_number}
-use Rattle.ledger_laws.specs.PartsByFacts.{orders_of_part}
+use Rattle.ledger_laws.specs.OrderRows.{under_number}
 use Rattle.register_laws.proofs.Comparisons.{eq-no, eq-yes}
 use Rattle.register_laws.proofs.ListParts.{pairs-append}
 use Rattle.register_laws.proofs.OrdersInTurn.{NumberedFrom, numbered-first, numbered-rest}
-use Rattle.register_machine.specs.pricing.CorrectedBook.{Book}
 
 -- ---- orders of one number
 
@@ -47,7 +45,7 @@ module _ (orders_on : Sheet → List Order) where
       ∙ (ap (λ os. os ++ orders_under asked (flat_map numbered sheets)) (other-number sheet.number asked differs (orders_on sheet))
       ∙ none-under asked (suc first) sheets (numbered-rest first sheet sheets are) (omega (arith, less)))
 
-  found-under : (first : ℕ) (sheets : List Sheet) → NumberedFrom first sheets → (place : ℕ) (d : Sheet) → place < length sheets → orders_under (place + first) (flat_map numbered sheets) ≡ orders_on (get_or sheets place d)
+  pub found-under : (first : ℕ) (sheets : List Sheet) → NumberedFrom first sheets → (place : ℕ) (d : Sheet) → place < length sheets → orders_under (place + first) (flat_map numbered sheets) ≡ orders_on (get_or sheets place d)
   found-under first [] are place d short = absurd (omega (arith, short))
   found-under first (sheet ∷ sheets) are zero d short =
       let own = eq-yes sheet.number (zero + first) (omega (arith, numbered-first first sheet sheets are)) in
@@ -76,7 +74,7 @@ module _ (orders_on : Sheet → List Order) where
       (All-weaker (λ (row : NumberedOrder). row.number ≡ sheet.number) (λ (row : NumberedOrder). first ≤ row.number) (λ row is. omega (arith, is, numbered-first first sheet sheets are)) (numbered sheet) (of-number sheet))
       (All-weaker (λ (row : NumberedOrder). suc first ≤ row.number) (λ (row : NumberedOrder). first ≤ row.number) (λ row is. omega (arith, is)) (flat_map numbered sheets) (from-first (suc first) sheets (numbered-rest first sheet sheets are)))
 
-  numbers-rise : (first : ℕ) (sheets : List Sheet) → NumberedFrom first sheets → AllPairs (λ (row other : NumberedOrder). row.number ≤ other.number) (flat_map numbered sheets)
+  pub numbers-rise : (first : ℕ) (sheets : List Sheet) → NumberedFrom first sheets → AllPairs (λ (row other : NumberedOrder). row.number ≤ other.number) (flat_map numbered sheets)
   numbers-rise first [] are = λ i j d less short. absurd (omega (arith, short))
   numbers-rise first (sheet ∷ sheets) are =
       let behind = from-first (suc first) sheets (numbered-rest first sheet sheets are) in
@@ -86,9 +84,3 @@ module _ (orders_on : Sheet → List Order) where
       (All-weaker (λ (row : NumberedOrder). row.number ≡ sheet.number) (λ (row : NumberedOrder). All (λ (other : NumberedOrder). row.number ≤ other.number) (flat_map numbered sheets))
       (λ row is. All-weaker (λ (other : NumberedOrder). suc first ≤ other.number) (λ (other : NumberedOrder). row.number ≤ other.number) (λ other later. omega (arith, is, later, numbered-first first sheet sheets are)) (flat_map numbered sheets) behind)
       (numbered sheet) (of-number sheet))
-
-pub rows_stand_sheet_by_sheet : (book : Book) (household : ℕ) → RowsStandSheetBySheet book household
-rows_stand_sheet_by_sheet book household are = record {
-  are = record { on_sheet = λ place d short. found-under (orders_of_part book household) 1 book.table.sheets are.each place d short };
-  rise = numbers-rise (orders_of_part book household) 1 book.table.sheets are.each;
-}

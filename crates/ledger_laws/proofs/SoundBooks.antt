@@ -15,8 +15,7 @@ use Rattle.fund_calendar.specs.PricingDays.{IsMoment, Listing}
 use Rattle.household_fold.proofs.BookFacts.{class_found, household_found, rate_found}
 use Rattle.household_fold.specs.Facts.{Known, class_in_book, terms_numbered}
 use Rattle.class_terms.specs.declared.form.TermsForm.{TermsForm}
-use Rattle.ledger_laws.proofs.ReplaysAsPart.{sheets_give_facts}
-use Rattle.ledger_laws.specs.SoundBooks.{HaveTerms, IsDated, LawfulHasASoundBook, ListsItsClasses, NamesItsClasses, TablesAgree, TablesGiveFacts}
+use Rattle.ledger_laws.specs.SoundBooks.{HaveTerms, IsDated, LawfulHasASoundBook, ListsItsClasses, NamesItsClasses, TablesAgree}
 use Rattle.register_laws.proofs.NamesStand.{names_stand}
 use Rattle.register_laws.proofs.OrderlyBooks.{lawful_book_is_orderly}
 use Rattle.register_laws.proofs.TablesAreOrderly.{IsCalendar, classes-seen, kept, orderly_tables}
@@ -97,7 +96,7 @@ has_a_sound_book journal lawful = record {
 classes-agree : (known : Known) (book : Book) → TablesAgree known book → (class : ℕ) → class_numbered (map class_in_book known.terms) class ≡ class_numbered book.classes class
 classes-agree known book agree class = class_found known.terms class ∙ agree.terms class
 
-books-alike : (known : Known) (book : Book) → TablesAgree known book → BooksAlike (book_of_facts known) book
+pub books-alike : (known : Known) (book : Book) → TablesAgree known book → BooksAlike (book_of_facts known) book
 books-alike known book agree = record {
   price = λ class moment. ap (λ sheets. price_before sheets class moment) agree.sheets;
   front = λ class. ap (λ o. option_map_or (λ (terms : ClassForm). terms.front) o []) (classes-agree known book agree class);
@@ -107,7 +106,7 @@ books-alike known book agree = record {
   rate = λ class moment. sym (rate_found known.rates class moment) ∙ agree.rates class moment;
 }
 
-have-terms : (known : Known) (book : Book) → TablesAgree known book → HaveTerms known book
+pub have-terms : (known : Known) (book : Book) → TablesAgree known book → HaveTerms known book
 have-terms known book agree class there =
     same (terms_numbered known.terms class)
     ∙ (ap is_some (agree.terms class) ∙ (find-any (is_class class) book.classes ∙ there))
@@ -115,9 +114,3 @@ have-terms known book agree class there =
     same : (o : Option TermsForm) → is_some o ≡ is_some (option_map class_in_book o)
     same None = refl
     same (Some terms) = refl
-
-pub tables_give_facts : (known : Known) (book : Book) → TablesGiveFacts known book
-tables_give_facts known book agree numbered = record {
-  facts = sheets_give_facts known book (books-alike known book agree) agree.sheets numbered;
-  terms = have-terms known book agree;
-}

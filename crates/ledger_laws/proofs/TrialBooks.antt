@@ -27,7 +27,7 @@ use Rattle.register_laws.proofs.Comparisons.{eq-yes}
 use Rattle.register_laws.proofs.CorrectedAgain.{book-again}
 use Rattle.register_laws.proofs.NothingBefore.{all-named, begins-by}
 use Rattle.register_laws.proofs.OneEventMore.{gathers-on, rates_go_on, table_goes_on}
-use Rattle.register_laws.proofs.OrderlyBooks.{few_references, sheets_are_numbered}
+use Rattle.register_laws.proofs.OrderlyBooks.{sheets_are_numbered}
 use Rattle.register_laws.proofs.OrdersGoOn.{orders_go_on}
 use Rattle.register_laws.proofs.PricesAnew.{more-still}
 use Rattle.register_laws.proofs.RulesByName.{not_broken}
@@ -53,6 +53,7 @@ use Rattle.register_machine.specs.rules.Limits.{is_of_account, most_orders}
 use Rattle.register_machine.specs.rules.NamedThings.{has_class, none_such, things_named}
 use Rattle.register_machine.specs.rules.Orders.{family_of, is_exchangeable, is_offered, not_offered, refused_order}
 use Rattle.register_machine.specs.rules.Situations.{Situation}
+use Rattle.register_laws.proofs.KeepsLimits.{keeps_its_limits}
 
 -- ---- the order that a correction says
 
@@ -127,7 +128,7 @@ table-stays table moment (EventKind.Replace form) corrects = refl
 table-stays table moment (EventKind.Void form) corrects = refl
 table-stays table moment _ corrects = absurd (true≢false (sym corrects))
 
-unfixed : (journal : Journal) (kind : EventKind) → is_some (bearer_in kind) ≡ true → is_unfixed journal kind ≡ true
+pub unfixed : (journal : Journal) (kind : EventKind) → is_some (bearer_in kind) ≡ true → is_unfixed journal kind ≡ true
 unfixed journal (EventKind.Sheet form) corrects = absurd (true≢false (sym corrects))
 unfixed journal _ corrects = refl
 
@@ -141,7 +142,7 @@ abbrev made : Table → List ClassForm → List AccountForm → List OrderRow �
 made table classes accounts orders rates =
     record { table = table; classes = classes; accounts = accounts; orders = orders; rates = rates }
 
-book-after : (journal : Journal) (event : Event) → is_unfixed journal event.kind ≡ true → orders_of (with_event journal event) ≡ orders_after (length journal) (orders_of journal) event.kind → book_behind (with_event journal event) ≡ book_after (length journal) (book_behind journal) event.moment event.kind
+pub book-after : (journal : Journal) (event : Event) → is_unfixed journal event.kind ≡ true → orders_of (with_event journal event) ≡ orders_after (length journal) (orders_of journal) event.kind → book_behind (with_event journal event) ≡ book_after (length journal) (book_behind journal) event.moment event.kind
 book-after journal event new orders =
     let later = with_event journal event in
     let table = corrected_table_by (corrected_table journal) event.moment event.kind in
@@ -157,7 +158,7 @@ book-after journal event new orders =
 -- ---- the trial
 
 module _ (journal : Journal) (event : Event) (caller : Caller) (lawful : IsLawful journal) (corrects : is_some (bearer_in event.kind) ≡ true) (clear : broken_rule (own_at journal event.moment caller) (request_of event.kind) ≡ None) where
-  orders-on : orders_of (with_event journal event) ≡ orders_after (length journal) (orders_of journal) event.kind
+  pub orders-on : orders_of (with_event journal event) ≡ orders_after (length journal) (orders_of journal) event.kind
   orders-on =
       orders_go_on journal event (begins-by journal event.moment caller event.kind lawful (not_broken (own_at journal event.moment caller) (request_of event.kind) clear Rule.RefUsed))
 
@@ -186,7 +187,7 @@ module _ (journal : Journal) (event : Event) (caller : Caller) (lawful : IsLawfu
       let full = not_broken (own_at journal event.moment caller) (request_of event.kind) clear Rule.OrdersFull in
       let room = not_when (option_map_or (λ (named : ℕ × ℕ). nat_le most_orders (count_by (is_of_account named.0) journal)) (reference_of (request_of event.kind)) false) (Refusal.OrdersFull most_orders) full in
       subst (λ rows. count_by (is_order_of account) (filter stands rows) ≤ most_orders) (sym orders-on)
-      (few-after journal (length journal) event.kind lawful (few_references journal lawful) room account)
+      (few-after journal (length journal) event.kind lawful ((keeps_its_limits journal lawful).orders) room account)
 
   tables-orderly : IsOrderly (book_behind (with_event journal event)).table
   tables-orderly =
@@ -196,7 +197,7 @@ module _ (journal : Journal) (event : Event) (caller : Caller) (lawful : IsLawfu
   are-calendars =
       subst (λ (table : Table). All IsCalendar table.calendars) (sym (same-table journal event corrects)) (kept journal lawful).calendars
 
-  sound-trial : IsSoundBook (book_behind (with_event journal event))
+  pub sound-trial : IsSoundBook (book_behind (with_event journal event))
   sound-trial = record {
     orderly = record { numbered = sheets_are_numbered (with_event journal event); elsewhere = leave-classes; few_orders = few-orders };
     orders = names-stand;
@@ -204,7 +205,7 @@ module _ (journal : Journal) (event : Event) (caller : Caller) (lawful : IsLawfu
     dated = sheets-dated (with_event journal event) tables-orderly are-calendars;
   }
 
-  trial-anew : book_of (book_behind journal).table (with_event journal event) ≡ book_behind (with_event journal event)
+  pub trial-anew : book_of (book_behind journal).table (with_event journal event) ≡ book_behind (with_event journal event)
   trial-anew =
       book-again (table_of journal) journal (event ∷ [])
       ∙ ap (λ table. book_of table (with_event journal event)) (sym (same-table journal event corrects))

@@ -20,8 +20,10 @@ use Rattle.register_machine.specs.journal.Journals.{Journal}
 use Rattle.register_machine.specs.journal.Kinds.{account_in, accounts_of}
 use Rattle.register_machine.specs.pricing.CorrectedBook.{Book}
 use Rattle.register_machine.specs.replay.Replay.{replay}
+use Rattle.household_replay.specs.Premises.{CanBeReplayed}
+use Rattle.ledger_laws.specs.SoundBooks.{IsSoundBook}
 
-days-whole : (known : Known) (rows : List NumberedOrder) (book : Book) (household : ℕ) → ServeLastSheet known book → AreRowsOf rows book household → days_behind known rows 0 known.sheet first_day ≡ part_of book.accounts household (replay book)
+pub days-whole : (known : Known) (rows : List NumberedOrder) (book : Book) (household : ℕ) → ServeLastSheet known book → AreRowsOf rows book household → days_behind known rows 0 known.sheet first_day ≡ part_of book.accounts household (replay book)
 days-whole known rows book household serves are =
     ap (λ (n : ℕ). days_behind known rows 0 n first_day) serves.last
     ∙ sym (replays_as_part known rows book household serves.serve.facts are).whole
@@ -33,14 +35,17 @@ standing_are_rows rows book household numbered under = record {
       ap (λ (n : ℕ). orders_under n rows) (sym (numbered.each place d short)) ∙ under sheet;
 }
 
-pub reopens : (known : Known) (rows : List NumberedOrder) (book : Book) (household : ℕ) → SoundBooksReopen known rows book household
-reopens known rows book household sound serves are =
+pub can-reopen : (known : Known) (rows : List NumberedOrder) (book : Book) (household : ℕ) → IsSoundBook book → ServeLastSheet known book → AreRowsOf rows book household → CanBeReplayed known household rows 0 known.sheet first_day
+can-reopen known rows book household sound serves are =
     let whole = lets_replay known rows book household sound serves.serve.facts serves.serve.terms serves.serve.tables are 0 (length book.table.sheets) (omega arith) in
     let can = subst (λ (n : ℕ). CanReplay known rows household 0 n first_day) (sym serves.last) whole in
-    record {
-      ready = record { facts = can.facts; orders = can.orders; owned = can.owned; lots = can.lots };
-      part = days-whole known rows book household serves are;
-    }
+    record { facts = can.facts; orders = can.orders; owned = can.owned; lots = can.lots }
+
+pub reopens : (known : Known) (rows : List NumberedOrder) (book : Book) (household : ℕ) → SoundBooksReopen known rows book household
+reopens known rows book household sound serves are = record {
+  ready = can-reopen known rows book household sound serves are;
+  part = days-whole known rows book household serves are;
+}
 
 pub ledger_corrected : (known : Known) (before after : Book) (parts new : List (ℕ × HouseholdPart)) → LedgerIsCorrected known before after parts new
 ledger_corrected known before after parts new serves same is each = record {

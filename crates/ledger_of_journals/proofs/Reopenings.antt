@@ -11,7 +11,7 @@ use Rattle.household_fold.specs.Facts.{Known}
 use Rattle.household_replay.specs.Replays.{NumberedOrder}
 use Rattle.ledger_of_journals.proofs.CorrectedParts.{ledger_corrected}
 use Rattle.ledger_of_journals.proofs.SumsOverLedgers.{not-among}
-use Rattle.ledger_of_journals.specs.CorrectedLedgers.{AreReopenings, IsLeft, IsMovedByReplay, IsReopened, OneIsReopened, ReopeningsCorrect, ReopeningsJoin, is_moved}
+use Rattle.ledger_of_journals.specs.CorrectedLedgers.{AreReopenings, IsLeft, IsMovedByReplay, IsReopened, OneIsReopened, ReopeningsCorrect, ReopeningsJoin, is_moved, EachIsReopenedOrLeft, LeavesUnmoved}
 use Rattle.register_machine.specs.pricing.CorrectedBook.{Book}
 use Rattle.register_machine.specs.replay.Trades.{Day}
 
@@ -95,13 +95,17 @@ reopenings_join known book parts moves others apart first later household is = b
           part = both ∙ (ap (λ (day : Day). fold (day_if_moved household) day others) (unmoved moves household (part_in parts household) none) ∙ own.part);
         }
 
-pub reopenings_correct : (known : Known) (before after : Book) (parts new : List (ℕ × HouseholdPart)) (moves : List HouseholdMove) → ReopeningsCorrect known before after parts new moves
-reopenings_correct known before after parts new moves serves same is reopened left shown =
-    ledger_corrected known before after parts new serves same is (λ household. each household (is_moved moves household) refl)
+-- each part is reopened or left
+pub reopened-or-left : (known : Known) (before after : Book) (parts new : List (ℕ × HouseholdPart)) (moves : List HouseholdMove) → AreReopenings known after parts moves → LeavesUnmoved before after moves → ((household : ℕ) → part_in new household ≡ part_after moves parts household) → EachIsReopenedOrLeft known before after parts new
+reopened-or-left known before after parts new moves reopened left shown household = each (is_moved moves household) refl
   where
-    each : (household : ℕ) (b : Bool) → is_moved moves household ≡ b → IsReopened known after new household ⊎ IsLeft before after parts new household
-    each household true here =
+    each : (b : Bool) → is_moved moves household ≡ b → IsReopened known after new household ⊎ IsLeft before after parts new household
+    each true here =
         let own = reopened household here in
         inl (record { rows = own.rows; own = own.own; part = shown household ∙ own.part })
-    each household false none =
+    each false none =
         inr (record { leaves = left household none; part = shown household ∙ unmoved moves household (part_in parts household) none })
+
+pub reopenings_correct : (known : Known) (before after : Book) (parts new : List (ℕ × HouseholdPart)) (moves : List HouseholdMove) → ReopeningsCorrect known before after parts new moves
+reopenings_correct known before after parts new moves serves same is reopened left shown =
+    ledger_corrected known before after parts new serves same is (reopened-or-left known before after parts new moves reopened left shown)

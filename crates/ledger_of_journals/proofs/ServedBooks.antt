@@ -18,22 +18,23 @@ use Rattle.household_fold.specs.Facts.{Known, rate_numbered}
 use Rattle.journal_tables.proofs.EventTables.{tables_go_on}
 use Rattle.journal_tables.specs.Tables.{IsInRange, Tables, row_of_account, row_of_fix, tables_after, with_fixed_rate}
 use Rattle.journal_tables.specs.TablesOfJournals.{AreTablesOf, known_of, known_with_patch, known_with_rates, patch_by}
-use Rattle.ledger_laws.proofs.SoundBooks.{tables_give_facts}
+use Rattle.ledger_laws.proofs.SoundBooks.{books-alike, have-terms}
 use Rattle.ledger_laws.specs.SoundBooks.{TablesAgree}
 use Rattle.ledger_of_journals.specs.BookFacts.{ServeLastSheet}
-use Rattle.ledger_of_journals.specs.TableFacts.{AreFactsBehind, FactsBehindServe, HasFewRows, IsOnTrial, LawfulTablesServe, NewSheetServed, OrderCorrectionServed, PriceCorrectionServed, RateCorrectionServed}
+use Rattle.ledger_of_journals.specs.TableFacts.{AreFactsBehind, FactsBehindServe, HasFewRows, IsOnTrial, NewSheetServed, OrderCorrectionServed, PriceCorrectionServed, RateCorrectionServed, IsLastSheet}
 use Rattle.register_laws.proofs.KeepsLimits.{keeps_its_limits}
 use Rattle.register_laws.proofs.OneEventMore.{gathers-on}
 use Rattle.register_laws.proofs.OrderlyBooks.{sheets_are_numbered}
 use Rattle.register_laws.specs.CorrectionReach.{order_changed}
 use Rattle.register_laws.specs.Lawful.{book_behind}
-use Rattle.register_laws.specs.OneEventMore.{corrected_table_by}
+use Rattle.register_laws.specs.OneEventMore.{corrected_table_by, FixesOnePrice}
 use Rattle.register_machine.specs.journal.Choices.{last_of}
 use Rattle.register_machine.specs.journal.Journals.{Journal, with_event}
 use Rattle.register_machine.specs.journal.Kinds.{account_in, account_numbered, accounts_of, class_in, classes_of}
 use Rattle.register_machine.specs.journal.Lawful.{IsLawful}
 use Rattle.register_machine.specs.pricing.CorrectedBook.{Book}
 use Rattle.register_machine.specs.pricing.DividendRates.{declares, fixes_rate, rates_of}
+use Rattle.ledger_laws.proofs.ReplaysAsPart.{sheets_give_facts}
 
 -- ---- facts of any journal
 
@@ -65,11 +66,12 @@ tables-agree known journal are = record {
 
 pub facts_behind_serve : (known : Known) (journal : Journal) → FactsBehindServe known journal
 facts_behind_serve known journal are few =
-    let given = tables_give_facts known (book_behind journal) (tables-agree known journal are) (sheets_are_numbered journal) in
+    let book = book_behind journal in
+    let agree = tables-agree known journal are in
     record {
       serve = record {
-        facts = given.facts;
-        terms = given.terms;
+        facts = sheets_give_facts known book (books-alike known book agree) agree.sheets (sheets_are_numbered journal);
+        terms = have-terms known book agree;
         tables = record {
           terms_rise = are.tables.stand.terms;
           accounts_rise = are.tables.stand.accounts;
@@ -82,26 +84,24 @@ facts_behind_serve known journal are few =
       last = are.last;
     }
 
-few-of-lawful : (journal : Journal) → IsLawful journal → HasFewRows journal
+pub few-of-lawful : (journal : Journal) → IsLawful journal → HasFewRows journal
 few-of-lawful journal lawful =
     let limits = keeps_its_limits journal lawful in
     record { classes = limits.classes; accounts = limits.accounts }
 
 -- ---- lawful journals
 
-pub lawful_tables_serve : (journal : Journal) (tables : Tables) (sheet : ℕ) → LawfulTablesServe journal tables sheet
-lawful_tables_serve journal tables sheet lawful are last =
-    facts_behind_serve (known_of journal tables sheet) journal (record { tables = are; sheets = refl; last = last }) (few-of-lawful journal lawful)
-
-tables-behind : (journal : Journal) (tables : Tables) (event : Event) (kind : EventKind) → event.kind ≡ kind → IsInRange kind → AreTablesOf journal tables → AreTablesOf (with_event journal event) (tables_after tables kind)
+pub tables-behind : (journal : Journal) (tables : Tables) (event : Event) (kind : EventKind) → event.kind ≡ kind → IsInRange kind → AreTablesOf journal tables → AreTablesOf (with_event journal event) (tables_after tables kind)
 tables-behind journal tables event kind is range are =
     subst (λ k. AreTablesOf (with_event journal event) (tables_after tables k)) is
     (tables_go_on journal tables event are (subst IsInRange (sym is) range))
 
 pub new_sheet_served : (journal : Journal) (tables : Tables) (event : Event) (form : SheetForm) (sheet : ℕ) → NewSheetServed journal tables event form sheet
 new_sheet_served journal tables event form sheet lawful is range are last =
-    lawful_tables_serve (with_event journal event) tables sheet lawful
-    (tables-behind journal tables event (EventKind.Sheet form) is range are) last
+    let later = with_event journal event in
+    facts_behind_serve (known_of later tables sheet) later
+    (record { tables = tables-behind journal tables event (EventKind.Sheet form) is range are; sheets = refl; last = last })
+    (few-of-lawful later lawful)
 
 -- ---- corrections on trial
 
@@ -155,36 +155,47 @@ order-range (EventKind.Void form) changes = tt
 order-range _ changes = absurd (true≢false (sym changes))
 
 -- where the table on trial has the sheets of the facts
-served-on-trial : (known : Known) (journal : Journal) (event : Event) → IsOnTrial journal event → AreFactsBehind known (with_event journal event) → ServeLastSheet known (book_behind (with_event journal event))
+pub served-on-trial : (known : Known) (journal : Journal) (event : Event) → IsOnTrial journal event → AreFactsBehind known (with_event journal event) → ServeLastSheet known (book_behind (with_event journal event))
 served-on-trial known journal event is are =
     facts_behind_serve known (with_event journal event) are (few-on-trial journal event is)
 
-pub order_correction_served : (journal : Journal) (tables : Tables) (event : Event) (sheet : ℕ) → OrderCorrectionServed journal tables event sheet
-order_correction_served journal tables event sheet is changes are last =
+pub behind-order : (journal : Journal) (tables : Tables) (event : Event) (sheet : ℕ) → IsOnTrial journal event → is_some (order_changed event.kind) ≡ true → AreTablesOf journal tables → IsLastSheet journal sheet → AreFactsBehind (known_of journal tables sheet) (with_event journal event)
+behind-order journal tables event sheet is changes are last =
     let table = table-on-trial journal event event.kind is refl ∙ order-table (book_behind journal).table event.moment event.kind changes in
-    served-on-trial (known_of journal tables sheet) journal event is
-    (record {
+    record {
       tables = order-tables (with_event journal event) tables event.kind changes (tables_go_on journal tables event are (order-range event.kind changes));
       sheets = sym (ap (λ (t : Table). t.sheets) table);
       last = last ∙ sym (ap (λ (t : Table). length t.sheets) table);
-    })
+    }
 
-pub rate_correction_served : (journal : Journal) (tables : Tables) (event : Event) (form : FixRateForm) (sheet : ℕ) → RateCorrectionServed journal tables event form sheet
-rate_correction_served journal tables event form sheet is by most are last =
+pub order_correction_served : (journal : Journal) (tables : Tables) (event : Event) (sheet : ℕ) → OrderCorrectionServed journal tables event sheet
+order_correction_served journal tables event sheet is changes are last =
+    served-on-trial (known_of journal tables sheet) journal event is (behind-order journal tables event sheet is changes are last)
+
+pub behind-rate : (journal : Journal) (tables : Tables) (event : Event) (form : FixRateForm) (sheet : ℕ) → IsOnTrial journal event → event.kind ≡ EventKind.FixRate form → form.rate ≤ 1000000000 → AreTablesOf journal tables → IsLastSheet journal sheet → AreFactsBehind (known_with_rates (known_of journal tables sheet) (with_fixed_rate tables.rates (row_of_fix form))) (with_event journal event)
+behind-rate journal tables event form sheet is by most are last =
     let table = table-on-trial journal event (EventKind.FixRate form) is by in
-    served-on-trial (known_with_rates (known_of journal tables sheet) (with_fixed_rate tables.rates (row_of_fix form))) journal event is
-    (record {
+    record {
       tables = tables-behind journal tables event (EventKind.FixRate form) by most are;
       sheets = sym (ap (λ (t : Table). t.sheets) table);
       last = last ∙ sym (ap (λ (t : Table). length t.sheets) table);
-    })
+    }
 
-pub price_correction_served : (journal : Journal) (tables : Tables) (event : Event) (form : FixPriceForm) (number sheet : ℕ) → PriceCorrectionServed journal tables event form number sheet
-price_correction_served journal tables event form number sheet is by fixes are last =
+pub rate_correction_served : (journal : Journal) (tables : Tables) (event : Event) (form : FixRateForm) (sheet : ℕ) → RateCorrectionServed journal tables event form sheet
+rate_correction_served journal tables event form sheet is by most are last =
+    served-on-trial (known_with_rates (known_of journal tables sheet) (with_fixed_rate tables.rates (row_of_fix form))) journal event is
+    (behind-rate journal tables event form sheet is by most are last)
+
+pub behind-price : (journal : Journal) (tables : Tables) (event : Event) (form : FixPriceForm) (number sheet : ℕ) → IsOnTrial journal event → event.kind ≡ EventKind.FixPrice form → FixesOnePrice journal form number → AreTablesOf journal tables → IsLastSheet journal sheet → AreFactsBehind (known_with_patch (known_of journal tables sheet) (patch_by form number)) (with_event journal event)
+behind-price journal tables event form number sheet is by fixes are last =
     let table = table-on-trial journal event (EventKind.FixPrice form) is by ∙ fixes.table in
-    served-on-trial (known_with_patch (known_of journal tables sheet) (patch_by form number)) journal event is
-    (record {
+    record {
       tables = tables-behind journal tables event (EventKind.FixPrice form) by tt are;
       sheets = sym (ap (λ (t : Table). t.sheets) table);
       last = last ∙ sym (ap (λ (t : Table). length t.sheets) table ∙ length-map (book_behind journal).table.sheets (corrected_sheet form.class number form.nav));
-    })
+    }
+
+pub price_correction_served : (journal : Journal) (tables : Tables) (event : Event) (form : FixPriceForm) (number sheet : ℕ) → PriceCorrectionServed journal tables event form number sheet
+price_correction_served journal tables event form number sheet is by fixes are last =
+    served-on-trial (known_with_patch (known_of journal tables sheet) (patch_by form number)) journal event is
+    (behind-price journal tables event form number sheet is by fixes are last)

@@ -8,7 +8,7 @@ use Rattle.agent_events.specs.declared.request.SheetForm.{SheetForm}
 use Rattle.checkpoint_replay.specs.Parts.{part_in}
 use Rattle.checkpoint_replay.specs.declared.part.HouseholdPart.{HouseholdPart}
 use Rattle.event_laws.proofs.PartsStay.{same_parts}
-use Rattle.event_laws.proofs.EventReplays.{adds_sheet}
+use Rattle.event_laws.proofs.EventReplays.{same-before, sheet-behind-all}
 use Rattle.event_laws.specs.EventReplays.{sheet_behind}
 use Rattle.forward_price.specs.declared.price_sheet.Sheet.{Sheet}
 use Rattle.household_fold.specs.Facts.{Known, no_sheet}
@@ -28,6 +28,9 @@ use Rattle.register_machine.specs.journal.Journals.{Journal, with_event}
 use Rattle.register_machine.specs.pricing.CorrectedBook.{Book}
 use Rattle.register_machine.specs.replay.Replay.{replay, replay_over, replay_to}
 use Rattle.register_machine.specs.replay.Trades.{Day}
+use Rattle.ledger_of_journals.specs.Ledgers.{IsLedgerOf}
+use Rattle.agent_events.specs.declared.event.EventKind.{EventKind}
+use Rattle.register_machine.specs.journal.Lawful.{IsLawful}
 
 -- a replay over all sheets is one up to the last
 pub up-to-last : (book : Book) → replay book ≡ replay_to book (length book.table.sheets)
@@ -77,14 +80,17 @@ module _ (known : Known) (rows : List NumberedOrder) (book : Book) (sheets : Lis
     };
   }
 
-pub ledger_advances : (known : Known) (rows : List NumberedOrder) (journal : Journal) (event : Event) (form : SheetForm) (parts : List (ℕ × HouseholdPart)) → LawfulLedgerAdvances known rows journal event form parts
-ledger_advances known rows journal event form parts lawful is serves are ledger =
-    let later = book_behind (with_event journal event) in
+-- the parts of the ledger are those of the book behind the sheet up to it
+pub shown-before : (journal : Journal) (event : Event) (form : SheetForm) (parts : List (ℕ × HouseholdPart)) → IsLawful (with_event journal event) → event.kind ≡ EventKind.Sheet form → IsLedgerOf (book_behind journal) parts → (household : ℕ) → part_in parts household ≡ part_of (book_behind (with_event journal event)).accounts household (replay_to (book_behind (with_event journal event)) (length (book_behind journal).table.sheets))
+shown-before journal event form parts lawful is ledger household =
     let sheets = (book_behind journal).table.sheets in
-    let adds = adds_sheet journal event lawful form is in
-    advances known rows later sheets (sheet_behind journal form) adds.sheets serves are parts (has_a_sound_book (with_event journal event) lawful)
-    (λ household.
     ledger.part household
     ∙ (ap (part_of (book_behind journal).accounts household) (up-to-last (book_behind journal))
     ∙ (sym (same_parts journal event (last-brought journal event lawful).0 (take (length sheets) sheets) household)
-    ∙ ap (part_of later.accounts household) (sym (adds.up_to (length sheets) (omega arith))))))
+    ∙ ap (part_of (book_behind (with_event journal event)).accounts household) (sym (same-before journal event lawful form is (length sheets) (omega arith)))))
+
+pub ledger_advances : (known : Known) (rows : List NumberedOrder) (journal : Journal) (event : Event) (form : SheetForm) (parts : List (ℕ × HouseholdPart)) → LawfulLedgerAdvances known rows journal event form parts
+ledger_advances known rows journal event form parts lawful is serves are ledger =
+    advances known rows (book_behind (with_event journal event)) (book_behind journal).table.sheets (sheet_behind journal form)
+    (sheet-behind-all journal event lawful form is) serves are parts (has_a_sound_book (with_event journal event) lawful)
+    (shown-before journal event form parts lawful is ledger)

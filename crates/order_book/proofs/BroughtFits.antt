@@ -29,7 +29,7 @@ use Rattle.register_machine.specs.rules.Identities.{brings_reference, has_refere
 use Rattle.register_machine.specs.rules.InOrder.{Rule, broken_rule, first_rules}
 use Rattle.register_machine.specs.rules.Limits.{brings_event}
 use Rattle.register_machine.specs.rules.Situations.{Situation, event_at}
-use Rattle.register_machine.specs.run.Verdicts.{due_now, repeats, verdict_by_event, verdict_by_place, verdict_by_right, verdict_by_rule}
+use Rattle.register_machine.specs.run.Verdicts.{due_now, repeats, verdict_by_event, verdict_by_place, verdict_by_right, verdict_by_rule, verdict}
 
 -- an order whose reference no event brings is new
 new-order : (journal : Journal) (order : Order) → list_any (brings_reference (order.account, order.ref_no)) journal ≡ false → is_new_order journal order ≡ true
@@ -56,7 +56,7 @@ brings-one (EventKind.Order placed) = by_source placed.source
     by_source Source.Dealer = refl
 brings-one _ = refl
 
-clear-fits : (journal : Journal) (now : ℕ) (caller : Caller) (kind : EventKind) (moment : ℕ) → IsLawful journal → broken_rule (own_at journal now caller) (request_of kind) ≡ None → FitsNext journal (record { moment = moment; kind = kind })
+pub clear-fits : (journal : Journal) (now : ℕ) (caller : Caller) (kind : EventKind) (moment : ℕ) → IsLawful journal → broken_rule (own_at journal now caller) (request_of kind) ≡ None → FitsNext journal (record { moment = moment; kind = kind })
 clear-fits journal now caller kind moment lawful clear = record {
   fits = record {
     new = new-name journal now caller kind (ref_parts situation (request_of kind) clear).0;
@@ -70,32 +70,41 @@ clear-fits journal now caller kind moment lawful clear = record {
     situation : Situation
     situation = own_at journal now caller
 
-pub fresh_fits : (journal : Journal) (now : ℕ) (caller : Caller) (request : Request) (event : Event) → FreshFits journal now caller request event
-fresh_fits journal now caller request event lawful = by_right (first_some (first_rules situation request))
-  where
-    situation : Situation
-    situation = own_at journal now caller
+-- what the machine brings breaks no rule, and is of the kind that the request asks for
+pub record Brings (situation : Situation) (request : Request) (event : Event) : Type 0 where
+  pub kind : EventKind
+  pub clear : broken_rule situation request ≡ None
+  pub brought : event_of request situation.now (due_now situation request) ≡ Some kind
+  pub same : event_at situation kind ≡ event
 
-    by_event : broken_rule situation request ≡ None → (brought : Option EventKind) → event_of request now (due_now situation request) ≡ brought → verdict_by_event situation brought ≡ Verdict.Fresh event → FitsNext journal event
+pub fresh-brought : (situation : Situation) (request : Request) (event : Event) → verdict situation request ≡ Verdict.Fresh event → Brings situation request event
+fresh-brought situation request event = by_right (first_some (first_rules situation request))
+  where
+    by_event : broken_rule situation request ≡ None → (brought : Option EventKind) → event_of request situation.now (due_now situation request) ≡ brought → verdict_by_event situation brought ≡ Verdict.Fresh event → Brings situation request event
     by_event clear None brings fresh = cc
-    by_event clear (Some kind) brings fresh =
-        subst (FitsNext journal) (fresh-event fresh)
-        (clear-fits journal now caller kind now lawful (ap (broken_rule situation) (asks request now (due_now situation request) kind brings) ∙ clear))
+    by_event clear (Some kind) brings fresh = record { kind = kind; clear = clear; brought = brings; same = fresh-event fresh }
       where
         fresh-event : Verdict.Fresh (event_at situation kind) ≡ Verdict.Fresh event → event_at situation kind ≡ event
         fresh-event e = cc
 
-    by_rule : (broken : Option Refusal) → broken_rule situation request ≡ broken → verdict_by_rule situation request broken ≡ Verdict.Fresh event → FitsNext journal event
+    by_rule : (broken : Option Refusal) → broken_rule situation request ≡ broken → verdict_by_rule situation request broken ≡ Verdict.Fresh event → Brings situation request event
     by_rule (Some refusal) is fresh = cc
-    by_rule None is fresh = by_event is (event_of request now (due_now situation request)) refl fresh
+    by_rule None is fresh = by_event is (event_of request situation.now (due_now situation request)) refl fresh
 
-    by_place : (place : Option ℕ) → verdict_by_place situation request place ≡ Verdict.Fresh event → FitsNext journal event
+    by_place : (place : Option ℕ) → verdict_by_place situation request place ≡ Verdict.Fresh event → Brings situation request event
     by_place (Some place) fresh = cc
     by_place None fresh = by_rule (broken_rule situation request) refl fresh
 
-    by_right : (refused : Option Refusal) → verdict_by_right situation request refused ≡ Verdict.Fresh event → FitsNext journal event
+    by_right : (refused : Option Refusal) → verdict_by_right situation request refused ≡ Verdict.Fresh event → Brings situation request event
     by_right (Some refusal) fresh = cc
-    by_right None fresh = by_place (position (repeats request) journal) fresh
+    by_right None fresh = by_place (position (repeats request) situation.journal) fresh
+
+pub fresh_fits : (journal : Journal) (now : ℕ) (caller : Caller) (request : Request) (event : Event) → FreshFits journal now caller request event
+fresh_fits journal now caller request event lawful fresh =
+    let situation = own_at journal now caller in
+    let is = fresh-brought situation request event fresh in
+    subst (FitsNext journal) is.same
+    (clear-fits journal now caller is.kind now lawful (ap (broken_rule situation) (asks request now (due_now situation request) is.kind is.brought) ∙ is.clear))
 
 pub lawful_fits : (journal : Journal) (event : Event) → LawfulFits journal event
 lawful_fits journal event lawful =

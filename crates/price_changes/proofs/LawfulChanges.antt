@@ -16,7 +16,7 @@ use Rattle.forward_price.specs.Turns.{expected_of, wrong_class}
 use Rattle.forward_price.specs.declared.price_sheet.Opening.{Opening}
 use Rattle.forward_price.specs.declared.price_sheet.Sheet.{Sheet}
 use Rattle.fund_calendar.specs.PricingDays.{CalendarRefusal, Listing}
-use Rattle.journal_tables.proofs.PricedSheets.{has_patch, one-number}
+use Rattle.journal_tables.proofs.PricedSheets.{is-listed, listed-patch, one-number}
 use Rattle.price_changes.specs.Changes.{CanChange, HasGoodCalendar, IsNextSheet, IsOfOneSheet}
 use Rattle.price_changes.specs.LawfulChanges.{LawfulChangesPrices}
 use Rattle.register_laws.proofs.Choosing.{not_when, some_none}
@@ -111,7 +111,7 @@ module _ (journal : Journal) (event : Event) (all : IsLawful (with_event journal
   clear-by : (kind : EventKind) → event.kind ≡ kind → broken_rule (own_at journal event.moment last.1.caller) (request_of kind) ≡ None
   clear-by kind is = subst (λ kind. broken_rule (own_at journal event.moment last.1.caller) (request_of kind) ≡ None) is last.1.clear
 
-  good-by : (kind : EventKind) → event.kind ≡ kind → HasGoodCalendar kind
+  pub good-by : (kind : EventKind) → event.kind ≡ kind → HasGoodCalendar kind
   good-by (EventKind.Calendar form) is =
       good-listing form.calendar (calendar_checked form)
       (second-clear (no_right (own_at journal event.moment last.1.caller) (Request.Calendar form)) (calendar_place (calendar_checked form))
@@ -142,7 +142,7 @@ module _ (journal : Journal) (event : Event) (all : IsLawful (with_event journal
   one-sheet-of : (form : FixPriceForm) → event.kind ≡ EventKind.FixPrice form → IsOfOneSheet (corrected_table journal) form
   one-sheet-of form is =
       let fixes = fixes_one_price journal event all form is in
-      let patch = has_patch journal event form all is in
+      let patch = listed-patch journal form (is-listed journal event all form is) in
       let same : fixes.0 ≡ patch.0 = one-number journal form fixes.0 patch.0 last.0 fixes.1.listed patch.1.priced in
       record {
         number = patch.0;
@@ -151,7 +151,7 @@ module _ (journal : Journal) (event : Event) (all : IsLawful (with_event journal
         fixed = subst (λ n. with_price_fixed form (corrected_table journal) ≡ with_correction (corrected_table journal) form.class n form.nav) same fixes.1.table;
       }
 
-  fits-by : (kind : EventKind) → event.kind ≡ kind → CanChange (corrected_table journal) kind
+  pub fits-by : (kind : EventKind) → event.kind ≡ kind → CanChange (corrected_table journal) kind
   fits-by (EventKind.Calendar form) is =
       subst (λ n. calendar_numbered (table_of journal).calendars n ≡ None) (sym (listing-number form))
       (calendar-unknown (table_of journal) form.calendar (number_free (own_at journal event.moment last.1.caller) (Request.Calendar form) (clear-by (EventKind.Calendar form) is)))

@@ -10,7 +10,7 @@ use Rattle.agent_events.specs.declared.reply.Reply.{Reply}
 use Rattle.agent_events.specs.declared.request.Request.{Request}
 use Rattle.share_lots.specs.Lots.{lots_with}
 use Rattle.register_laws.proofs.CorrectedAgain.{reply-again}
-use Rattle.register_laws.specs.Answers.{AppendsAtMostIt, IsAppended, QueryAppendsNothing, RefusalAppendsNothing, RepeatsItsFirst, SaysItsFirstReply, is_query}
+use Rattle.register_laws.specs.Answers.{AppendsAtMostIt, IsAppended, QueryAppendsNothing, RepeatsItsFirst, SaysItsFirstReply, is_query}
 use Rattle.register_machine.specs.journal.Choices.{first_some}
 use Rattle.register_machine.specs.pricing.CorrectedBook.{Book}
 use Rattle.register_machine.specs.pricing.PublishedTable.{table_of}
@@ -127,7 +127,7 @@ pub repeats_its_first : (situation : Situation) (request : Request) (place : ℕ
 repeats_its_first situation request place event allowed known there = rw (allowed, known, there) refl
 
 -- the reply to an event is no refusal
-no_refusal : (situation : Situation) (event : Event) (kind : EventKind) (refusal : Refusal) → reply_by situation.book.table situation.journal event kind ≡ Reply.Refused refusal → ⊥
+pub no_refusal : (situation : Situation) (event : Event) (kind : EventKind) (refusal : Refusal) → reply_by situation.book.table situation.journal event kind ≡ Reply.Refused refusal → ⊥
 no_refusal situation event (EventKind.Calendar form) why e = cc
 no_refusal situation event (EventKind.Close form) why e = cc
 no_refusal situation event (EventKind.Class form) why e = cc
@@ -143,11 +143,6 @@ no_refusal situation event (EventKind.FixRate form) why e = cc
 no_refusal situation event (EventKind.Enter form) why e = cc
 no_refusal situation event (EventKind.Replace form) why e = cc
 no_refusal situation event (EventKind.Void form) why e = cc
-
-pub refusal_appends_nothing : (situation : Situation) (request : Request) (refusal : Refusal) → RefusalAppendsNothing situation request refusal
-refusal_appends_nothing situation request refusal =
-    each-answer (λ ok_answer. ok_answer.reply ≡ Reply.Refused refusal → ok_answer.events ≡ []) situation request (λ reply e. refl)
-    (λ kind e refused. absurd (no_refusal situation (event_at situation kind) kind refusal refused))
 
 -- ---- the first reply
 

@@ -14,9 +14,9 @@ use Rattle.register_laws.proofs.CorrectedAgain.{book-again}
 use Rattle.register_laws.proofs.MomentsNeverFall.{last-more}
 use Rattle.register_laws.proofs.OneEventMore.{gathers-on}
 use Rattle.register_laws.proofs.Runs.{table-one}
-use Rattle.register_laws.proofs.RunsAreLawful.{IsAmong, answer_is_lawful, keyed-among}
+use Rattle.register_laws.proofs.RunsAreLawful.{IsAmong, answer_is_lawful}
 use Rattle.register_laws.specs.Lawful.{own_at}
-use Rattle.register_laws.specs.LawfulBatches.{BatchLeavesLawful, BatchLeavesRunLawful, batch_events}
+use Rattle.register_laws.specs.LawfulBatches.{batch_events}
 use Rattle.register_machine.specs.journal.Choices.{first_some}
 use Rattle.register_machine.specs.journal.Journals.{Journal, last_moment}
 use Rattle.register_machine.specs.journal.Kinds.{accounts_of, dealer_in, dealer_numbered, dealers_of}
@@ -24,12 +24,10 @@ use Rattle.register_machine.specs.journal.Lawful.{IsLawful}
 use Rattle.register_machine.specs.pricing.CorrectedBook.{Book, book_of}
 use Rattle.register_machine.specs.pricing.PublishedTable.{table_by, table_of}
 use Rattle.agent_events.specs.declared.verdict.Caller.{Caller}
-use Rattle.register_machine.specs.rules.Callers.{caller_of, dealer_may, serves}
+use Rattle.register_machine.specs.rules.Callers.{dealer_may, serves}
 use Rattle.register_machine.specs.rules.InOrder.{first_rules}
-use Rattle.register_machine.specs.rules.Situations.{situation_at}
 use Rattle.register_machine.specs.run.Answers.{answer, answer_asked}
 use Rattle.register_machine.specs.run.Batches.{BatchAnswer, batch_after_line, batch_answer, situation_behind}
-use Rattle.register_machine.specs.run.Scripts.{Run}
 use Rattle.register_machine.specs.run.Verdicts.{due_now}
 
 -- a dealer's line and a cancel change neither the price table nor the dealers
@@ -140,8 +138,10 @@ behind-lines journal now dealer so_far (asked ∷ lines) among behind =
     behind-lines journal now dealer (batch_after_line (own_at journal now (Caller.Dealer dealer)) so_far asked) lines among
     (behind-line journal now dealer so_far asked among behind)
 
-batch-by : (journal : Journal) (now : ℕ) (caller : Caller) (lines : List Asked) → IsAmong (dealers_of journal) caller → IsLawful journal → last_moment journal ≤ now → IsLawful (journal ++ batch_events (batch_answer (own_at journal now caller) (Ok lines)))
-batch-by journal now (Caller.Dealer dealer) lines among lawful late =
+-- whoever sends it, and whatever is read
+pub batch-by : (journal : Journal) (now : ℕ) (caller : Caller) (lines : Result (List Asked) ℕ) → IsAmong (dealers_of journal) caller → IsLawful journal → last_moment journal ≤ now → IsLawful (journal ++ batch_events (batch_answer (own_at journal now caller) lines))
+batch-by journal now caller (Err place) among lawful late = subst IsLawful (sym (append-nil journal)) lawful
+batch-by journal now (Caller.Dealer dealer) (Ok lines) among lawful late =
     (behind-lines journal now dealer (record { replies = []; events = [] }) lines among first).lawful
   where
     none : Keeps journal now []
@@ -154,16 +154,6 @@ batch-by journal now (Caller.Dealer dealer) lines among lawful late =
       table = none.table;
       dealers = none.dealers;
     }
-batch-by journal now Caller.Operator lines among lawful late = subst IsLawful (sym (append-nil journal)) lawful
-batch-by journal now (Caller.Household household) lines among lawful late = subst IsLawful (sym (append-nil journal)) lawful
-batch-by journal now Caller.Stranger lines among lawful late = subst IsLawful (sym (append-nil journal)) lawful
-
-pub batch_leaves_lawful : (operator : List ℕ) (journal : Journal) (now : ℕ) (key : List ℕ) (lines : Result (List Asked) ℕ) → BatchLeavesLawful operator journal now key lines
-batch_leaves_lawful operator journal now key (Ok lines) lawful late =
-    batch-by journal now (caller_of journal operator key) lines (keyed-among journal operator key) lawful late
-batch_leaves_lawful operator journal now key (Err place) lawful late = subst IsLawful (sym (append-nil journal)) lawful
-
-pub batch_leaves_run_lawful : (operator : List ℕ) (run : Run) (now : ℕ) (key : List ℕ) (lines : Result (List Asked) ℕ) → BatchLeavesRunLawful operator run now key lines
-batch_leaves_run_lawful operator run now key lines own lawful late =
-    subst (λ table. IsLawful (run.journal ++ batch_events (batch_answer (situation_at table run.journal now (caller_of run.journal operator key)) lines))) (sym own)
-    (batch_leaves_lawful operator run.journal now key lines lawful late)
+batch-by journal now Caller.Operator (Ok lines) among lawful late = subst IsLawful (sym (append-nil journal)) lawful
+batch-by journal now (Caller.Household household) (Ok lines) among lawful late = subst IsLawful (sym (append-nil journal)) lawful
+batch-by journal now Caller.Stranger (Ok lines) among lawful late = subst IsLawful (sym (append-nil journal)) lawful

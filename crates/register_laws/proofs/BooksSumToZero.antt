@@ -30,10 +30,9 @@ use Rattle.register_laws.proofs.CashBalances.{balances_to_zero}
 use Rattle.register_laws.proofs.Choosing.{some_none}
 use Rattle.register_laws.proofs.TradeParties.{KnownMovement, KnownOrder, KnownTarget, one-moved, replay-moves}
 use Rattle.register_laws.proofs.LawfulJournals.{brought, lawful-keeps}
-use Rattle.register_laws.proofs.NoIdentityTwice.{no_account_twice}
 use Rattle.register_laws.proofs.PartyFacts.{Known, booked_parties, figures-total, stands-once}
 use Rattle.register_laws.proofs.RulesByName.{not_broken}
-use Rattle.register_laws.specs.CashBooks.{BooksSumToZero, IsBetween, books_total, total_balance}
+use Rattle.register_laws.specs.CashBooks.{IsBetween, books_total, total_balance}
 use Rattle.register_laws.specs.Identities.{NoAccountTwice, has_number, is_class, is_dealer}
 use Rattle.register_laws.specs.Lawful.{IsBrought, own_at}
 use Rattle.register_machine.specs.corrections.Cash.{Movement, balance, movements_of, outstanding}
@@ -191,7 +190,7 @@ new-known journal now caller moment (EventKind.Cancel form) there = record { ord
 new-known journal now caller moment (EventKind.Sheet form) there = record { order = tt; bearer = tt }
 new-known journal now caller moment (EventKind.Dividend form) there = record { order = tt; bearer = tt }
 
-AllKnown : Journal → Type 0
+pub AllKnown : Journal → Type 0
 AllKnown journal = All (KnownEvent (Known journal)) journal
 
 known-step : (journal : Journal) (event : Event) → IsLawful journal → IsBrought journal event → AllKnown journal → AllKnown (with_event journal event)
@@ -206,7 +205,7 @@ known-step journal event lawful brought all =
     (new-known journal event.moment brought.caller event.moment event.kind
     (all-there situation (request_of event.kind) (not_broken situation (request_of event.kind) brought.clear Rule.NoSuch))))
 
-all-known : (journal : Journal) → IsLawful journal → AllKnown journal
+pub all-known : (journal : Journal) → IsLawful journal → AllKnown journal
 unfolding AllKnown
 all-known journal lawful = lawful-keeps AllKnown known-step (All-nil (KnownEvent (Known []))) journal lawful
 
@@ -299,7 +298,7 @@ booked-moves table journal all =
     (orders-as (KnownOrder (Known journal)) journal (λ k d short. (all k d short).order))))
     (payments-move journal empty_table [] journal refl all)
 
-booked-zero : (situation : Situation) → situation.book ≡ book_of (table_of situation.journal) situation.journal → AllKnown situation.journal → NoAccountTwice situation.journal → (books : BooksReply) → books_reply situation ≡ Reply.Books books → books_total books ≡ pos 0
+pub booked-zero : (situation : Situation) → situation.book ≡ book_of (table_of situation.journal) situation.journal → AllKnown situation.journal → NoAccountTwice situation.journal → (books : BooksReply) → books_reply situation ≡ Reply.Books books → books_total books ≡ pos 0
 booked-zero situation own all once books e =
     let day = replay situation.book in
     let journal = situation.journal in
@@ -338,7 +337,7 @@ no_books table journal event (EventKind.Replace form) books e = cc
 no_books table journal event (EventKind.Void form) books e = cc
 
 -- books that are answered are the books
-answers-books : (situation : Situation) (books : BooksReply) → (answer situation Request.Books).reply ≡ Reply.Books books → books_reply situation ≡ Reply.Books books
+pub answers-books : (situation : Situation) (books : BooksReply) → (answer situation Request.Books).reply ≡ Reply.Books books → books_reply situation ≡ Reply.Books books
 answers-books situation books = by_right (first_some (first_rules situation Request.Books))
   where
     refused : (why : Refusal) → Reply.Refused why ≡ Reply.Books books → ⊥
@@ -360,8 +359,3 @@ answers-books situation books = by_right (first_some (first_rules situation Requ
     by_right : (broken : Option Refusal) → (answer_by situation Request.Books (verdict_by_right situation Request.Books broken)).reply ≡ Reply.Books books → books_reply situation ≡ Reply.Books books
     by_right None e = by_place (position (repeats Request.Books) situation.journal) e
     by_right (Some why) e = absurd (refused why e)
-
-pub books_sum_to_zero : (journal : Journal) → IsLawful journal → BooksSumToZero journal
-books_sum_to_zero journal lawful now caller books e =
-    let situation = own_at journal now caller in
-    booked-zero situation refl (all-known journal lawful) (no_account_twice journal lawful) books (answers-books situation books e)

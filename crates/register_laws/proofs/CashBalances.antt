@@ -6,14 +6,11 @@ use Rattle.std.proofs.lemmas.List.Elements.{All-cons, All-head, All-nil, All-tai
 use Rattle.std.proofs.lemmas.List.Sums.{sum_by-cons}
 use Rattle.std.specs.List.{list_any}
 use Rattle.agent_events.specs.declared.order.Party.{Party}
-use Rattle.forward_price.specs.PriceTables.{Table}
 use Rattle.register_laws.proofs.Comparisons.{eq-yes}
 use Rattle.register_laws.proofs.Sums.{passing, sums-exchange}
-use Rattle.register_laws.specs.CashBooks.{Balances, BalancesToZero, BookedBalances, IsBetween, ReplayBalances, parties_of, times_among, with_both, with_party}
-use Rattle.register_machine.specs.corrections.Cash.{Movement, balance, cents_paid, cents_paid_in, cents_received, cents_received_in, cash_movement, movements_of, same_party}
-use Rattle.register_machine.specs.corrections.Payments.{booked_movements}
-use Rattle.register_machine.specs.journal.Journals.{Journal}
-use Rattle.register_machine.specs.pricing.CorrectedBook.{Book, book_of}
+use Rattle.register_laws.specs.CashBooks.{Balances, BalancesToZero, IsBetween, ReplayBalances, parties_of, times_among, with_both, with_party}
+use Rattle.register_machine.specs.corrections.Cash.{Movement, balance, cents_paid, cents_paid_in, cents_received, cents_received_in, movements_of, same_party}
+use Rattle.register_machine.specs.pricing.CorrectedBook.{Book}
 use Rattle.register_machine.specs.replay.Replay.{replay}
 
 -- what a movement brings those among whom its taker stands once
@@ -164,13 +161,10 @@ all-between parties (x ∷ xs) few =
     })
     (all-between (with_both parties x) xs (both-few parties x few))
 
-movements-balance : (movements : List Movement) → Balances movements
+pub movements-balance : (movements : List Movement) → Balances movements
 unfolding FewParties
 movements-balance movements =
     balances_to_zero (parties_of movements) movements (all-between [] movements (λ party. omega arith))
 
 pub replay_balances : (book : Book) → ReplayBalances book
 replay_balances book = movements-balance (movements_of (replay book).trades)
-
-pub booked_balances : (table : Table) (journal : Journal) → BookedBalances table journal
-booked_balances table journal = movements-balance (booked_movements journal (replay (book_of table journal)))

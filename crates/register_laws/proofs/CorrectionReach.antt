@@ -25,7 +25,7 @@ use Rattle.register_laws.proofs.ReplayedAlone.{replayed_alone}
 use Rattle.register_laws.proofs.StepsAlike.{Counts}
 use Rattle.register_laws.proofs.TablesAreOrderly.{lists-corrected}
 use Rattle.register_laws.proofs.Tests.{last-of-more, not-true}
-use Rattle.register_laws.specs.CorrectionReach.{AreDated, IsBeforePrice, PriceLeavesBefore, PriceLeavesOthers, RateLeavesBefore, RateLeavesOthers, book_with_price, book_with_rate, names_class}
+use Rattle.register_laws.specs.CorrectionReach.{AreDated, IsBeforePrice, PriceLeavesBefore, RateLeavesBefore, book_with_price, book_with_rate, names_class, LeavesPart}
 use Rattle.register_laws.specs.Households.{own_book, part_of}
 use Rattle.register_machine.specs.journal.Choices.{last_of}
 use Rattle.register_machine.specs.pricing.CorrectedBook.{Book, sheet_of}
@@ -36,6 +36,7 @@ use Rattle.register_machine.specs.pricing.OrderClasses.{class_of, classes_in, ta
 use Rattle.register_machine.specs.pricing.PublishedTable.{moment_of}
 use Rattle.register_machine.specs.rules.NamedThings.{lists_at}
 use Rattle.register_machine.specs.replay.Replay.{Priced, orders_on, priced_in, priced_orders, replay, replay_over}
+use Rattle.agent_events.specs.declared.request.AccountForm.{AccountForm}
 
 -- every class but one
 abbrev apart_from : ℕ → ℕ → Bool
@@ -56,6 +57,22 @@ body-apart class row e =
     by_target (Some other) to is none =
         let same : other ≡ to = cc in
         ap (λ n. n == class) (sym same) ∙ (or_parts (other == class) false none).0
+
+-- ---- the part of a household
+
+-- another book of the same accounts leaves it where the household's own books replay alike, each over its sheets
+pub leaves-part : (book other : Book) (household : ℕ) (corrected : List Sheet → List Sheet) → other.accounts ≡ book.accounts → other.table.sheets ≡ corrected book.table.sheets → ((number : ℕ) → take number (corrected book.table.sheets) ≡ corrected (take number book.table.sheets)) → ((sheets : List Sheet) → replay_over (own_book household book) sheets ≡ replay_over (own_book household other) (corrected sheets)) → LeavesPart book other household
+unfolding replay
+leaves-part book other household corrected accounts listed front alike =
+    let over : (sheets : List Sheet) → part_of book.accounts household (replay_over other (corrected sheets)) ≡ part_of book.accounts household (replay_over book sheets) = λ sheets.
+    ap (λ (own : List AccountForm). part_of own household (replay_over other (corrected sheets))) (sym accounts)
+    ∙ (replayed_alone other household (corrected sheets) ∙ (sym (alike sheets) ∙ sym (replayed_alone book household sheets))) in
+    record {
+      whole = ap (λ sheets. part_of book.accounts household (replay_over other sheets)) listed ∙ over book.table.sheets;
+      up_to = λ number.
+          ap (λ sheets. part_of book.accounts household (replay_over other sheets)) (ap (take number) listed ∙ front number)
+          ∙ over (take number book.table.sheets);
+    }
 
 -- ---- a corrected price
 
@@ -127,7 +144,7 @@ terms-price : (form : FixPriceForm) (book : Book) → TermsAlike book (book_with
 terms-price form book = record { front = λ class. refl; schedule = λ class. refl; counted = λ class. refl; household = λ account. refl }
 
 -- a book that names the class nowhere
-price-replay : (form : FixPriceForm) (book : Book) → list_any (names_class form.class) (filter stands book.orders) ≡ false → (sheets : List Sheet) → replay_over book sheets ≡ replay_over (book_with_price form book) (map (sheet_as_corrected (form ∷ [])) sheets)
+pub price-replay : (form : FixPriceForm) (book : Book) → list_any (names_class form.class) (filter stands book.orders) ≡ false → (sheets : List Sheet) → replay_over book sheets ≡ replay_over (book_with_price form book) (map (sheet_as_corrected (form ∷ [])) sheets)
 price-replay form book nowhere sheets =
     classes-replay book (book_with_price form book) (apart_from form.class) (terms-price form book) (fixed form) (λ sheet price. refl)
     (All-weaker (λ (row : OrderRow). names_class form.class row ≡ false) (λ (row : OrderRow). BodyCounts (Counts (apart_from form.class)) row.order.body) (body-apart form.class) (filter stands book.orders) (none-all (names_class form.class) (filter stands book.orders) nowhere))
@@ -143,19 +160,6 @@ price-replay form book nowhere sheets =
       orders = ap (λ priced. orders_on priced sheet) (price-orders form book);
     }
 
-pub price_leaves_others : (book : Book) (form : FixPriceForm) (household : ℕ) → PriceLeavesOthers book form household
-unfolding replay
-price_leaves_others book form household nowhere =
-    let own = own_book household book in
-    let over = λ (sheets : List Sheet). replayed_alone (book_with_price form book) household (map (sheet_as_corrected (form ∷ [])) sheets)
-    ∙ (sym (price-replay form own nowhere sheets) ∙ sym (replayed_alone book household sheets)) in
-    record {
-      whole = over book.table.sheets;
-      up_to = λ number.
-          ap (λ sheets. part_of book.accounts household (replay_over (book_with_price form book) sheets)) (take-map (sheet_as_corrected (form ∷ [])) number book.table.sheets)
-          ∙ over (take number book.table.sheets);
-    }
-
 -- ---- a corrected rate
 
 rate-apart : (form : FixRateForm) (book : Book) (class moment : ℕ) → (form.class == class) ≡ false → rate_at book.rates class moment ≡ rate_at (book_with_rate form book).rates class moment
@@ -164,7 +168,7 @@ rate-apart form book class moment off =
     (ap (λ found. option_map_or (λ (f : FixRateForm). f.rate) found (rate_declared book.rates class moment))
     (last-of-more (fixes_rate class moment) book.rates.fixed form ∙ ap (λ b. cond (b && form.moment == moment) (Some form) (last_of (fixes_rate class moment) book.rates.fixed)) off))
 
-rate-replay : (form : FixRateForm) (book : Book) → list_any (names_class form.class) (filter stands book.orders) ≡ false → (sheets : List Sheet) → replay_over book sheets ≡ replay_over (book_with_rate form book) sheets
+pub rate-replay : (form : FixRateForm) (book : Book) → list_any (names_class form.class) (filter stands book.orders) ≡ false → (sheets : List Sheet) → replay_over book sheets ≡ replay_over (book_with_rate form book) sheets
 rate-replay form book nowhere sheets =
     classes-replay book (book_with_rate form book) (apart_from form.class) (record { front = λ class. refl; schedule = λ class. refl; counted = λ class. refl; household = λ account. refl }) (λ sheet price. price) (λ sheet price. refl)
     (All-weaker (λ (row : OrderRow). names_class form.class row ≡ false) (λ (row : OrderRow). BodyCounts (Counts (apart_from form.class)) row.order.body) (body-apart form.class) (filter stands book.orders) (none-all (names_class form.class) (filter stands book.orders) nowhere))
@@ -184,13 +188,6 @@ rate-replay form book nowhere sheets =
     unchanged (sheet ∷ sheets) =
         ap (λ prices. with_prices sheet prices ∷ map (sheet_with (λ sheet price. price)) sheets) (map-id sheet.prices)
         ∙ ap (λ rest. sheet ∷ rest) (unchanged sheets)
-
-pub rate_leaves_others : (book : Book) (form : FixRateForm) (household : ℕ) → RateLeavesOthers book form household
-unfolding replay
-rate_leaves_others book form household nowhere =
-    let own = own_book household book in
-    let over = λ (sheets : List Sheet). replayed_alone (book_with_rate form book) household sheets ∙ (sym (rate-replay form own nowhere sheets) ∙ sym (replayed_alone book household sheets)) in
-    record { whole = over book.table.sheets; up_to = λ number. over (take number book.table.sheets) }
 
 -- ---- before the corrected price, and before the corrected rate
 

@@ -11,7 +11,7 @@ use Rattle.agent_events.specs.Fields.{prices, within}
 use Rattle.agent_events.specs.declared.request.FixPriceForm.{FixPriceForm}
 use Rattle.agent_events.specs.declared.request.Request.{Request}
 use Rattle.forward_price.proofs.TurnFacts.{none_negative}
-use Rattle.forward_price.specs.PriceTables.{AreNumbered, Table, corrected_price, corrected_sheet, with_prices, with_sheets}
+use Rattle.forward_price.specs.PriceTables.{AreNumbered, Table, corrected_price, corrected_sheet, with_prices, with_sheets, with_correction}
 use Rattle.forward_price.specs.Sheets.{lists_class}
 use Rattle.forward_price.specs.Turns.{is_offered_at, must_list, pricing_pairs}
 use Rattle.forward_price.specs.declared.price_sheet.Opening.{Opening}
@@ -24,14 +24,15 @@ use Rattle.register_laws.proofs.TablesGoOn.{prices-kept}
 use Rattle.register_laws.proofs.Tests.{any-with, is-false}
 use Rattle.register_laws.proofs.ViewsGoOn.{turned}
 use Rattle.register_laws.specs.Lawful.{IsBrought, own_at}
-use Rattle.register_laws.specs.OneEventMore.{LawfulFixesOnePrice, corrected_table}
+use Rattle.register_laws.specs.OneEventMore.{LawfulFixesOnePrice, corrected_table, with_price_fixed}
 use Rattle.forward_price.specs.Orderly.{IsOrderly}
-use Rattle.register_machine.specs.journal.Journals.{Journal}
+use Rattle.register_machine.specs.journal.Journals.{Journal, with_event}
 use Rattle.register_machine.specs.journal.Lawful.{IsLawful}
 use Rattle.register_machine.specs.pricing.CorrectedPrices.{price_as_corrected, sheet_as_corrected}
 use Rattle.register_machine.specs.pricing.PublishedTable.{moment_of}
 use Rattle.register_machine.specs.rules.InOrder.{Rule, broken_rule}
 use Rattle.register_machine.specs.rules.NamedThings.{lists_at, things_named}
+use Rattle.agent_events.specs.declared.event.EventKind.{EventKind}
 
 -- ---- places
 
@@ -209,30 +210,36 @@ sheet-fixed t form number orderly numbers listed k d short =
         (ap (λ b. b || false)
         (is-false (moment_of (get_or t.sheets k d) == form.moment && lists_class (get_or t.sheets k d).prices form.class) (twice e))))
 
-pub fixes_one_price : (journal : Journal) (event : Event) → LawfulFixesOnePrice journal event
-fixes_one_price journal event all form is = (
+-- a correction of a price is brought for a sheet that lists its class at its moment, and this has a number
+pub has-sheet : (journal : Journal) (event : Event) → IsLawful (with_event journal event) → (form : FixPriceForm) → event.kind ≡ EventKind.FixPrice form → (number : ℕ) × (list_any (λ sheet. sheet.number == number && lists_at form.class form.moment sheet) (corrected_table journal).sheets ≡ true)
+has-sheet journal event all form is = (
   sheet.0.number,
-  record {
-    listed = listed;
-    table = ap (with_sheets (corrected_table journal))
-        (maps-alike (sheet_as_corrected (form ∷ [])) (corrected_sheet form.class sheet.0.number form.nav) (corrected_table journal).sheets
-        (sheet-fixed (corrected_table journal) form sheet.0.number (orderly_tables journal last.0).corrected (numbered journal last.0).corrected listed));
-  },
+  sheet.2 (λ s. s.number == sheet.0.number && lists_at form.class form.moment s)
+      (ap (λ b. b && lists_at form.class form.moment sheet.0) (eq-eqb sheet.0.number sheet.0.number refl) ∙ sheet.1),
 )
   where
-    last : IsLawful journal × IsBrought journal event
-    last = last-brought journal event all
+    brought : IsBrought journal event
+    brought = (last-brought journal event all).1
 
     priced : list_any (lists_at form.class form.moment) (corrected_table journal).sheets ≡ true
     priced =
-        (all-named (things_named (own_at journal event.moment last.1.caller) (Request.FixPrice form))
-        (not_broken (own_at journal event.moment last.1.caller) (Request.FixPrice form)
-        (subst (λ kind. broken_rule (own_at journal event.moment last.1.caller) (request_of kind) ≡ None) is last.1.clear) Rule.NoSuch)).1.1.0
+        (all-named (things_named (own_at journal event.moment brought.caller) (Request.FixPrice form))
+        (not_broken (own_at journal event.moment brought.caller) (Request.FixPrice form)
+        (subst (λ kind. broken_rule (own_at journal event.moment brought.caller) (request_of kind) ≡ None) is brought.clear) Rule.NoSuch)).1.1.0
 
     sheet : (sheet : Sheet) × (lists_at form.class form.moment sheet ≡ true) × ((other : Sheet → Bool) → other sheet ≡ true → list_any other (corrected_table journal).sheets ≡ true)
     sheet = any-with (lists_at form.class form.moment) (corrected_table journal).sheets priced
 
-    listed : list_any (λ s. s.number == sheet.0.number && lists_at form.class form.moment s) (corrected_table journal).sheets ≡ true
-    listed =
-        sheet.2 (λ s. s.number == sheet.0.number && lists_at form.class form.moment s)
-        (ap (λ b. b && lists_at form.class form.moment sheet.0) (eq-eqb sheet.0.number sheet.0.number refl) ∙ sheet.1)
+-- it fixes the price of that sheet alone
+pub fixes-it-alone : (journal : Journal) (form : FixPriceForm) (number : ℕ) → IsLawful journal → list_any (λ sheet. sheet.number == number && lists_at form.class form.moment sheet) (corrected_table journal).sheets ≡ true → with_price_fixed form (corrected_table journal) ≡ with_correction (corrected_table journal) form.class number form.nav
+fixes-it-alone journal form number lawful listed =
+    ap (with_sheets (corrected_table journal))
+    (maps-alike (sheet_as_corrected (form ∷ [])) (corrected_sheet form.class number form.nav) (corrected_table journal).sheets
+    (sheet-fixed (corrected_table journal) form number (orderly_tables journal lawful).corrected (numbered journal lawful).corrected listed))
+
+pub fixes_one_price : (journal : Journal) (event : Event) → LawfulFixesOnePrice journal event
+fixes_one_price journal event all form is =
+    let sheet = has-sheet journal event all form is in (
+      sheet.0,
+      record { listed = sheet.1; table = fixes-it-alone journal form sheet.0 (last-brought journal event all).0 sheet.1 },
+    )

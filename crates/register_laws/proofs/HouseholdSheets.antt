@@ -1,5 +1,5 @@
 -- A quiet sheet leaves the part of a household as it was, and its part goes on from any sheet.
-use Rattle.std.proofs.Common.{All, Bool, List, Option, [], ap, cond, false, filter, find, fold, get_or, map, not, refl, subst, sym, take, drop, true, unwrap_or, ℕ, ◌&&◌, ◌++◌, ◌==◌, ◌||◌, ◌∙◌, ◌∷◌, ◌≡◌}
+use Rattle.std.proofs.Common.{All, Bool, List, Option, [], ap, cond, false, filter, find, fold, get_or, map, not, refl, subst, sym, take, drop, true, unwrap_or, ℕ, ◌&&◌, ◌++◌, ◌==◌, ◌||◌, ◌∙◌, ◌∷◌, ◌≡◌, ◌≤◌}
 use Rattle.std.proofs.lemmas.Bool.{eqb-true, or_parts, true≢false}
 use Rattle.std.proofs.lemmas.List.{take-append-drop, take-take}
 use Rattle.std.proofs.lemmas.List.Elements.{All-cons, All-filter, All-head, All-map, All-nil, All-tail, filter_passes}
@@ -12,8 +12,8 @@ use Rattle.register_laws.proofs.Comparisons.{eq-yes}
 use Rattle.register_laws.proofs.ListParts.{filter-none}
 use Rattle.register_laws.proofs.PositionsInOrder.{own-place, same-place}
 use Rattle.register_laws.proofs.ReplayedAlone.{orders-part, replayed_alone}
-use Rattle.register_laws.specs.HouseholdSheets.{CorrectedPartGoesOn, PartGoesOn, QuietLeavesPart, is_paid_at, is_paid_in, is_paid_on, pays_something, replay_from, sheets_between}
-use Rattle.register_laws.specs.Households.{own_book}
+use Rattle.register_laws.specs.HouseholdSheets.{QuietLeavesPart, is_paid_at, is_paid_in, is_paid_on, pays_something, IsQuiet, replay_from, sheets_between}
+use Rattle.register_laws.specs.Households.{own_book, own_orders, part_of}
 use Rattle.register_machine.specs.pricing.CorrectedBook.{Book}
 use Rattle.register_machine.specs.pricing.DividendRates.{rate_at}
 use Rattle.register_machine.specs.pricing.PublishedTable.{moment_of}
@@ -21,7 +21,7 @@ use Rattle.register_machine.specs.replay.DayStep.{day_step}
 use Rattle.register_machine.specs.replay.Dividend.{day_after_class, day_after_dividend, day_after_dividends, day_after_payment, day_after_rate, is_of_class, keys_of_class, payment_on}
 use Rattle.register_machine.specs.replay.Letter.{day_after_letter_end, day_after_letter_ends, has_letter_over}
 use Rattle.register_machine.specs.replay.Positions.{Position, PositionKey, fresh_position, is_position, key_of, position_at}
-use Rattle.register_machine.specs.replay.Replay.{day_after_sheet, first_day, priced_orders, replay_over}
+use Rattle.register_machine.specs.replay.Replay.{day_after_sheet, first_day, priced_orders, replay_over, orders_on, replay_to}
 use Rattle.register_machine.specs.replay.Trades.{Day}
 use Rattle.dividend_reinvest.specs.declared.payment.Payment.TheVariants as pays
 
@@ -99,33 +99,28 @@ module _ (book : Book) (sheet : Sheet) (day : Day) (unpaid : list_any (is_paid_o
       ap (day_after_letter_ends book sheet) idle-dividends
       ∙ ap (λ (some : List Position). fold (day_after_letter_end book sheet) day (map key_of some)) (filter-none (has_letter_over sheet) day.register (none-all (has_letter_over sheet) day.register none_ends))
 
-pub quiet_leaves_part : (book : Book) (household : ℕ) (before : List Sheet) (sheet : Sheet) → QuietLeavesPart book household before sheet
-quiet_leaves_part book household before sheet quiet =
+-- the household's own book replays nothing there
+pub quiet-replay : (book : Book) (household : ℕ) (before : List Sheet) (sheet : Sheet) → IsQuiet book sheet (own_orders book.accounts household (orders_on (priced_orders book) sheet)) (part_of book.accounts household (replay_over book before)).register → replay_over (own_book household book) (before ++ sheet ∷ []) ≡ replay_over (own_book household book) before
+quiet-replay book household before sheet quiet =
     let own = own_book household book in
     let alone = replayed_alone book household before in
     let part = replay_over own before in
     let rows = orders-part book household sheet ∙ quiet.0 in
     let unpaid = subst (λ (day : Day). list_any (is_paid_on book sheet) day.register ≡ false) alone quiet.1 in
     let none_ends = subst (λ (day : Day). list_any (has_letter_over sheet) day.register ≡ false) alone quiet.2 in
+    fold-append (day_after_sheet own (priced_orders own)) first_day before (sheet ∷ [])
+    ∙ (ap (λ some. day_step own sheet some part) rows ∙ idle-sheet own sheet part unpaid none_ends)
+
+pub quiet_leaves_part : (book : Book) (household : ℕ) (before : List Sheet) (sheet : Sheet) → QuietLeavesPart book household before sheet
+quiet_leaves_part book household before sheet quiet =
     replayed_alone book household (before ++ sheet ∷ [])
-    ∙ (fold-append (day_after_sheet own (priced_orders own)) first_day before (sheet ∷ [])
-    ∙ (ap (λ some. day_step own sheet some part) rows ∙ (idle-sheet own sheet part unpaid none_ends ∙ sym alone)))
+    ∙ (quiet-replay book household before sheet quiet ∙ sym (replayed_alone book household before))
 
 -- ---- from a checkpoint
 
-pub part_goes_on : (book : Book) (household from to : ℕ) → PartGoesOn book household from to
-part_goes_on book household from to early =
-    let own = own_book household book in
+-- the replay of a book up to a sheet goes on from that up to an earlier one
+pub goes-on : (book : Book) (from to : ℕ) → from ≤ to → replay_to book to ≡ replay_from book (replay_to book from) (sheets_between book from to)
+goes-on book from to early =
     let sheets = book.table.sheets in
-    let step = day_after_sheet own (priced_orders own) in
-    let cut : take to sheets ≡ take from sheets ++ drop from (take to sheets) =
-    sym (take-append-drop from (take to sheets)) ∙ ap (λ front. front ++ drop from (take to sheets)) (take-take from to sheets early) in
-    replayed_alone book household (take to sheets)
-    ∙ (ap (replay_over own) cut
-    ∙ (fold-append step first_day (take from sheets) (drop from (take to sheets))
-    ∙ ap (λ day. fold step day (drop from (take to sheets))) (sym (replayed_alone book household (take from sheets)))))
-
-pub corrected_part_goes_on : (book other : Book) (household from to : ℕ) → CorrectedPartGoesOn book other household from to
-corrected_part_goes_on book other household from to early same =
-    part_goes_on other household from to early
-    ∙ ap (λ day. replay_from (own_book household other) day (sheets_between other from to)) same
+    ap (replay_over book) (sym (take-append-drop from (take to sheets)) ∙ ap (λ front. front ++ drop from (take to sheets)) (take-take from to sheets early))
+    ∙ fold-append (day_after_sheet book (priced_orders book)) first_day (take from sheets) (drop from (take to sheets))

@@ -1,5 +1,5 @@
 -- Totals over all are the sums over the households, since each order of a lawful journal is of exactly one.
-use Rattle.std.proofs.Common.{All, Bool, List, Option, Some, [], ap, arith, cond, count_by, false, filter, find, flat_map, fold, refl, subst, sum_by, sym, take, true, ℕ, ◌*◌, ◌+◌, ◌==◌, ◌||◌, ◌∙◌, ◌∷◌, ◌≡◌, ◌≤◌}
+use Rattle.std.proofs.Common.{All, Bool, List, Option, Some, [], ap, arith, cond, count_by, false, filter, find, flat_map, fold, refl, subst, sum_by, sym, true, ℕ, ◌*◌, ◌+◌, ◌==◌, ◌||◌, ◌∙◌, ◌∷◌, ◌≡◌, ◌≤◌}
 use Rattle.std.proofs.lemmas.Bool.{and_parts, eq-eqb, eqb-true, true≢false}
 use Rattle.std.proofs.lemmas.List.Elements.{All-filter, All-weaker, All-cons, All-nil}
 use Rattle.std.proofs.lemmas.List.Sums.{length-filter, sum_by-append, sum_by-cons}
@@ -17,7 +17,7 @@ use Rattle.register_laws.proofs.KnownAccounts.{known-replay}
 use Rattle.register_laws.proofs.NamesStand.{names_stand}
 use Rattle.register_laws.proofs.NoIdentityTwice.{no_household_twice}
 use Rattle.register_laws.proofs.Sums.{count-map, passing, sum-filtered, sum-same, sums-exchange}
-use Rattle.register_laws.specs.HouseholdSums.{IsSumOfParts, LawfulSumsOverHouseholds, cash_in_parts, household_numbers, outstanding_in_parts, times_owned}
+use Rattle.register_laws.specs.HouseholdSums.{IsSumOfParts, cash_in_parts, household_numbers, outstanding_in_parts, times_owned}
 use Rattle.register_laws.specs.Households.{is_of_household, is_own_position, is_own_trade, part_of}
 use Rattle.register_laws.specs.Identities.{has_number, is_class, is_household}
 use Rattle.register_laws.specs.Lawful.{book_behind}
@@ -29,7 +29,7 @@ use Rattle.register_machine.specs.pricing.OrderClasses.{classes_in}
 use Rattle.register_machine.specs.journal.Lawful.{IsLawful}
 use Rattle.register_machine.specs.pricing.CorrectedOrders.{orders_of, stands}
 use Rattle.register_machine.specs.replay.Positions.{Position}
-use Rattle.register_machine.specs.replay.Replay.{replay, replay_over}
+use Rattle.register_machine.specs.replay.Replay.{replay_over}
 use Rattle.register_machine.specs.replay.Trades.{Day}
 
 -- ---- sums over parts
@@ -133,7 +133,7 @@ module _ (accounts : List AccountForm) (households : List ℕ) (day : Day) (posi
 
 -- ---- a lawful journal's
 
-orders-once : (journal : Journal) → IsLawful journal → All (λ (row : OrderRow). times_owned (accounts_of journal) (household_numbers journal) row.order.account ≡ 1) (orders_of journal)
+pub orders-once : (journal : Journal) → IsLawful journal → All (λ (row : OrderRow). times_owned (accounts_of journal) (household_numbers journal) row.order.account ≡ 1) (orders_of journal)
 orders-once journal lawful = each (orders_of journal) (names_stand journal lawful).orders
   where
     each : (rows : List OrderRow) → list_all (λ row. is_placed_in journal row.order) rows ≡ true → All (λ (row : OrderRow). times_owned (accounts_of journal) (household_numbers journal) row.order.account ≡ 1) rows
@@ -144,7 +144,7 @@ orders-once journal lawful = each (orders_of journal) (names_stand journal lawfu
         (owned-once journal lawful row.order.account (and_parts (list_any (has_number row.order.account) (accounts_of journal)) (list_all (λ class. list_any (is_class class) (classes_of journal)) (classes_in row.order.body)) both.0).0)
         (each rows both.1)
 
-day-sums : (journal : Journal) → IsLawful journal → (sheets : List Sheet) → IsSumOfParts journal (replay_over (book_behind journal) sheets)
+pub day-sums : (journal : Journal) → IsLawful journal → (sheets : List Sheet) → IsSumOfParts journal (replay_over (book_behind journal) sheets)
 day-sums journal lawful sheets =
     let accounts = accounts_of journal in
     let households = household_numbers journal in
@@ -155,11 +155,3 @@ day-sums journal lawful sheets =
     let positions = All-weaker (λ (p : Position). known p.account ≡ true) (λ (p : Position). times_owned accounts households p.account ≡ 1) (λ p one. eqb-true (times_owned accounts households p.account) 1 one) day.register is.positions in
     let trades = All-weaker (λ (t : Trade). known t.account ≡ true) (λ (t : Trade). times_owned accounts households t.account ≡ 1) (λ t one. eqb-true (times_owned accounts households t.account) 1 one) day.trades is.trades in
     record { mils = mils-summed accounts households day positions trades; cash = cash-summed accounts households day positions trades }
-
-pub sums_over_households : (journal : Journal) → LawfulSumsOverHouseholds journal
-unfolding replay
-sums_over_households journal lawful = record {
-  orders = orders-once journal lawful;
-  whole = day-sums journal lawful (book_behind journal).table.sheets;
-  up_to = λ number. day-sums journal lawful (take number (book_behind journal).table.sheets);
-}

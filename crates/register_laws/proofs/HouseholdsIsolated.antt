@@ -20,10 +20,10 @@ use Rattle.register_laws.proofs.ListParts.{filter-within, found-within}
 use Rattle.register_laws.proofs.NoIdentityTwice.{no_account_twice, no_key_twice}
 use Rattle.register_laws.proofs.ReplayedAlone.{owner-is}
 use Rattle.register_laws.proofs.SeenAlike.{all_parts, public-dealers, seen_alike}
-use Rattle.register_laws.proofs.ViewBooks.{chosen-seen, owners-agree, public-seen, replayed_in_view, view-book}
+use Rattle.register_laws.proofs.ViewBooks.{chosen-seen, owners-agree, public-seen, view-book, whole_in_view}
 use Rattle.register_laws.specs.Households.{is_of_household, is_own_position, is_own_trade, part_of}
 use Rattle.register_laws.specs.Identities.{has_dealer_key, has_household_key}
-use Rattle.register_laws.specs.Isolation.{IsAskedOf, IsolatesBatches, IsolatesHouseholds, account_asked}
+use Rattle.register_laws.specs.Isolation.{IsAskedOf, account_asked}
 use Rattle.register_laws.specs.Lawful.{book_behind, own_at}
 use Rattle.register_machine.specs.journal.Journals.{Journal}
 use Rattle.register_machine.specs.journal.Kinds.{accounts_of, classes_of, dealer_in, dealers_of, household_in, household_of, households_of}
@@ -145,7 +145,7 @@ seen-household : (accounts : List AccountForm) (household moment : ℕ) (kind : 
 seen-household accounts household moment (EventKind.Household other) form e = let same : other ≡ form = cc in ap (λ (f : HouseholdForm). f.household == household) same
 seen-household accounts household moment kind form e = absurd (none_some e)
 
-calls-alike : (journal : Journal) (household : ℕ) → IsLawful journal → (operator key : List ℕ) → CallsAlike household (caller_of journal operator key) (caller_of (view household journal) operator key)
+pub calls-alike : (journal : Journal) (household : ℕ) → IsLawful journal → (operator key : List ℕ) → CallsAlike household (caller_of journal operator key) (caller_of (view household journal) operator key)
 calls-alike journal household lawful operator key = by (bytes_eq key operator)
   where
     households_seen : households_of (view household journal) ≡ filter (λ form. form.household == household) (households_of journal)
@@ -199,7 +199,7 @@ replays-alike journal household account book other mine lawful is seen =
     day = replay (book_behind journal)
 
     part : part_of (accounts_of journal) household (replay (book_behind journal)) ≡ replay (book_behind (view household journal))
-    part = (replayed_in_view journal household lawful).whole
+    part = whole_in_view journal household lawful
 
     of_account : (number : ℕ) → (number == account) ≡ true → own number ≡ true
     of_account number e = ap own (eqb-true number account e) ∙ mine
@@ -237,7 +237,7 @@ same-caller journal household now caller lawful short request asked =
     request asked.1
     ∙ ap (λ s. answer s request) (seen-sit journal household now caller lawful)
 
-by-callers : (journal : Journal) (household now : ℕ) (caller seen : Caller) → IsLawful journal → length journal < 100000000 → (request : Request) → IsAskedOf journal household request → CallsAlike household caller seen → answer (own_at journal now caller) request ≡ answer (own_at (view household journal) now seen) request
+pub by-callers : (journal : Journal) (household now : ℕ) (caller seen : Caller) → IsLawful journal → length journal < 100000000 → (request : Request) → IsAskedOf journal household request → CallsAlike household caller seen → answer (own_at journal now caller) request ≡ answer (own_at (view household journal) now seen) request
 by-callers journal household now caller seen lawful short request asked (CallsAlike.Same is) =
     same-caller journal household now caller lawful short request asked
     ∙ ap (λ c. answer (own_at (view household journal) now c) request) is
@@ -252,11 +252,6 @@ by-callers journal household now caller seen lawful short request asked (CallsAl
     ∙ (sym (refused-right (own_at (view household journal) now Caller.Stranger) asked.0 request asked.1 refl)
     ∙ sym (ap (λ c. answer (own_at (view household journal) now c) request) stranger)))
 
-pub households_isolated : (journal : Journal) (household : ℕ) → IsolatesHouseholds journal household
-households_isolated journal household lawful short operator key now request asked =
-    by-callers journal household now (caller_of journal operator key) (caller_of (view household journal) operator key) lawful short request asked
-    (calls-alike journal household lawful operator key)
-
 -- ---- a batch of one line
 
 -- the situation behind nothing more
@@ -266,24 +261,14 @@ behind-nothing journal now caller =
     ∙ ap (λ (book : Book). let s : Situation = record { journal = journal; book = book; now = now; caller = caller } in s) (book-same-again (table_of journal) journal)
 
 -- what a batch of one line says, by the answer to it
-abbrev batch_by : Bool → Answer → Result BatchAnswer Refusal
+abbrev pub batch_by : Bool → Answer → Result BatchAnswer Refusal
 batch_by dealer said =
     cond dealer (Ok (record { replies = said.reply ∷ []; events = said.events })) (Err Refusal.NoRight)
 
-one-line : (journal : Journal) (now : ℕ) (caller : Caller) (line : LineForm) → batch_answer (own_at journal now caller) (Ok (Ok (Request.Line line) ∷ [])) ≡ batch_by (is_dealer_caller caller) (answer (own_at journal now caller) (Request.Line line))
+pub one-line : (journal : Journal) (now : ℕ) (caller : Caller) (line : LineForm) → batch_answer (own_at journal now caller) (Ok (Ok (Request.Line line) ∷ [])) ≡ batch_by (is_dealer_caller caller) (answer (own_at journal now caller) (Request.Line line))
 one-line journal now caller line =
     ap (λ s. batch_by (is_dealer_caller caller) (answer s (Request.Line line))) (behind-nothing journal now caller)
 
-dealers-alike : (household : ℕ) (caller seen : Caller) → CallsAlike household caller seen → is_dealer_caller caller ≡ is_dealer_caller seen
+pub dealers-alike : (household : ℕ) (caller seen : Caller) → CallsAlike household caller seen → is_dealer_caller caller ≡ is_dealer_caller seen
 dealers-alike household caller seen (CallsAlike.Same is) = ap is_dealer_caller is
 dealers-alike household caller seen (CallsAlike.Other other is apart stranger) = ap is_dealer_caller is ∙ sym (ap is_dealer_caller stranger)
-
-pub batches_isolated : (journal : Journal) (household : ℕ) → IsolatesBatches journal household
-batches_isolated journal household lawful short operator key now line asked =
-    let caller = caller_of journal operator key in
-    let seen = caller_of (view household journal) operator key in
-    let alike = calls-alike journal household lawful operator key in
-    one-line journal now caller line
-    ∙ (ap (λ dealer. batch_by dealer (answer (own_at journal now caller) (Request.Line line))) (dealers-alike household caller seen alike)
-    ∙ (ap (batch_by (is_dealer_caller seen)) (by-callers journal household now caller seen lawful short (Request.Line line) asked alike)
-    ∙ sym (one-line (view household journal) now seen line)))

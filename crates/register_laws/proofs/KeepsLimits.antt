@@ -152,7 +152,7 @@ none-yet : length (table_of []).calendars ≡ 0
 unfolding table_behind
 none-yet = refl
 
-limits-kept : (journal : Journal) → IsLawful journal → KeepsItsLimits journal × (length (table_of journal).calendars ≡ length (calendars_of journal))
+pub limits-kept : (journal : Journal) → IsLawful journal → KeepsItsLimits journal × (length (table_of journal).calendars ≡ length (calendars_of journal))
 limits-kept journal lawful =
     lawful-keeps (λ known. KeepsItsLimits known × (length (table_of known).calendars ≡ length (calendars_of known))) limits-more (
       record {

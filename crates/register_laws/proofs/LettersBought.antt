@@ -1,5 +1,5 @@
 -- What an open letter has bought: each turn adds what its trade pays there, and a letter that begins has bought nothing.
-use Rattle.std.proofs.Common.{All, Bool, List, None, Option, Some, [], ap, append-nil, append_assoc, arith, cond, false, filter, get_or, length, refl, subst, sum_by, sym, take, true, ℕ, ◌&&◌, ◌++◌, ◌==◌, ◌∙◌, ◌∷◌, ◌≡◌}
+use Rattle.std.proofs.Common.{All, Bool, List, None, Option, Some, [], ap, append-nil, append_assoc, arith, cond, false, filter, get_or, refl, subst, sum_by, sym, true, ℕ, ◌&&◌, ◌++◌, ◌==◌, ◌∙◌, ◌∷◌, ◌≡◌}
 use Rattle.std.proofs.lemmas.Bool.{and_from, and_parts, eqb-true, true≢false}
 use Rattle.std.proofs.lemmas.List.Elements.{All-append, All-cons, All-filter, All-head, All-nil, All-push, All-tail, filter_passes}
 use Rattle.std.proofs.lemmas.List.Sums.{sum_by-append, sum_by-cons, sum_by_push}
@@ -10,17 +10,15 @@ use Rattle.letter_of_intent.specs.declared.letter.Letter.{Letter}
 use Rattle.register_laws.proofs.Comparisons.{and-false, eq-yes}
 use Rattle.register_laws.proofs.DayTurns.{Turn, bought_by, elected_by, exchanged_by, position_asked, positions_put, reached_by, reinvested, released, settled_by, sold_by, trade_of, trades_added, with_all_put, with_letter_begun, with_letter_ended, with_lot_of, with_note_of, with_pieces_of}
 use Rattle.register_laws.proofs.PositionsInOrder.{not-before, own-account, own-class, put-all, same-place}
-use Rattle.register_laws.proofs.RegistersKept.{at-last}
-use Rattle.register_laws.proofs.ReplayTurns.{All-one, AnyKey, AnyRow, TurnsKeep, any-all, first-sheets, over-kept}
+use Rattle.register_laws.proofs.ReplayTurns.{All-one, AnyKey, AnyRow, TurnsKeep, any-all}
 use Rattle.register_laws.proofs.Sums.{found-of}
-use Rattle.register_laws.specs.LettersBought.{IsBoughtIn, IsBoughtSince, IsBoughtWhereOpen, KeepsBought, LettersAreBought, gross_by, gross_in, is_trade_of, turns_letter, turns_letter_in}
+use Rattle.register_laws.specs.LettersBought.{IsBoughtIn, IsBoughtSince, IsBoughtWhereOpen, LettersAreBought, gross_by, gross_in, is_trade_of, turns_letter, turns_letter_in}
 use Rattle.register_machine.specs.pricing.CorrectedBook.{Book}
 use Rattle.register_machine.specs.pricing.OrderClasses.{class_of}
 use Rattle.register_machine.specs.replay.Dividend.{cash_dividend_trade, dividend_trade}
 use Rattle.register_machine.specs.replay.Letter.{letter_end_trade}
 use Rattle.register_machine.specs.replay.Positions.{Position, Register, fresh_position, is_fresh, is_position, position_at, position_of, put, stands_before, unless_fresh}
 use Rattle.register_machine.specs.replay.Redemption.{position_less}
-use Rattle.register_machine.specs.replay.Replay.{orders_on, priced_orders}
 use Rattle.agent_events.specs.declared.trade.Outcome.{Outcome}
 use Rattle.agent_events.specs.declared.trade.Trade.{Trade}
 use Rattle.agent_events.specs.declared.trade.TradeKind.{TradeKind}
@@ -252,17 +250,8 @@ turn-bought book sheet day (Turn.Ended key letter is) all =
     let trade = letter_end_trade sheet x (settled_by book sheet x letter) in
     one-bought day.trades (trade ∷ []) p day.register (All-one (IsThere p) trade (refl, refl)) tt all
 
-turns-bought : (book : Book) → TurnsKeep book AnyRow AnyKey (λ done day. LettersAreBought day)
+pub turns-bought : (book : Book) → TurnsKeep book AnyRow AnyKey (λ done day. LettersAreBought day)
 turns-bought book = record {
   keys = λ done day kept. any-all day.register;
   turn = λ sheet done day turn published rows keys kept. turn-bought book sheet day turn kept;
 }
-
-pub keeps_bought : (book : Book) → KeepsBought book
-keeps_bought book =
-    let kept = λ (number : ℕ). over-kept book AnyRow AnyKey (λ done day. LettersAreBought day) (turns-bought book)
-    (λ sheet. any-all (orders_on (priced_orders book) sheet)) (All-nil (IsBoughtIn [])) (take number book.table.sheets) (first-sheets book number) in
-    record {
-      up_to = kept;
-      at_last = subst LettersAreBought (at-last book) (kept (length book.table.sheets));
-    }

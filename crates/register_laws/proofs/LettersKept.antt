@@ -2,7 +2,7 @@
 use Rattle.std.proofs.Common.{All, None, Option, Some, [], arith, false, inl, inr, length, nat_le, subst, sym, take, ℕ, ◌+◌, ◌<◌, ◌==◌, ◌∙◌, ◌∷◌, ◌≡◌, ◌≤◌}
 use Rattle.std.proofs.lemmas.Bool.{true≢false}
 use Rattle.std.proofs.lemmas.Bool.Decides.{leb_tells}
-use Rattle.std.proofs.lemmas.List.Elements.{All-cons, All-head, All-nil, All-weaker}
+use Rattle.std.proofs.lemmas.List.Elements.{All-cons, All-head, All-nil}
 use Rattle.std.specs.Option.{option_map_or}
 use Rattle.agent_events.specs.declared.order.Body.{Body}
 use Rattle.agent_events.specs.declared.order.OrderRow.{OrderRow}
@@ -18,10 +18,10 @@ use Rattle.register_laws.proofs.DayTurns.{Turn, position_asked, positions_put, r
 use Rattle.register_laws.proofs.HouseholdCredit.{FoundAs, credit-few, found-as}
 use Rattle.register_laws.proofs.OrdersInTurn.{rows-standing}
 use Rattle.register_laws.proofs.RegistersKept.{at-last}
-use Rattle.register_laws.proofs.RegistersStand.{Beside, KeptBeside, RegisterStands, Stands, all_put-all, beside, first-stands}
+use Rattle.register_laws.proofs.RegistersStand.{Beside, KeptBeside, RegisterStands, all_put-all, beside, first-stands}
 use Rattle.register_laws.proofs.ReplayTurns.{All-one, AnyKey, at_turn-kept, first-sheets, over-kept}
 use Rattle.register_laws.proofs.Sums.{found-of}
-use Rattle.register_laws.specs.ReplayKeeps.{AsksInRange, CreditStaysLow, IsKeptPosition, IsWithinLimits, KeepsLetter, OrderlyKeepsLetters, RowInRange, SheetInRange, TermsWithinLimits}
+use Rattle.register_laws.specs.ReplayKeeps.{AsksInRange, IsWithinLimits, KeepsLetter, OrderlyKeepsLetters, RowInRange, SheetInRange, TermsWithinLimits}
 use Rattle.register_machine.specs.journal.Kinds.{class_numbered}
 use Rattle.register_machine.specs.pricing.CorrectedBook.{Book, front_of}
 use Rattle.register_machine.specs.pricing.OrderClasses.{class_of}
@@ -121,11 +121,3 @@ keeps_letters book orderly within range =
       at_turn = λ turn. (at_turn-kept book (λ sheet. RowInRange) AnyKey (Beside (λ done day. All LetterOf day.register)) keeps known first turn).1;
       at_last = subst (λ (day : Day). All LetterOf day.register) (at-last book) (kept (length book.table.sheets));
     }
-
-pub credit_stays_low : (book : Book) (sheet : Sheet) (register : Register) (account : ℕ) → CreditStaysLow book sheet register account
-credit_stays_low book sheet register account within prices kept =
-    credit-few book sheet register account within prices
-    (record {
-      in_order = kept.in_order;
-      positions = All-weaker IsKeptPosition Stands (λ x is. record { holding = is.holding; held = is.held }) register kept.positions;
-    })

@@ -9,7 +9,7 @@ use Rattle.agent_events.specs.declared.request.Request.{Request}
 use Rattle.agent_events.specs.declared.request.SheetForm.{SheetForm}
 use Rattle.fund_calendar.specs.DayText.{read_day}
 use Rattle.register_laws.proofs.Choosing.{none_some}
-use Rattle.register_laws.specs.RowForms.{ReadsListForms, asked_has_list_forms}
+use Rattle.register_laws.specs.RowForms.{asked_has_list_forms}
 
 -- ---- what fields ask
 
@@ -137,7 +137,7 @@ statement-forms fields =
     by-parts (at 1 (identifier (field fields 1))) _
     (λ account. by-parts (at 2 (read_day (field fields 2))) _ (λ first. by-parts (at 3 (read_day (field fields 3))) _ (λ last. refl)))
 
-line-forms : (fields : List (List ℕ)) → asked_has_list_forms (line_asked fields) ≡ true
+pub line-forms : (fields : List (List ℕ)) → asked_has_list_forms (line_asked fields) ≡ true
 line-forms fields =
     by-parts (at 1 (moment (field fields 1))) _
     (λ receipt. by-parts (at 2 (order_count (field fields 2))) _ (λ count. by-parts (carried_order 2 fields) _ (λ order. refl)))
@@ -157,7 +157,7 @@ numbered-forms count form fields all = by_count (length fields == count)
     by_count true = all
     by_count false = refl
 
-carried-forms : (lead : ℕ) (form : List (List ℕ) → Asked) (fields : List (List ℕ)) → asked_has_list_forms (form fields) ≡ true → asked_has_list_forms (with_order lead form fields) ≡ true
+pub carried-forms : (lead : ℕ) (form : List (List ℕ) → Asked) (fields : List (List ℕ)) → asked_has_list_forms (form fields) ≡ true → asked_has_list_forms (with_order lead form fields) ≡ true
 carried-forms lead form fields all = by_short (nat_lt (length fields) lead)
   where
     by_verb : (found : Option ℕ) → asked_has_list_forms (counted_by found lead form fields) ≡ true
@@ -177,7 +177,7 @@ either-forms : (is : Bool) (one other : Asked) → asked_has_list_forms one ≡ 
 either-forms true one other first second = first
 either-forms false one other first second = second
 
-asked-forms : (verb : List ℕ) (fields : List (List ℕ)) → asked_has_list_forms (asked_by verb fields) ≡ true
+pub asked-forms : (verb : List ℕ) (fields : List (List ℕ)) → asked_has_list_forms (asked_by verb fields) ≡ true
 asked-forms verb fields =
     either-forms (bytes_eq verb (codes "calendar")) _ _ (numbered-forms 6 calendar_asked fields (calendar-forms fields))
     (either-forms (bytes_eq verb (codes "close")) _ _ (numbered-forms 2 close_asked fields (close-forms fields))
@@ -199,6 +199,3 @@ asked-forms verb fields =
     (either-forms (bytes_eq verb (codes "books")) _ _ (numbered-forms 0 books_asked fields refl)
     (either-forms (bytes_eq verb (codes "line")) _ _ (carried-forms 2 line_asked fields (line-forms fields))
     (order-forms (order_count verb) verb fields)))))))))))))))))))
-
-pub reads_list_forms : (verb : List ℕ) (fields : List (List ℕ)) → ReadsListForms verb fields
-reads_list_forms verb fields = (asked-forms verb fields, carried-forms 2 line_asked fields (line-forms fields))

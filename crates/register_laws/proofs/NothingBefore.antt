@@ -1,6 +1,6 @@
 -- Every order that a lawful journal begins is new to its strikes and replacements, and every account that it opens to its events.
 use Rattle.register_machine.specs.pricing.CorrectedOrders.{is_named}
-use Rattle.std.proofs.Common.{Bool, List, None, Option, Some, [], ap, append-nil, append_assoc, cond, false, find, is_some, not, option_map, option_to_list, refl, subst, sym, true, ℕ, ◌&&◌, ◌++◌, ◌+◌, ◌==◌, ◌||◌, ◌∙◌, ◌∷◌, ◌≡◌}
+use Rattle.std.proofs.Common.{Bool, List, None, Option, Some, [], ap, append-nil, append_assoc, cond, false, find, is_some, not, option_map, option_to_list, refl, subst, sym, true, ℕ, ◌&&◌, ◌++◌, ◌+◌, ◌==◌, ◌||◌, ◌∙◌, ◌∷◌, ◌≡◌, filter}
 use Rattle.std.proofs.lemmas.Bool.{and_parts, eqb-true, or_parts, true≢false}
 use Rattle.std.proofs.lemmas.List.Folds.{list_any-append}
 use Rattle.std.specs.List.{AllByRecursion, list_any}
@@ -19,7 +19,7 @@ use Rattle.register_laws.proofs.OneEventMore.{gathers-on}
 use Rattle.register_laws.proofs.OrdersGoOn.{corrected-alike, orders_go_on}
 use Rattle.register_laws.proofs.RulesByName.{not_broken}
 use Rattle.register_laws.proofs.Tests.{any-front, any-of-map, find-any, is-false, late-true}
-use Rattle.register_laws.proofs.ViewsGoOn.{view_goes_on}
+use Rattle.register_laws.proofs.ViewsGoOn.{view-by}
 use Rattle.register_laws.specs.Identities.{has_number}
 use Rattle.register_laws.specs.Lawful.{IsBrought, own_at}
 use Rattle.register_laws.specs.OneEventMore.{LawfulBeginsAnew, account_named, begins_untouched, is_about, is_untouched, opens_untouched}
@@ -33,6 +33,7 @@ use Rattle.register_machine.specs.rules.InOrder.{Rule}
 use Rattle.register_machine.specs.rules.NamedThings.{has_account, has_order, none_such, things_named}
 use Rattle.register_machine.specs.rules.Situations.{Situation}
 use Rattle.register_machine.specs.rules.Standing.{number_taken}
+use Rattle.register_machine.specs.journal.Views.{is_seen_by}
 
 -- ---- what is named is there
 
@@ -278,5 +279,7 @@ begins_anew journal event lawful =
       begins = new.0;
       opens = new.1;
       orders = orders_go_on journal event new.0;
-      views = λ household. view_goes_on household journal event new.1;
+      views = λ household.
+          ap (λ accounts. filter (is_seen_by accounts household) (with_event journal event)) (gathers-on account_in journal event)
+          ∙ view-by household journal event.moment event.kind new.1;
     }

@@ -8,10 +8,10 @@ use Rattle.agent_events.specs.declared.request.DividendForm.{DividendForm}
 use Rattle.agent_events.specs.declared.request.FixRateForm.{FixRateForm}
 use Rattle.forward_price.specs.PriceTables.{Table}
 use Rattle.register_laws.proofs.Runs.{table-one}
-use Rattle.register_laws.specs.OneEventMore.{KindsGoOn, PaymentsGoOn, RatesGoOn, TableGoesOn, rates_after}
+use Rattle.register_laws.specs.OneEventMore.{PaymentsGoOn, RatesGoOn, TableGoesOn, rates_after}
 use Rattle.register_machine.specs.corrections.Payments.{bearer_in, payments_for, payments_from}
 use Rattle.register_machine.specs.journal.Journals.{Journal, with_event}
-use Rattle.register_machine.specs.journal.Kinds.{account_in, calendar_in, class_in, closure_in, dealer_in, dividend_in, each_in, household_in, rate_fix_in, sheet_in}
+use Rattle.register_machine.specs.journal.Kinds.{dividend_in, each_in, rate_fix_in}
 use Rattle.register_machine.specs.pricing.DividendRates.{Rates, rates_of}
 use Rattle.register_machine.specs.pricing.PublishedTable.{empty_table, table_after, table_behind}
 
@@ -25,17 +25,6 @@ pub gathers-on : {X : Type 0} (chosen : EventKind → Option X) (journal : Journ
 gathers-on chosen journal event =
     filter_map-append (λ (e : Event). chosen e.kind) journal (event ∷ [])
     ∙ ap (λ more. each_in chosen journal ++ more) (one-chosen (chosen event.kind))
-
-pub kinds_go_on : (journal : Journal) (event : Event) → KindsGoOn journal event
-kinds_go_on journal event = record {
-  calendars = gathers-on calendar_in journal event;
-  closures = gathers-on closure_in journal event;
-  classes = gathers-on class_in journal event;
-  dealers = gathers-on dealer_in journal event;
-  households = gathers-on household_in journal event;
-  accounts = gathers-on account_in journal event;
-  sheets = gathers-on sheet_in journal event;
-}
 
 -- ---- rates
 

@@ -2,7 +2,7 @@
 -- those that name it.
 use Rattle.std.proofs.Common.{All, Bool, List, Some, [], ap, append-nil, cond, false, filter, get_or, length, map, not, refl, subst, sym, take, true, ℕ, ◌&&◌, ◌++◌, ◌==◌, ◌∙◌, ◌∷◌, ◌≡◌}
 use Rattle.std.proofs.lemmas.Bool.{and_from, and_parts, eq-eqb, eqb-true, true≢false}
-use Rattle.std.proofs.lemmas.List.{map-id}
+use Rattle.std.proofs.lemmas.List.{map-id, take-map}
 use Rattle.std.proofs.lemmas.List.Elements.{All-filter, filter-append, filter_agree, filter_passes}
 use Rattle.std.specs.List.{list_any}
 use Rattle.agent_events.specs.Events.{Event}
@@ -17,11 +17,10 @@ use Rattle.agent_events.specs.declared.request.FixRateForm.{FixRateForm}
 use Rattle.forward_price.specs.declared.price_sheet.Sheet.{Sheet}
 use Rattle.register_laws.proofs.BooksGoOn.{book_goes_on_by, touches_nothing}
 use Rattle.register_laws.proofs.Choosing.{none_some}
-use Rattle.register_laws.proofs.CorrectionReach.{price_leaves_before, price_leaves_others, rate_leaves_before, rate_leaves_others}
+use Rattle.register_laws.proofs.CorrectionReach.{leaves-part, price-replay, price_leaves_before, rate-replay, rate_leaves_before}
 use Rattle.register_laws.proofs.HouseholdSheets.{none-all}
 use Rattle.register_laws.proofs.ListParts.{filter-all, filter-map, filter-swap, fold-known, maps-agree}
 use Rattle.register_laws.proofs.LawfulJournals.{lawful-before}
-use Rattle.register_laws.proofs.ReplayedAlone.{replayed_alone}
 use Rattle.register_laws.proofs.SheetsClimb.{sheets-before}
 use Rattle.register_laws.proofs.SheetsDated.{dated}
 use Rattle.register_laws.proofs.StepsAlike.{books_step_alike}
@@ -36,6 +35,7 @@ use Rattle.register_machine.specs.pricing.CorrectedOrders.{is_named, replaces, r
 use Rattle.register_machine.specs.replay.DayStep.{day_step}
 use Rattle.register_machine.specs.replay.Replay.{Priced, all_in_turn, day_after_sheet, first_day, is_priced_on, orders_on, priced_in, priced_orders, replay, replay_over, replay_to}
 use Rattle.register_machine.specs.replay.Trades.{Day}
+use Rattle.register_machine.specs.pricing.CorrectedPrices.{sheet_as_corrected}
 
 -- the book with other orders
 abbrev with_orders : Book → List OrderRow → Book
@@ -156,11 +156,9 @@ order-book place book moment kind named is = absurd (none_some is)
 -- ---- books that differ in their orders
 
 own-same : (book : Book) (orders : List OrderRow) (household : ℕ) → own_orders book.accounts household orders ≡ own_orders book.accounts household book.orders → LeavesPart book (with_orders book orders) household
-unfolding replay
 own-same book orders household same =
-    let own = ap (λ (rows : List OrderRow). with_orders (own_book household book) rows) same in
-    let over = λ (sheets : List Sheet). replayed_alone (with_orders book orders) household sheets ∙ (ap (λ b. replay_over b sheets) own ∙ sym (replayed_alone book household sheets)) in
-    record { whole = over book.table.sheets; up_to = λ number. over (take number book.table.sheets) }
+    leaves-part book (with_orders book orders) household (λ sheets. sheets) refl refl (λ number. refl)
+    (λ sheets. ap (λ (rows : List OrderRow). replay_over (with_orders (own_book household book) rows) sheets) (sym same))
 
 -- the standing orders of a list that a sheet prices
 abbrev standing_on : List Sheet → List OrderRow → Sheet → List OrderRow
@@ -250,10 +248,13 @@ tried_event_reach journal event before_lawful touches =
     record {
       price = λ form is household nowhere. subst (λ b. LeavesPart book b household)
           (behind journal event touches (book_with_price form book) (ap (book_after (length journal) book event.moment) is ∙ price-book (length journal) book event.moment form))
-          (price_leaves_others book form household nowhere);
+          (leaves-part book (book_with_price form book) household (map (sheet_as_corrected (form ∷ []))) refl refl
+          (λ number. take-map (sheet_as_corrected (form ∷ [])) number book.table.sheets)
+          (price-replay form (own_book household book) nowhere));
       rate = λ form is household nowhere. subst (λ b. LeavesPart book b household)
           (behind journal event touches (book_with_rate form book) (ap (book_after (length journal) book event.moment) is ∙ rate-book (length journal) book event.moment form))
-          (rate_leaves_others book form household nowhere);
+          (leaves-part book (book_with_rate form book) household (λ sheets. sheets) refl refl (λ number. refl)
+          (rate-replay form (own_book household book) nowhere));
       price_before = λ form is number early. subst (λ b. replay_to b number ≡ replay_to book number)
           (behind journal event touches (book_with_price form book) (ap (book_after (length journal) book event.moment) is ∙ price-book (length journal) book event.moment form))
           (price_leaves_before book form number (dated journal) early);

@@ -1,7 +1,6 @@
 -- The book of a lawful journal is orderly: its sheets are numbered in turn, and an account has only so many orders.
-use Rattle.std.proofs.Common.{Bool, List, None, Option, Some, [], ap, arith, cond, count_by, false, filter, fold, inl, inr, length, nat_le, option_to_list, refl, subst, sum_by, sym, true, ℕ, ◌+◌, ◌<◌, ◌==◌, ◌∙◌, ◌∷◌, ◌≡◌, ◌≤◌}
-use Rattle.std.proofs.lemmas.Bool.{and_parts, eqb-true, true≢false}
-use Rattle.std.proofs.lemmas.Bool.Decides.{leb_tells}
+use Rattle.std.proofs.Common.{Bool, List, None, Option, Some, [], ap, arith, cond, count_by, false, filter, fold, length, option_to_list, refl, subst, sum_by, true, ℕ, ◌+◌, ◌<◌, ◌==◌, ◌∙◌, ◌∷◌, ◌≡◌, ◌≤◌}
+use Rattle.std.proofs.lemmas.Bool.{and_parts, eqb-true}
 use Rattle.std.proofs.lemmas.List.{get_or-map, length-map}
 use Rattle.std.proofs.lemmas.List.Sums.{sum_by-append, sum_by-cons}
 use Rattle.std.specs.Option.{option_map_or}
@@ -10,23 +9,19 @@ use Rattle.agent_events.specs.declared.event.EventKind.{EventKind}
 use Rattle.agent_events.specs.declared.event.Source.{Source}
 use Rattle.agent_events.specs.declared.order.Order.{Order}
 use Rattle.agent_events.specs.declared.order.OrderRow.{OrderRow}
-use Rattle.agent_events.specs.declared.reply.Refusal.{Refusal}
 use Rattle.agent_events.specs.declared.request.EntryForm.{EntryForm}
 use Rattle.forward_price.proofs.NumberFacts.{none_numbered, numbered_more}
 use Rattle.forward_price.specs.PriceTables.{AreNumbered, Table, sheet_published}
 use Rattle.forward_price.specs.declared.price_sheet.Sheet.{Sheet}
 use Rattle.share_lots.proofs.LotLemmas.{sum_by-filter-le}
 use Rattle.share_lots.specs.Lots.{lots_with}
-use Rattle.register_laws.proofs.Choosing.{not_when}
 use Rattle.register_laws.proofs.Sums.{sum-same}
-use Rattle.register_laws.proofs.LawfulJournals.{brought, lawful-keeps}
+use Rattle.register_laws.proofs.KeepsLimits.{keeps_its_limits}
 use Rattle.register_laws.proofs.OrdersLeaveTheirClass.{orders_leave}
 use Rattle.register_laws.proofs.Sums.{count-map}
-use Rattle.register_laws.proofs.RulesByName.{not_broken}
-use Rattle.register_laws.specs.Lawful.{IsBrought, own_at}
 use Rattle.register_laws.specs.Trades.{IsOrderly, is_order_of}
 use Rattle.register_machine.specs.journal.Choices.{last_of}
-use Rattle.register_machine.specs.journal.Journals.{Journal, with_event}
+use Rattle.register_machine.specs.journal.Journals.{Journal}
 use Rattle.register_machine.specs.journal.Kinds.{each_in, price_fix_in, replacement_in}
 use Rattle.register_machine.specs.journal.Lawful.{IsLawful}
 use Rattle.register_machine.specs.pricing.CorrectedBook.{book_of}
@@ -34,50 +29,16 @@ use Rattle.register_machine.specs.pricing.CorrectedOrders.{order_begun, orders_b
 use Rattle.register_machine.specs.pricing.CorrectedPrices.{sheet_as_corrected, table_as_corrected}
 use Rattle.register_machine.specs.pricing.PublishedTable.{empty_table, table_after, table_behind, table_by, table_of}
 use Rattle.register_machine.specs.rules.Identities.{reference_of}
-use Rattle.register_machine.specs.rules.InOrder.{Rule}
-use Rattle.register_machine.specs.rules.Limits.{is_of_account, most_orders}
+use Rattle.register_machine.specs.rules.Limits.{is_of_account}
 
--- ---- the references of an account
-
-FewReferences : Journal → Type 0
-FewReferences journal = (account : ℕ) → count_by (is_of_account account) journal ≤ most_orders
+-- ---- the orders of an account
 
 -- what is brought to this account
 abbrev is_to : ℕ → Option (ℕ × ℕ) → Bool
 is_to account found = option_map_or (λ named. named.0 == account) found false
 
-one-fits : (journal : Journal) (account : ℕ) (found : Option (ℕ × ℕ)) → option_map_or (λ named. nat_le most_orders (count_by (is_of_account named.0) journal)) found false ≡ false → count_by (is_of_account account) journal ≤ most_orders → count_by (is_of_account account) journal + cond (is_to account found) 1 0 ≤ most_orders
-one-fits journal account None clear few = omega (arith, few)
-one-fits journal account (Some named) clear few = by_account (named.0 == account) refl
-  where
-    left : nat_le most_orders (count_by (is_of_account account) journal) ≡ false → count_by (is_of_account account) journal < most_orders
-    left e = elim (leb_tells most_orders (count_by (is_of_account account) journal)) [
-      | inl (t, full) ↦ absurd (true≢false (sym t ∙ e))
-      | inr (t, room) ↦ omega (arith, room)
-    ]
-
-    by_account : (b : Bool) → (named.0 == account) ≡ b → count_by (is_of_account account) journal + cond b 1 0 ≤ most_orders
-    by_account false e = omega (arith, few)
-    by_account true e =
-        omega (arith, left (subst (λ a. nat_le most_orders (count_by (is_of_account a) journal) ≡ false) (eqb-true named.0 account e) clear))
-
 abbrev event_one : ℕ → Event → ℕ
 event_one account event = cond (is_of_account account event) 1 0
-
-references-more : (journal : Journal) (event : Event) → IsLawful journal → IsBrought journal event → FewReferences journal → FewReferences (with_event journal event)
-unfolding FewReferences
-references-more journal event lawful brought few account =
-    let situation = own_at journal event.moment brought.caller in
-    let request = request_of event.kind in
-    let rule = not_when (option_map_or (λ (named : ℕ × ℕ). nat_le most_orders (count_by (is_of_account named.0) journal)) (reference_of request) false) (Refusal.OrdersFull most_orders) (not_broken situation request brought.clear Rule.OrdersFull) in
-    omega (arith, one-fits journal account (reference_of request) rule (few account), sum_by-append (event_one account) journal (event ∷ []), sum_by-cons (event_one account) event [])
-
--- an account has at most so many orders and cancels, struck ones too
-pub few_references : (journal : Journal) → IsLawful journal → (account : ℕ) → count_by (is_of_account account) journal ≤ most_orders
-unfolding FewReferences
-few_references journal lawful = lawful-keeps FewReferences references-more (λ account. omega arith) journal lawful
-
--- ---- the orders of an account
 
 ordered-one : (from : Source) (account receipt : ℕ) (order : Order) → cond (order.account == account) 1 0 ≤ cond (is_to account (reference_of (order_request from receipt order))) 1 0
 ordered-one Source.Direct account receipt order = omega arith
@@ -153,5 +114,5 @@ pub lawful_book_is_orderly : (journal : Journal) → IsLawful journal → IsOrde
 lawful_book_is_orderly journal lawful = record {
   numbered = sheets_are_numbered journal;
   elsewhere = orders_leave journal lawful;
-  few_orders = λ account. omega (arith, orders-few account journal, few_references journal lawful account);
+  few_orders = λ account. omega (arith, orders-few account journal, (keeps_its_limits journal lawful).orders account);
 }

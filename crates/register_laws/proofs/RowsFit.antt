@@ -16,7 +16,7 @@ use Rattle.csv.specs.Reading.{default_config, records, strip_bom}
 use Rattle.register_laws.proofs.AnswersByCases.{asks, each-answer}
 use Rattle.register_laws.proofs.FitsRows.{fits-brought}
 use Rattle.register_laws.proofs.LawfulJournals.{lawful-keeps}
-use Rattle.register_laws.proofs.ListForms.{reads_list_forms}
+use Rattle.register_laws.proofs.ListForms.{asked-forms}
 use Rattle.register_laws.proofs.RunsAreLawful.{run_is_lawful}
 use Rattle.register_laws.specs.LawfulLimits.{has_list_forms}
 use Rattle.register_laws.specs.RowForms.{BringsListForms, LawfulFitsRows, ScriptFitsRows, asked_has_list_forms, event_fits_row, event_has_list_forms, request_has_list_forms}
@@ -64,7 +64,7 @@ item-forms : (fields : List (List ℕ)) → item_has_list_forms (script_item fie
 item-forms fields = by_short (nat_lt (length fields) 3)
   where
     by_key : (now : ℕ) (good : Bool) → item_has_list_forms (cond good (ScriptItem.Good now (field fields 2) (asked_by (field fields 3) (drop 3 fields))) ScriptItem.Bad) ≡ true
-    by_key now true = (reads_list_forms (field fields 3) (drop 3 fields)).0
+    by_key now true = asked-forms (field fields 3) (drop 3 fields)
     by_key now false = refl
 
     by_moment : (found : Option ℕ) → item_has_list_forms (script_item_at found (field fields 2) (asked_by (field fields 3) (drop 3 fields))) ≡ true

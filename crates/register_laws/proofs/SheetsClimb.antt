@@ -225,16 +225,20 @@ corrected-climb fixes sheets climb i j d lt within =
     subst (λ (s : Sheet). s.moment ≤ℤ (get_or (map (sheet_as_corrected fixes) sheets) j d).moment) (sym first)
     (subst (λ (s : Sheet). (get_or sheets i d).moment ≤ℤ s.moment) (sym second) (climb i j d lt long))
 
-pub sheets_never_fall : (journal : Journal) → LawfulSheetsNeverFall journal
-sheets_never_fall journal lawful i j d lt within =
+-- and so by their moments from 1970 on
+pub moments-climb : (journal : Journal) → AllPairs (λ (a b : Sheet). a.moment ≤ℤ b.moment) (table_of journal).sheets → AllPairs (λ (a b : Sheet). moment_of a ≤ moment_of b) (book_behind journal).table.sheets
+moments-climb journal climb i j d lt within =
     let sheets = (book_behind journal).table.sheets in
-    let le = corrected-climb (each_in price_fix_in journal) (table_of journal).sheets (sheets-climb journal lawful).climbs i j d lt within in
+    let le = corrected-climb (each_in price_fix_in journal) (table_of journal).sheets climb i j d lt within in
     nats (moment_of (get_or sheets i d)) (moment_of (get_or sheets j d))
     (subst (λ (m : ℤ). m ≤ℤ pos (moment_of (get_or sheets j d))) (dated journal i d (omega (arith, lt, within)))
     (subst (λ (m : ℤ). (get_or sheets i d).moment ≤ℤ m) (dated journal j d within) le))
   where
     nats : (a b : ℕ) → pos a ≤ℤ pos b → a ≤ b
     nats a b le = omega (arith, ints, le)
+
+pub sheets_never_fall : (journal : Journal) → LawfulSheetsNeverFall journal
+sheets_never_fall journal lawful = moments-climb journal (sheets-climb journal lawful).climbs
 
 -- a sheet numbered before that of a class at a moment isn't later, and doesn't list the class then
 pub sheets-before : (journal : Journal) → IsLawful journal → (class moment fixed number : ℕ) → list_any (λ sheet. sheet.number == fixed && lists_at class moment sheet) (book_behind journal).table.sheets ≡ true → number < fixed → All (λ (sheet : Sheet). (lists_at class moment sheet ≡ false) × (moment_of sheet ≤ moment)) (take number (book_behind journal).table.sheets)

@@ -100,12 +100,16 @@ none-found {X = X} p own (x ∷ xs) all = by (own x) refl (All-head (λ y. own y
     by true is here rest = ap (λ b. cond b (Some x) (find p (filter own xs))) (here is) ∙ rest
     by false is here rest = rest
 
-pub unreached_is_unbroken : (journal : Journal) → LawfulUnreachedIsUnbroken journal
-unreached_is_unbroken journal lawful numbered household order after other same =
+-- a part that stays has no broken order
+pub stays-unbroken : (journal : Journal) → IsLawful journal → All (λ (row : OrderRow). 0 < row.order.ref_no) (orders_of journal) → (household : ℕ) (order : Option Order) → option_map_or (λ own. is_of_household (accounts_of journal) household own.account) order false ≡ false → first_broken_in order (part_of (accounts_of journal) household (replay (book_behind journal))) (part_of (accounts_of journal) household (replay (book_behind journal))) ≡ None
+stays-unbroken journal lawful numbered household order other =
     let accounts = accounts_of journal in
     let before = replay (book_behind journal) in
-    let own = is_own_trade (is_of_household accounts household) in
-    ap (λ (part : Day). first_broken_in order (part_of accounts household before) part) same
-    ∙ (sym (found-own accounts household order before before)
-    ∙ none-found (is_broken order before.trades) own before.trades
-    (λ k d short mine. unbroken journal lawful numbered household order other (get_or before.trades k d) (Contains-get_or before.trades k d short) mine))
+    sym (found-own accounts household order before before)
+    ∙ none-found (is_broken order before.trades) (is_own_trade (is_of_household accounts household)) before.trades
+    (λ k d short mine. unbroken journal lawful numbered household order other (get_or before.trades k d) (Contains-get_or before.trades k d short) mine)
+
+pub unreached_is_unbroken : (journal : Journal) → LawfulUnreachedIsUnbroken journal
+unreached_is_unbroken journal lawful numbered household order after other same =
+    ap (λ (part : Day). first_broken_in order (part_of (accounts_of journal) household (replay (book_behind journal))) part) same
+    ∙ stays-unbroken journal lawful numbered household order other

@@ -1,6 +1,6 @@
 -- The book of a household's view is its own book, but for the places of its orders: so its part of a replay is the replay of its
 -- view.
-use Rattle.std.proofs.Common.{Bool, List, None, Option, Some, [], ap, arith, cond, false, filter, find, length, map, option_map, option_to_list, refl, sym, take, true, ℕ, ◌&&◌, ◌++◌, ◌+◌, ◌==◌, ◌||◌, ◌∙◌, ◌∷◌, ◌≡◌, ◌≤◌}
+use Rattle.std.proofs.Common.{Bool, List, None, Option, Some, [], ap, arith, cond, false, filter, find, length, map, option_map, option_to_list, refl, sym, true, ℕ, ◌&&◌, ◌++◌, ◌+◌, ◌==◌, ◌||◌, ◌∙◌, ◌∷◌, ◌≡◌, ◌≤◌}
 use Rattle.std.proofs.lemmas.Bool.{and_parts, eqb-true, or_parts, true≢false}
 use Rattle.std.proofs.lemmas.List.Elements.{filter_agree}
 use Rattle.std.specs.List.{cons_option, list_any}
@@ -23,7 +23,7 @@ use Rattle.register_laws.proofs.OrdersGoOn.{corrected-alike}
 use Rattle.register_laws.proofs.PlacesLeftOut.{replay-unplaced, unplaced, unplaced_book}
 use Rattle.register_laws.proofs.ReplayedAlone.{replayed_alone}
 use Rattle.register_laws.proofs.Tests.{any-within}
-use Rattle.register_laws.specs.Households.{LawfulReplayedInView, accounts_of_household, is_of_household, is_own_row, own_book}
+use Rattle.register_laws.specs.Households.{accounts_of_household, is_of_household, is_own_row, own_book, part_of}
 use Rattle.register_laws.specs.Identities.{has_number}
 use Rattle.register_laws.specs.Lawful.{book_behind}
 use Rattle.register_machine.specs.journal.Choices.{last_of}
@@ -241,13 +241,13 @@ view-sheets journal household =
     ap (λ table. (table_as_corrected (view household journal) table).sheets) (table-seen accounts household journal)
     ∙ ap (λ forms. map (sheet_as_corrected forms) (table_of journal).sheets) (public-seen accounts household price_fix_in (public-fixes accounts household) journal)
 
-pub replayed_in_view : (journal : Journal) (household : ℕ) → LawfulReplayedInView journal household
+-- the part of a household over some sheets is what its view replays over them
+pub part-in-view : (journal : Journal) (household : ℕ) → IsLawful journal → (sheets : List Sheet) → part_of (accounts_of journal) household (replay_over (book_behind journal) sheets) ≡ replay_over (book_behind (view household journal)) sheets
+part-in-view journal household lawful sheets =
+    replayed_alone (book_behind journal) household sheets ∙ view-replay journal household lawful sheets
+
+pub whole_in_view : (journal : Journal) (household : ℕ) → IsLawful journal → part_of (accounts_of journal) household (replay (book_behind journal)) ≡ replay (book_behind (view household journal))
 unfolding replay
-replayed_in_view journal household lawful =
-    let book = book_behind journal in
-    let seen = book_behind (view household journal) in
-    let over = λ (sheets : List Sheet). replayed_alone book household sheets ∙ view-replay journal household lawful sheets in
-    record {
-      whole = over book.table.sheets ∙ ap (replay_over seen) (sym (view-sheets journal household));
-      up_to = λ number. over (take number book.table.sheets) ∙ ap (λ sheets. replay_over seen (take number sheets)) (sym (view-sheets journal household));
-    }
+whole_in_view journal household lawful =
+    part-in-view journal household lawful (book_behind journal).table.sheets
+    ∙ ap (replay_over (book_behind (view household journal))) (sym (view-sheets journal household))

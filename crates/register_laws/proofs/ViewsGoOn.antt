@@ -5,13 +5,11 @@ use Rattle.std.proofs.lemmas.List.Elements.{filter-append}
 use Rattle.std.proofs.lemmas.List.Folds.{list_any-append}
 use Rattle.std.specs.List.{list_any}
 use Rattle.std.specs.Option.{option_map_or}
-use Rattle.agent_events.specs.Events.{Event}
 use Rattle.agent_events.specs.declared.event.EventKind.{EventKind}
 use Rattle.agent_events.specs.declared.request.AccountForm.{AccountForm}
-use Rattle.register_laws.proofs.OneEventMore.{gathers-on}
 use Rattle.register_laws.proofs.Tests.{not-true}
-use Rattle.register_laws.specs.OneEventMore.{ViewGoesOn, account_named, is_about, opens_untouched}
-use Rattle.register_machine.specs.journal.Journals.{Journal, with_event}
+use Rattle.register_laws.specs.OneEventMore.{account_named, is_about, opens_untouched}
+use Rattle.register_machine.specs.journal.Journals.{Journal}
 use Rattle.register_machine.specs.journal.Kinds.{account_in, accounts_of}
 use Rattle.register_machine.specs.journal.Views.{belongs_to, is_public, is_seen_by, view}
 use Rattle.register_machine.specs.rules.Callers.{owns}
@@ -50,15 +48,10 @@ seen-on accounts form household (event ∷ events) other =
     ∙ ap (λ rest. cond (is_seen_by accounts household event) (event ∷ rest) rest) (seen-on accounts form household events both.1)
 
 -- by the kind of the event
-view-by : (household : ℕ) (journal : Journal) (moment : ℕ) (kind : EventKind) → opens_untouched journal kind ≡ true → filter (is_seen_by (accounts_of journal ++ option_to_list (account_in kind)) household) (journal ++ record { moment = moment; kind = kind } ∷ []) ≡ view household journal ++ cond (is_seen_by (accounts_of journal) household (record { moment = moment; kind = kind })) (record { moment = moment; kind = kind } ∷ []) []
+pub view-by : (household : ℕ) (journal : Journal) (moment : ℕ) (kind : EventKind) → opens_untouched journal kind ≡ true → filter (is_seen_by (accounts_of journal ++ option_to_list (account_in kind)) household) (journal ++ record { moment = moment; kind = kind } ∷ []) ≡ view household journal ++ cond (is_seen_by (accounts_of journal) household (record { moment = moment; kind = kind })) (record { moment = moment; kind = kind } ∷ []) []
 view-by household journal moment (EventKind.Account form) untouched =
     filter-append (is_seen_by (accounts_of journal ++ form ∷ []) household) journal (record { moment = moment; kind = EventKind.Account form } ∷ [])
     ∙ ap (λ before. before ++ cond (form.household == household) (record { moment = moment; kind = EventKind.Account form } ∷ []) []) (seen-on (accounts_of journal) form household journal (not-true (list_any (is_about form.account) journal) untouched))
 view-by household journal moment kind untouched =
     ap (λ accounts. filter (is_seen_by accounts household) (journal ++ record { moment = moment; kind = kind } ∷ [])) (append-nil (accounts_of journal))
     ∙ filter-append (is_seen_by (accounts_of journal) household) journal (record { moment = moment; kind = kind } ∷ [])
-
-pub view_goes_on : (household : ℕ) (journal : Journal) (event : Event) → ViewGoesOn household journal event
-view_goes_on household journal event untouched =
-    ap (λ accounts. filter (is_seen_by accounts household) (with_event journal event)) (gathers-on account_in journal event)
-    ∙ view-by household journal event.moment event.kind untouched

@@ -9,7 +9,7 @@ use Rattle.agent_events.specs.declared.reply_lists.DealerBooks.{DealerBooks}
 use Rattle.agent_events.specs.declared.request.Request.{Request}
 use Rattle.forward_price.specs.PriceTables.{Table}
 use Rattle.register_laws.specs.Lawful.{own_at}
-use Rattle.register_machine.specs.corrections.Cash.{Movement, balance, cash_movement, movements_of, same_party}
+use Rattle.register_machine.specs.corrections.Cash.{Movement, balance, movements_of, same_party}
 use Rattle.register_machine.specs.corrections.Payments.{booked_movements}
 use Rattle.register_machine.specs.journal.Journals.{Journal}
 use Rattle.register_machine.specs.pricing.CorrectedBook.{Book, book_of}

@@ -9,6 +9,5 @@ pub mod ChangeOnTrial
 -- a sheet that is published in the books of the journal that it follows
 pub mod SheetPublished
 -- the part of a household that a sheet leaves alone
-pub mod LeftAlone
 -- states that are kept behind the last sheet
 pub mod KeptMoved

@@ -87,7 +87,7 @@ unfolding state_at state_spelling
 state_field = tested keeps_rules (shaped state_of (λ state. (state.household, state.positions)) (λ state fits. refl) (λ x fits. refl) (both four_field (listed_field position_field)))
 
 -- the version before them
-row_takes : (bytes : List ℕ) (state : StateRow) (rest : List ℕ) → IsBytes bytes → versioned_at bytes ≡ Some (state, rest) → (bytes ≡ state_row state ++ rest) × IsKept state
+pub row_takes : (bytes : List ℕ) (state : StateRow) (rest : List ℕ) → IsBytes bytes → versioned_at bytes ≡ Some (state, rest) → (bytes ≡ state_row state ++ rest) × IsKept state
 unfolding versioned_at state_row state_spelling
 row_takes bytes state rest fits e =
     let a = read_some (byte_at bytes) (λ x. version_behind x.0 x.1) (state, rest) e in
@@ -99,7 +99,7 @@ row_takes bytes state rest fits e =
     (one.0 ∙ ap (λ (n : ℕ). n ∷ a.0.1) (eqb-true a.0.0 1 is) ∙ ap (λ (x : List ℕ). 1 ∷ x) two.0, two.1))
     (λ e. absurd cc)
 
-row_again : (state : StateRow) (rest : List ℕ) → IsKept state → versioned_at (state_row state ++ rest) ≡ Some (state, rest)
+pub row_again : (state : StateRow) (rest : List ℕ) → IsKept state → versioned_at (state_row state ++ rest) ≡ Some (state, rest)
 unfolding versioned_at state_row state_spelling
 row_again state rest fits = state_field.again state rest fits
 

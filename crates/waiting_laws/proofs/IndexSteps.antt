@@ -43,10 +43,10 @@ use Rattle.standing_orders.specs.WaitingLaws.{AllWait, IsNumbered}
 use Rattle.waiting_laws.specs.IndexOfJournals.{IsIndexOf, LawfulBeginsOrder, LawfulEntersOrder, LawfulLeavesIndex, LawfulReplacesOrder, LawfulSheetTakes, left_waiting, leaves_index, sheets_of}
 
 -- the index over plain lists
-record Keeps (accounts : List AccountForm) (sheets : List Sheet) (rows : List OrderRow) (owners waiting : List ℕ) : Type 0 where
-  owned : AreOwners accounts rows owners
-  enough : HasEach (waits sheets) rows waiting
-  all_wait : AllWait sheets rows waiting
+pub record Keeps (accounts : List AccountForm) (sheets : List Sheet) (rows : List OrderRow) (owners waiting : List ℕ) : Type 0 where
+  pub owned : AreOwners accounts rows owners
+  pub enough : HasEach (waits sheets) rows waiting
+  pub all_wait : AllWait sheets rows waiting
 
 none-some : {X : Type 0} {x : X} → None ≡ Some x → ⊥
 none-some e = cc
@@ -66,7 +66,7 @@ module _ (journal : Journal) (event : Event) (lawful : IsLawful (with_event jour
   accounts-behind : (kind : EventKind) → event.kind ≡ kind → accounts_of (with_event journal event) ≡ accounts_of journal ++ option_to_list (account_in kind)
   accounts-behind kind is = gathers-on account_in journal event ∙ ap (λ k. accounts_of journal ++ option_to_list (account_in k)) is
 
-  index-behind : (kind : EventKind) → event.kind ≡ kind → (owners waiting : List ℕ) → RisesWithin 0 (length owners) waiting → Keeps (accounts_of journal ++ option_to_list (account_in kind)) (corrected_table_by (corrected_table journal) event.moment kind).sheets (orders_after (length journal) (orders_of journal) kind) owners waiting → IsIndexOf (with_event journal event) owners waiting
+  pub index-behind : (kind : EventKind) → event.kind ≡ kind → (owners waiting : List ℕ) → RisesWithin 0 (length owners) waiting → Keeps (accounts_of journal ++ option_to_list (account_in kind)) (corrected_table_by (corrected_table journal) event.moment kind).sheets (orders_after (length journal) (orders_of journal) kind) owners waiting → IsIndexOf (with_event journal event) owners waiting
   index-behind kind is owners waiting within keeps =
       let rows = sym (rows-behind kind is) in
       let sheets = sym (sheets-behind kind is) in
@@ -127,8 +127,9 @@ fixed-keeps form table accounts rows owners waiting is = record {
     same : (row : OrderRow) → waits (map (sheet_as_corrected (form ∷ [])) table.sheets) row ≡ waits table.sheets row
     same row = ap (λ number. stands row && is_none number) (number-fixed form table row)
 
-pub leaves_the_index : (journal : Journal) (event : Event) (owners waiting : List ℕ) → LawfulLeavesIndex journal event owners waiting
-leaves_the_index journal event owners waiting lawful plain is = index-behind journal event lawful event.kind refl owners waiting is.within (by event.kind plain)
+-- an event that places, enters and replaces no order, and is no sheet
+pub keeps-plain : (journal : Journal) (event : Event) (owners waiting : List ℕ) → IsIndexOf journal owners waiting → (kind : EventKind) → leaves_index kind ≡ true → Keeps (accounts_of journal ++ option_to_list (account_in kind)) (corrected_table_by (corrected_table journal) event.moment kind).sheets (orders_after (length journal) (orders_of journal) kind) owners waiting
+keeps-plain journal event owners waiting is = by
   where
     keeps : Keeps (accounts_of journal) (sheets_of journal) (orders_of journal) owners waiting
     keeps = record { owned = is.owned; enough = is.enough; all_wait = is.all_wait }
@@ -153,6 +154,10 @@ leaves_the_index journal event owners waiting lawful plain is = index-behind jou
     by (EventKind.Dividend form) plain = same
     by (EventKind.FixRate form) plain = same
 
+pub leaves_the_index : (journal : Journal) (event : Event) (owners waiting : List ℕ) → LawfulLeavesIndex journal event owners waiting
+leaves_the_index journal event owners waiting lawful plain is =
+    index-behind journal event lawful event.kind refl owners waiting is.within (keeps-plain journal event owners waiting is event.kind plain)
+
 -- ---- what an index is, once those that don't wait have left
 
 left-index : (journal : Journal) (owners waiting : List ℕ) → AreOwners (accounts_of journal) (orders_of journal) owners → RisesWithin 0 (length owners) waiting → HasEach (waits (sheets_of journal)) (orders_of journal) waiting → IsIndexOf journal owners (left_waiting journal waiting)
@@ -162,6 +167,21 @@ left-index journal owners waiting owned within enough = record {
   enough = others_leave (waits (sheets_of journal)) (orders_of journal) waiting enough;
   all_wait = all_left_wait (sheets_of journal) (orders_of journal) waiting;
 }
+
+-- behind an event of a kind
+pub left-behind : (journal : Journal) (event : Event) (lawful : IsLawful (with_event journal event)) (kind : EventKind) → event.kind ≡ kind → (owners waiting : List ℕ) → AreOwners (accounts_of journal ++ option_to_list (account_in kind)) (orders_after (length journal) (orders_of journal) kind) owners → RisesWithin 0 (length owners) waiting → HasEach (waits (corrected_table_by (corrected_table journal) event.moment kind).sheets) (orders_after (length journal) (orders_of journal) kind) waiting → IsIndexOf (with_event journal event) owners (left_waiting (with_event journal event) waiting)
+left-behind journal event lawful kind is owners waiting owned within enough =
+    let rows = sym (rows-behind journal event lawful kind is) in
+    left-index (with_event journal event) owners waiting
+    (subst (λ accounts. AreOwners accounts (orders_of (with_event journal event)) owners) (sym (accounts-behind journal event lawful kind is))
+    (subst (λ r. AreOwners (accounts_of journal ++ option_to_list (account_in kind)) r owners) rows owned))
+    within
+    (subst (λ s. HasEach (waits s) (orders_of (with_event journal event)) waiting) (sym (sheets-behind journal event lawful kind is))
+    (subst (λ r. HasEach (waits (corrected_table_by (corrected_table journal) event.moment kind).sheets) r waiting) rows enough))
+
+-- where no account is opened
+pub owned-still : (accounts : List AccountForm) (rows : List OrderRow) (owners : List ℕ) → AreOwners accounts rows owners → AreOwners (accounts ++ []) rows owners
+owned-still accounts rows owners = subst (λ some. AreOwners some rows owners) (sym (append-nil accounts))
 
 -- ---- an order more
 
@@ -178,7 +198,7 @@ got-more (y ∷ xs) x found (suc k) is = elim (got-more xs x found k is) [
   | inr e ↦ inr (ap suc e.0, e.1)
 ]
 
-got-within : {X : Type 0} (xs : List X) (k : ℕ) (x : X) → slice_get xs k ≡ Some x → k < length xs
+pub got-within : {X : Type 0} (xs : List X) (k : ℕ) (x : X) → slice_get xs k ≡ Some x → k < length xs
 got-within [] k x e = absurd (none-some e)
 got-within (y ∷ ys) zero x e = omega arith
 got-within (y ∷ ys) (suc k) x e = let rest = got-within ys k x e in omega (arith, rest)
@@ -191,24 +211,22 @@ among-before (place ∷ places) last k less is = by (k == place) is (among-befor
     by true is later = refl
     by false is later = later is
 
-rises-more : (owners waiting : List ℕ) (household : ℕ) → RisesWithin 0 (length owners) waiting → RisesWithin 0 (length (owners ++ household ∷ [])) (waiting ++ length owners ∷ [])
+pub rises-more : (owners waiting : List ℕ) (household : ℕ) → RisesWithin 0 (length owners) waiting → RisesWithin 0 (length (owners ++ household ∷ [])) (waiting ++ length owners ∷ [])
 rises-more owners waiting household within =
     subst (λ n. RisesWithin 0 n (waiting ++ length owners ∷ [])) (let more = length-append owners (household ∷ []) in omega (arith, more))
     (rises-behind 0 (length owners) waiting (omega arith) within)
 
-more-enough : (sheets : List Sheet) (rows : List OrderRow) (owners waiting : List ℕ) (row : OrderRow) → length rows ≡ length owners → HasEach (waits sheets) rows waiting → HasEach (waits sheets) (rows ++ row ∷ []) (waiting ++ length owners ∷ [])
+pub more-enough : (sheets : List Sheet) (rows : List OrderRow) (owners waiting : List ℕ) (row : OrderRow) → length rows ≡ length owners → HasEach (waits sheets) rows waiting → HasEach (waits sheets) (rows ++ row ∷ []) (waiting ++ length owners ∷ [])
 more-enough sheets rows owners waiting row many enough =
     subst (λ n. HasEach (waits sheets) (rows ++ row ∷ []) (waiting ++ n ∷ [])) many (one_more_waits (waits sheets) rows waiting row enough)
 
-pub begins_order : (journal : Journal) (event : Event) (placed : Placed) (household : ℕ) (owners waiting : List ℕ) → LawfulBeginsOrder journal event placed household owners waiting
-begins_order journal event placed household owners waiting lawful kind own is =
-    index-behind journal event lawful (EventKind.Order placed) kind (owners ++ household ∷ []) (waiting ++ length owners ∷ [])
-    (rises-more owners waiting household is.within)
-    (record {
-      owned = subst (λ accounts. AreOwners accounts (rows ++ row ∷ []) (owners ++ household ∷ [])) (sym (append-nil (accounts_of journal))) (one_more_owned (accounts_of journal) rows owners row household own is.owned);
-      enough = more-enough (sheets_of journal) rows owners waiting row many is.enough;
-      all_wait = all;
-    })
+-- one that is placed waits
+pub keeps-placed : (journal : Journal) (event : Event) (placed : Placed) (household : ℕ) (owners waiting : List ℕ) → IsLawful (with_event journal event) → event.kind ≡ EventKind.Order placed → household_of (accounts_of journal) placed.order.account ≡ Some household → IsIndexOf journal owners waiting → Keeps (accounts_of journal ++ []) (sheets_of journal) (orders_of journal ++ row_as_sent (length journal) placed.receipt placed.order ∷ []) (owners ++ household ∷ []) (waiting ++ length owners ∷ [])
+keeps-placed journal event placed household owners waiting lawful kind own is = record {
+  owned = owned-still (accounts_of journal) (rows ++ row ∷ []) (owners ++ household ∷ []) (one_more_owned (accounts_of journal) rows owners row household own is.owned);
+  enough = more-enough (sheets_of journal) rows owners waiting row many is.enough;
+  all_wait = all;
+}
   where
     rows : List OrderRow
     rows = orders_of journal
@@ -230,21 +248,21 @@ begins_order journal event placed household owners waiting lawful kind own is =
       | inr last ↦ subst (λ r. waits (sheets_of journal) r ≡ true) last.1 new-waits
     ]
 
+pub begins_order : (journal : Journal) (event : Event) (placed : Placed) (household : ℕ) (owners waiting : List ℕ) → LawfulBeginsOrder journal event placed household owners waiting
+begins_order journal event placed household owners waiting lawful kind own is =
+    index-behind journal event lawful (EventKind.Order placed) kind (owners ++ household ∷ []) (waiting ++ length owners ∷ [])
+    (rises-more owners waiting household is.within)
+    (keeps-placed journal event placed household owners waiting lawful kind own is)
+
 pub enters_order : (journal : Journal) (event : Event) (form : EntryForm) (household : ℕ) (owners waiting : List ℕ) → LawfulEntersOrder journal event form household owners waiting
 enters_order journal event form household owners waiting lawful kind own is =
-    left-index (with_event journal event) (owners ++ household ∷ []) (waiting ++ length owners ∷ [])
-    (subst (λ accounts. AreOwners accounts (orders_of (with_event journal event)) (owners ++ household ∷ [])) (sym (accounts-behind journal event lawful (EventKind.Enter form) kind ∙ append-nil (accounts_of journal)))
-    (subst (λ r. AreOwners (accounts_of journal) r (owners ++ household ∷ [])) (sym (rows-behind journal event lawful (EventKind.Enter form) kind)) (one_more_owned (accounts_of journal) rows owners row household own is.owned)))
+    let rows = orders_of journal in
+    let row = row_as_sent (length journal) form.receipt form.order in
+    let now = owners ++ household ∷ [] in
+    left-behind journal event lawful (EventKind.Enter form) kind now (waiting ++ length owners ∷ [])
+    (owned-still (accounts_of journal) (rows ++ row ∷ []) now (one_more_owned (accounts_of journal) rows owners row household own is.owned))
     (rises-more owners waiting household is.within)
-    (subst (λ s. HasEach (waits s) (orders_of (with_event journal event)) (waiting ++ length owners ∷ [])) (sym (sheets-behind journal event lawful (EventKind.Enter form) kind))
-    (subst (λ r. HasEach (waits (sheets_of journal)) r (waiting ++ length owners ∷ [])) (sym (rows-behind journal event lawful (EventKind.Enter form) kind))
-    (more-enough (sheets_of journal) rows owners waiting row (as-many (accounts_of journal) rows owners is.owned) is.enough)))
-  where
-    rows : List OrderRow
-    rows = orders_of journal
-
-    row : OrderRow
-    row = row_as_sent (length journal) form.receipt form.order
+    (more-enough (sheets_of journal) rows owners waiting row (as-many (accounts_of journal) rows owners is.owned) is.enough)
 
 -- ---- an order that is replaced
 
@@ -288,37 +306,39 @@ named-alike row form e =
     (eq-yes row.order.account form.order.account (sym (eqb-true form.order.account row.order.account both.0)))
     (eq-yes row.order.ref_no form.order.ref_no (sym (eqb-true form.order.ref_no row.order.ref_no both.1)))
 
-pub replaces_order : (journal : Journal) (event : Event) (form : EntryForm) (place : ℕ) (owners waiting : List ℕ) → LawfulReplacesOrder journal event form place owners waiting
-replaces_order journal event form place owners waiting lawful kind row there named is =
-    left-index (with_event journal event) owners (with_place place waiting)
-    (subst (λ accounts. AreOwners accounts (orders_of (with_event journal event)) owners) (sym (accounts-behind journal event lawful (EventKind.Replace form) kind ∙ append-nil (accounts_of journal)))
-    (subst (λ r. AreOwners (accounts_of journal) r owners) (sym (rows-behind journal event lawful (EventKind.Replace form) kind)) (owned_when_changed (accounts_of journal) rows owners (replaced_by form) same-account is.owned)))
-    (rises-with place 0 (length owners) waiting (omega arith) (let less = got-within rows place row there in let many = as-many (accounts_of journal) rows owners is.owned in omega (arith, less, many)) is.within)
-    (subst (λ s. HasEach (waits s) (orders_of (with_event journal event)) (with_place place waiting)) (sym (sheets-behind journal event lawful (EventKind.Replace form) kind))
-    (subst (λ r. HasEach (waits (sheets_of journal)) r (with_place place waiting)) (sym (rows-behind journal event lawful (EventKind.Replace form) kind))
-    (another_waits (waits (sheets_of journal)) rows (map (replaced_by form) rows) waiting place others is.enough)))
+-- a replacement has the account of its order
+pub same-account : (form : EntryForm) (other : OrderRow) → (replaced_by form other).order.account ≡ other.order.account
+same-account form other = by (replaces other.order form) refl
+  where
+    by : (b : Bool) → replaces other.order form ≡ b → (cond b (record { place = other.place; receipt = form.receipt; struck = other.struck; order = form.order }) other).order.account ≡ other.order.account
+    by true e = eqb-true form.order.account other.order.account (and_parts (form.order.account == other.order.account) (form.order.ref_no == other.order.ref_no) e).0
+    by false e = refl
+
+-- and leaves every other order
+pub others-stay : (journal : Journal) (event : Event) (form : EntryForm) (place : ℕ) → IsLawful (with_event journal event) → (row : OrderRow) → slice_get (orders_of journal) place ≡ Some row → replaces row.order form ≡ true → (k : ℕ) → k ≢ place → slice_get (map (replaced_by form) (orders_of journal)) k ≡ slice_get (orders_of journal) k
+others-stay journal event form place lawful row there named k apart = got-under (replaced_by form) rows k ∙ by (slice_get rows k) refl
   where
     rows : List OrderRow
     rows = orders_of journal
 
-    same-account : (other : OrderRow) → (replaced_by form other).order.account ≡ other.order.account
-    same-account other = by (replaces other.order form) refl
-      where
-        by : (b : Bool) → replaces other.order form ≡ b → (cond b (record { place = other.place; receipt = form.receipt; struck = other.struck; order = form.order }) other).order.account ≡ other.order.account
-        by true e = eqb-true form.order.account other.order.account (and_parts (form.order.account == other.order.account) (form.order.ref_no == other.order.ref_no) e).0
-        by false e = refl
+    by_name : (old : OrderRow) → slice_get rows k ≡ Some old → (b : Bool) → replaces old.order form ≡ b → Some (cond b (record { place = old.place; receipt = form.receipt; struck = old.struck; order = form.order }) old) ≡ Some old
+    by_name old at true e =
+        absurd (apart (one-place (λ (r : OrderRow). is_named form.order.account form.order.ref_no r.order) rows k place old row (one-named journal (last-brought journal event lawful).0 form.order.account form.order.ref_no) at (named-alike old form e) there (named-alike row form named)))
+    by_name old at false e = refl
 
-    others : (k : ℕ) → k ≢ place → slice_get (map (replaced_by form) rows) k ≡ slice_get rows k
-    others k apart = got-under (replaced_by form) rows k ∙ by (slice_get rows k) refl
-      where
-        by_name : (old : OrderRow) → slice_get rows k ≡ Some old → (b : Bool) → replaces old.order form ≡ b → Some (cond b (record { place = old.place; receipt = form.receipt; struck = old.struck; order = form.order }) old) ≡ Some old
-        by_name old at true e =
-            absurd (apart (one-place (λ (r : OrderRow). is_named form.order.account form.order.ref_no r.order) rows k place old row (one-named journal (last-brought journal event lawful).0 form.order.account form.order.ref_no) at (named-alike old form e) there (named-alike row form named)))
-        by_name old at false e = refl
+    by : (found : Option OrderRow) → slice_get rows k ≡ found → option_map (replaced_by form) found ≡ found
+    by None at = refl
+    by (Some old) at = by_name old at (replaces old.order form) refl
 
-        by : (found : Option OrderRow) → slice_get rows k ≡ found → option_map (replaced_by form) found ≡ found
-        by None at = refl
-        by (Some old) at = by_name old at (replaces old.order form) refl
+pub replaces_order : (journal : Journal) (event : Event) (form : EntryForm) (place : ℕ) (owners waiting : List ℕ) → LawfulReplacesOrder journal event form place owners waiting
+replaces_order journal event form place owners waiting lawful kind row there named is =
+    let rows = orders_of journal in
+    let less = got-within rows place row there in
+    let many = as-many (accounts_of journal) rows owners is.owned in
+    left-behind journal event lawful (EventKind.Replace form) kind owners (with_place place waiting)
+    (owned-still (accounts_of journal) (map (replaced_by form) rows) owners (owned_when_changed (accounts_of journal) rows owners (replaced_by form) (same-account form) is.owned))
+    (rises-with place 0 (length owners) waiting (omega arith) (omega (arith, less, many)) is.within)
+    (another_waits (waits (sheets_of journal)) rows (map (replaced_by form) rows) waiting place (others-stay journal event form place lawful row there named) is.enough)
 
 -- ---- a sheet
 
@@ -343,7 +363,7 @@ none-before sheets new row is =
     by true (Some y) e = absurd (never (is_earlier new y) y e)
     by false found e = e
 
-waited-before : (sheets : List Sheet) (new : Sheet) (row : OrderRow) → waits (sheets ++ new ∷ []) row ≡ true → waits sheets row ≡ true
+pub waited-before : (sheets : List Sheet) (new : Sheet) (row : OrderRow) → waits (sheets ++ new ∷ []) row ≡ true → waits sheets row ≡ true
 waited-before sheets new row is =
     let both = and_parts (stands row) (is_none (sheet_number (sheets ++ new ∷ []) row)) is in
     and_from (stands row) (is_none (sheet_number sheets row)) both.0 (none-before sheets new row both.1)
@@ -355,16 +375,14 @@ last-found p (s ∷ ss) new all on =
     ap (λ b. cond b (Some s) (find p (ss ++ new ∷ []))) (All-head (λ (t : Sheet). p t ≡ false) s ss all)
     ∙ last-found p ss new (All-tail (λ (t : Sheet). p t ≡ false) s ss all) on
 
-pub sheet_takes : (journal : Journal) (event : Event) (form : SheetForm) (owners waiting : List ℕ) → LawfulSheetTakes journal event form owners waiting
-sheet_takes journal event form owners waiting lawful kind is =
-    subst (IsIndexOf (with_event journal event) owners) (sym same)
-    (left-index (with_event journal event) owners waiting
-    (subst (λ accounts. AreOwners accounts (orders_of (with_event journal event)) owners) (sym (accounts-behind journal event lawful (EventKind.Sheet form) kind ∙ append-nil (accounts_of journal)))
-    (subst (λ r. AreOwners (accounts_of journal) r owners) (sym rows-same) is.owned))
-    is.within
-    (subst (λ s. HasEach (waits s) (orders_of (with_event journal event)) waiting) (sym sheets-more)
-    (subst (λ r. HasEach (waits (sheets ++ new ∷ [])) r waiting) (sym rows-same)
-    (still_waits (waits sheets) (waits (sheets ++ new ∷ [])) rows rows waiting (λ place row there now. (row, there, waited-before sheets new row now)) is.enough))))
+-- what it takes are those that wait no more
+pub taken-left : (journal : Journal) (event : Event) (form : SheetForm) (waiting : List ℕ) → IsLawful (with_event journal event) → event.kind ≡ EventKind.Sheet form → AllWait (sheets_of journal) (orders_of journal) waiting → filter (passes_at (stays (sheet_behind journal form).number (sheets_of (with_event journal event))) (orders_of (with_event journal event))) waiting ≡ left_waiting (with_event journal event) waiting
+taken-left journal event form waiting lawful kind all =
+    ap (λ s. filter (passes_at (stays new.number s) (orders_of (with_event journal event))) waiting) sheets-more
+    ∙ (ap (λ r. filter (passes_at (stays new.number (sheets ++ new ∷ [])) r) waiting) rows-same
+    ∙ (last_leaves rows sheets new waiting last-number all
+    ∙ (ap (λ r. filter (passes_at (waits (sheets ++ new ∷ [])) r) waiting) (sym rows-same)
+    ∙ ap (λ s. filter (passes_at (waits s) (orders_of (with_event journal event))) waiting) (sym sheets-more))))
   where
     rows : List OrderRow
     rows = orders_of journal
@@ -387,10 +405,13 @@ sheet_takes journal event form owners waiting lawful kind is =
         (λ k d short. eq-no (get_or sheets k d).number new.number (λ alike. let is = (numbered journal (last-brought journal event lawful).0).corrected.each k d short in omega (arith, is, alike, short)))
         (eq-yes new.number new.number refl)
 
-    same : filter (passes_at (stays new.number (sheets_of (with_event journal event))) (orders_of (with_event journal event))) waiting ≡ left_waiting (with_event journal event) waiting
-    same =
-        ap (λ s. filter (passes_at (stays new.number s) (orders_of (with_event journal event))) waiting) sheets-more
-        ∙ (ap (λ r. filter (passes_at (stays new.number (sheets ++ new ∷ [])) r) waiting) rows-same
-        ∙ (last_leaves rows sheets new waiting last-number is.all_wait
-        ∙ (ap (λ r. filter (passes_at (waits (sheets ++ new ∷ [])) r) waiting) (sym rows-same)
-        ∙ ap (λ s. filter (passes_at (waits s) (orders_of (with_event journal event))) waiting) (sym sheets-more))))
+pub sheet_takes : (journal : Journal) (event : Event) (form : SheetForm) (owners waiting : List ℕ) → LawfulSheetTakes journal event form owners waiting
+sheet_takes journal event form owners waiting lawful kind is =
+    let rows = orders_of journal in
+    let new = sheet_behind journal form in
+    let more = sheets_of journal ++ new ∷ [] in
+    subst (IsIndexOf (with_event journal event) owners) (sym (taken-left journal event form waiting lawful kind is.all_wait))
+    (left-behind journal event lawful (EventKind.Sheet form) kind owners waiting
+    (owned-still (accounts_of journal) rows owners is.owned)
+    is.within
+    (still_waits (waits (sheets_of journal)) (waits more) rows rows waiting (λ place row there now. (row, there, waited-before (sheets_of journal) new row now)) is.enough))

@@ -39,9 +39,9 @@ use Rattle.register_machine.specs.pricing.OrderClasses.{classes_in}
 use Rattle.standing_orders.proofs.PricedLast.{settled_more}
 use Rattle.standing_orders.specs.Places.{RisesWithin, is_among}
 use Rattle.standing_orders.specs.Rows.{is_settled, sheet_number, waits}
-use Rattle.waiting_laws.proofs.IndexSteps.{as-many, got-more, got-under, number-fixed}
+use Rattle.waiting_laws.proofs.IndexSteps.{got-more, got-under, number-fixed, as-many}
 use Rattle.waiting_laws.specs.IndexOfJournals.{IsIndexOf, sheets_of}
-use Rattle.waiting_laws.specs.SettledOrders.{AreSettled, CorrectionLeavesSettled, LawfulLeavesSettled, ReplacesNone, SettledBeforeWaiting, first_waiting}
+use Rattle.waiting_laws.specs.SettledOrders.{AreSettled, CorrectionLeavesSettled, LawfulLeavesSettled, ReplacesNone, first_waiting, SettledBeforeWaiting}
 
 none-some : {X : Type 0} {x : X} → None ≡ Some x → ⊥
 none-some e = cc
@@ -115,7 +115,7 @@ module _ (journal : Journal) (event : Event) (household first number : ℕ) (few
   same-own : (row : OrderRow) → is_of_household (accounts_of journal ++ []) household row.order.account ≡ true → is_of_household (accounts_of journal) household row.order.account ≡ true
   same-own row own = sym (ap (λ accounts. is_of_household accounts household row.order.account) (append-nil (accounts_of journal))) ∙ own
 
-  by-correction : (kind : EventKind) → is_correction kind ≡ true → ReplacesNone journal kind household → AreAfter kind
+  pub by-correction : (kind : EventKind) → is_correction kind ≡ true → ReplacesNone journal kind household → AreAfter kind
   by-correction (EventKind.FixPrice form) corrects none = λ place row short there own. with-price (book_behind journal) household first number settled form place row short there (same-own row own)
   by-correction (EventKind.FixRate form) corrects none = λ place row short there own. settled place row short there (same-own row own)
   by-correction (EventKind.Enter form) corrects none = λ place row short there own. with-order (book_behind journal) household first number settled _ few place row short there (same-own row own)
@@ -123,7 +123,7 @@ module _ (journal : Journal) (event : Event) (household first number : ℕ) (few
   by-correction (EventKind.Void form) corrects none = λ place row short there own. with-strike (book_behind journal) household first number settled (form.account, form.ref_no) place row short there (same-own row own)
   by-correction _ corrects none = absurd (true≢false (sym corrects))
 
-  by-event : IsLawful (with_event journal event) → (kind : EventKind) → event.kind ≡ kind → is_correction kind ≡ false → AreAfter kind
+  pub by-event : IsLawful (with_event journal event) → (kind : EventKind) → event.kind ≡ kind → is_correction kind ≡ false → AreAfter kind
   by-event lawful (EventKind.Order placed) is plain = λ place row short there own. with-order (book_behind journal) household first number settled _ few place row short there (same-own row own)
   by-event lawful (EventKind.Cancel form) is plain = λ place row short there own. with-strike (book_behind journal) household first number settled (form.account, form.target) place row short there (same-own row own)
   by-event lawful (EventKind.Sheet form) is plain = λ place row short there own. with-sheet (book_behind journal) household first number settled (sheet_behind journal form) (never-after journal event lawful form is) place row short there (same-own row own)
@@ -182,7 +182,7 @@ first-within : (many : ℕ) (places : List ℕ) → RisesWithin 0 many places �
 first-within many [] rises = omega arith
 first-within many (place ∷ places) rises = let high = rises.1 in omega (arith, high)
 
-settled-before : (journal : Journal) (owners waiting : List ℕ) → IsLawful journal → IsIndexOf journal owners waiting → (household : ℕ) → AreSettled (book_behind journal) household (first_waiting waiting (length owners)) (length (sheets_of journal))
+pub settled-before : (journal : Journal) (owners waiting : List ℕ) → IsLawful journal → IsIndexOf journal owners waiting → (household : ℕ) → AreSettled (book_behind journal) household (first_waiting waiting (length owners)) (length (sheets_of journal))
 settled-before journal owners waiting lawful is household place row short there own = by (stands row) refl (sheet_number (sheets_of journal) row) refl
   where
     waits-not : waits (sheets_of journal) row ≡ true → ⊥
@@ -193,11 +193,15 @@ settled-before journal owners waiting lawful is household place row short there 
     by true on None e = absurd (waits-not (ap (λ b. b && is_none (sheet_number (sheets_of journal) row)) on ∙ ap (λ (found : Option ℕ). is_none found) e))
     by true on (Some n) e = le-leb n (length (sheets_of journal)) (number-within (sheets_of journal) row n (numbered journal lawful).corrected e)
 
+-- and the first place that waits is one of an order, or behind all of them
+pub begun-before : (journal : Journal) (owners waiting : List ℕ) → IsIndexOf journal owners waiting → first_waiting waiting (length owners) ≤ length (orders_of journal)
+begun-before journal owners waiting is =
+    let many = as-many (accounts_of journal) (orders_of journal) owners is.owned in
+    let few = first-within (length owners) waiting is.within in
+    omega (arith, many, few)
+
 pub settled_before_waiting : (journal : Journal) (owners waiting : List ℕ) → SettledBeforeWaiting journal owners waiting
 settled_before_waiting journal owners waiting lawful is = record {
-  begun =
-      let many = as-many (accounts_of journal) (orders_of journal) owners is.owned in
-      let few = first-within (length owners) waiting is.within in
-      omega (arith, many, few);
+  begun = begun-before journal owners waiting is;
   settled = settled-before journal owners waiting lawful is;
 }

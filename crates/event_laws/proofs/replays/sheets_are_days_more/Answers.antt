@@ -1,5 +1,9 @@
-use Rattle.event_laws.proofs.EventReplays.{adds_sheet}
+use Rattle.event_laws.proofs.EventReplays.{goes-over, same-before, sheet-behind-all}
 use Rattle.event_laws.proofs.replays.sheets_are_days_more.Goals as goal
 
 pub returns : goal.returns
-returns c = adds_sheet
+returns c journal event lawful form is = record {
+  sheets = sheet-behind-all journal event lawful form is;
+  up_to = same-before journal event lawful form is;
+  goes_on = goes-over journal event lawful form is;
+}

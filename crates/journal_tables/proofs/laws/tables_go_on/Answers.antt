@@ -1,5 +1,14 @@
-use Rattle.journal_tables.proofs.EventTables.{tables_go_on}
+use Rattle.journal_tables.proofs.EventTables.{accounts-on, few-accounts-on, few-terms-on, moments-on, rates-on, terms-on}
+use Rattle.journal_tables.proofs.StandingTables.{stand-after}
 use Rattle.journal_tables.proofs.laws.tables_go_on.Goals as goal
 
 pub returns : goal.returns
-returns c = tables_go_on
+returns c journal tables event are range = record {
+  stand = stand-after tables event.kind range are.stand;
+  terms = terms-on journal tables event are;
+  accounts = accounts-on journal tables event are;
+  rates = rates-on journal tables event are;
+  few_terms = few-terms-on journal tables event are;
+  few_accounts = few-accounts-on journal tables event are;
+  moments = moments-on journal tables event are range;
+}

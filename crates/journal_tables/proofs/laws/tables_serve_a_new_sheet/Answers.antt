@@ -1,5 +1,12 @@
-use Rattle.journal_tables.proofs.ServedFacts.{serves_new_sheet}
+use Rattle.std.proofs.Common.{refl}
+use Rattle.agent_events.specs.declared.event.EventKind.{EventKind}
+use Rattle.journal_tables.proofs.ServedFacts.{numbered-there, serve, tables-behind}
 use Rattle.journal_tables.proofs.laws.tables_serve_a_new_sheet.Goals as goal
+use Rattle.journal_tables.specs.TablesOfJournals.{known_of}
+use Rattle.register_machine.specs.journal.Journals.{with_event}
 
 pub returns : goal.returns
-returns c = serves_new_sheet
+returns c journal tables event form sheet lawful is range are there =
+    let later = with_event journal event in
+    serve (known_of later tables sheet) later lawful (tables-behind journal tables event (EventKind.Sheet form) is range are) refl
+    (numbered-there later sheet there) there

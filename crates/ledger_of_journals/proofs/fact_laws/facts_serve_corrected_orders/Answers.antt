@@ -1,5 +1,7 @@
-use Rattle.ledger_of_journals.proofs.ServedBooks.{order_correction_served}
+use Rattle.journal_tables.specs.TablesOfJournals.{known_of}
+use Rattle.ledger_of_journals.proofs.ServedBooks.{behind-order, served-on-trial}
 use Rattle.ledger_of_journals.proofs.fact_laws.facts_serve_corrected_orders.Goals as goal
 
 pub returns : goal.returns
-returns c = order_correction_served
+returns c journal tables event sheet is changes are last =
+    served-on-trial (known_of journal tables sheet) journal event is (behind-order journal tables event sheet is changes are last)

@@ -1,5 +1,13 @@
-use Rattle.ledger_of_journals.proofs.ServedBooks.{new_sheet_served}
+use Rattle.std.proofs.Common.{refl}
+use Rattle.agent_events.specs.declared.event.EventKind.{EventKind}
+use Rattle.journal_tables.specs.TablesOfJournals.{known_of}
+use Rattle.ledger_of_journals.proofs.ServedBooks.{facts_behind_serve, few-of-lawful, tables-behind}
 use Rattle.ledger_of_journals.proofs.fact_laws.tables_serve_the_book_behind_a_sheet.Goals as goal
+use Rattle.register_machine.specs.journal.Journals.{with_event}
 
 pub returns : goal.returns
-returns c = new_sheet_served
+returns c journal tables event form sheet lawful is range are last =
+    let later = with_event journal event in
+    facts_behind_serve (known_of later tables sheet) later
+    (record { tables = tables-behind journal tables event (EventKind.Sheet form) is range are; sheets = refl; last = last })
+    (few-of-lawful later lawful)

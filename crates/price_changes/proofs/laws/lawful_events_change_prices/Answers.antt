@@ -1,5 +1,11 @@
-use Rattle.price_changes.proofs.LawfulChanges.{changes_prices}
+use Rattle.std.proofs.Common.{refl, sym}
+use Rattle.price_changes.proofs.LawfulChanges.{fits-by, good-by}
 use Rattle.price_changes.proofs.laws.lawful_events_change_prices.Goals as goal
+use Rattle.register_laws.proofs.PricesAnew.{prices_anew}
 
 pub returns : goal.returns
-returns c = changes_prices
+returns c journal event all = record {
+  good = good-by journal event all event.kind refl;
+  fits = fits-by journal event all event.kind refl;
+  leaves = sym (prices_anew journal event all).table;
+}

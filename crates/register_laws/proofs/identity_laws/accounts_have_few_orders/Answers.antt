@@ -1,5 +1,5 @@
-use Rattle.register_laws.proofs.OrderlyBooks.{few_references}
+use Rattle.register_laws.proofs.KeepsLimits.{limits-kept}
 use Rattle.register_laws.proofs.identity_laws.accounts_have_few_orders.Goals as goal
 
 pub returns : goal.returns
-returns c = few_references
+returns c journal lawful = (limits-kept journal lawful).0.orders

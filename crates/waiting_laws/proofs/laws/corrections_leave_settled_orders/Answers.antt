@@ -1,5 +1,10 @@
-use Rattle.waiting_laws.proofs.SettledStay.{correction_leaves_settled}
+use Rattle.std.proofs.Common.{subst, sym}
+use Rattle.register_machine.specs.pricing.CorrectedBook.{Book}
+use Rattle.waiting_laws.proofs.SettledStay.{by-correction}
 use Rattle.waiting_laws.proofs.laws.corrections_leave_settled_orders.Goals as goal
+use Rattle.waiting_laws.specs.SettledOrders.{AreSettled}
 
 pub returns : goal.returns
-returns c = correction_leaves_settled
+returns c journal event household first number goes corrects none few settled =
+    subst (λ (book : Book). AreSettled book household first number) (sym goes)
+    (by-correction journal event household first number few settled event.kind corrects none)

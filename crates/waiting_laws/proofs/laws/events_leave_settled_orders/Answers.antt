@@ -1,5 +1,11 @@
-use Rattle.waiting_laws.proofs.SettledStay.{event_leaves_settled}
+use Rattle.std.proofs.Common.{refl, subst, sym}
+use Rattle.register_laws.proofs.BooksGoOn.{book_goes_on}
+use Rattle.register_machine.specs.pricing.CorrectedBook.{Book}
+use Rattle.waiting_laws.proofs.SettledStay.{by-event}
 use Rattle.waiting_laws.proofs.laws.events_leave_settled_orders.Goals as goal
+use Rattle.waiting_laws.specs.SettledOrders.{AreSettled}
 
 pub returns : goal.returns
-returns c = event_leaves_settled
+returns c journal event household first number lawful plain few settled =
+    subst (λ (book : Book). AreSettled book household first number) (sym (book_goes_on journal event lawful))
+    (by-event journal event household first number few settled lawful event.kind refl plain)

@@ -1,5 +1,8 @@
-use Rattle.waiting_laws.proofs.SettledStay.{settled_before_waiting}
+use Rattle.waiting_laws.proofs.SettledStay.{begun-before, settled-before}
 use Rattle.waiting_laws.proofs.laws.orders_before_the_waiting_are_settled.Goals as goal
 
 pub returns : goal.returns
-returns c = settled_before_waiting
+returns c journal owners waiting lawful is = record {
+  begun = begun-before journal owners waiting is;
+  settled = settled-before journal owners waiting lawful is;
+}

@@ -1,5 +1,7 @@
-use Rattle.waiting_laws.proofs.IndexSteps.{leaves_the_index}
+use Rattle.std.proofs.Common.{refl}
+use Rattle.waiting_laws.proofs.IndexSteps.{index-behind, keeps-plain}
 use Rattle.waiting_laws.proofs.laws.other_events_leave_the_index.Goals as goal
 
 pub returns : goal.returns
-returns c = leaves_the_index
+returns c journal event owners waiting lawful plain is =
+    index-behind journal event lawful event.kind refl owners waiting is.within (keeps-plain journal event owners waiting is event.kind plain)
