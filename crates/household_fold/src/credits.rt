@@ -8,12 +8,12 @@ ghost use Rattle.household_fold.specs.Facts.{FactsFit, book_of_facts, sheet_at_h
 ghost use Rattle.household_fold.specs.Limits.{AreFew};
 
 use crate::facts::Facts;
-use household_positions::HeldPosition;
+use household_positions::KeptPosition;
 use offering_price::{Holding, credit_of_holding};
 
 /// The credit of an account over the positions of its household as they stand, in cents. It costs a search of a price for
 /// each position.
-pub(crate) fn credit_of(facts: &Facts, positions: &[HeldPosition], account: u32) -> u128
+pub(crate) fn credit_of(facts: &Facts, positions: &[KeptPosition], account: u32) -> u128
     requires facts { FactsFit facts.now }
     requires few { AreFew positions.now }
     ensures value { result ≡ credit_of (book_of_facts facts.now)
@@ -29,7 +29,7 @@ pub(crate) fn credit_of(facts: &Facts, positions: &[HeldPosition], account: u32)
 }
 
 // What one position adds.
-fn position_credit(facts: &Facts, household: Option<u32>, position: &HeldPosition) -> u128
+fn position_credit(facts: &Facts, household: Option<u32>, position: &KeptPosition) -> u128
     requires { FactsFit facts.now }
     ensures value { result ≡ position_credit (book_of_facts facts.now)
         (sheet_at_hand facts.now) household position.now }
@@ -42,7 +42,7 @@ fn position_credit(facts: &Facts, household: Option<u32>, position: &HeldPositio
     }
 }
 
-fn is_counted(facts: &Facts, household: Option<u32>, position: &HeldPosition) -> bool
+fn is_counted(facts: &Facts, household: Option<u32>, position: &KeptPosition) -> bool
     requires { FactsFit facts.now }
     ensures { result ≡ is_counted (book_of_facts facts.now) household position.now }
 {
@@ -65,7 +65,7 @@ fn is_owned(facts: &Facts, household: Option<u32>, account: u32) -> bool
 }
 
 // A position as its household's breakpoints see it.
-fn worth_on(facts: &Facts, position: &HeldPosition) -> Holding
+fn worth_on(facts: &Facts, position: &KeptPosition) -> Holding
     requires { FactsFit facts.now }
     ensures value { result ≡ worth_on (book_of_facts facts.now)
         (sheet_at_hand facts.now) position.now }
@@ -73,8 +73,8 @@ fn worth_on(facts: &Facts, position: &HeldPosition) -> Holding
     ensures cost { result.cost ≤ 1000000000000000 }
 {
     Holding {
-        mils: position.holding.mils(),
-        cost: position.holding.cost(),
+        mils: position.holding().mils(),
+        cost: position.holding().cost(),
         nav: facts.last_price(position.class),
     }
 }

@@ -152,7 +152,7 @@ fn day_with_purchase(
     let class = class_of(&order.body);
     let letter = letter_of(day.register(), account, class);
     let trade = trade_of_purchase(facts, order, gross, split);
-    let position = day.take_out(alloc, account, class);
+    let position = day.take_out(alloc, account, class)?;
     let (bought, number) = position_with_lot(position, facts.day(), gross, split)?;
     match letter {
         Some(letter) => {
@@ -251,7 +251,7 @@ fn day_after_reaching(
     let account = order.account.number();
     let class = class_of(&order.body);
     let trade = plain_trade(facts, account, class, TradeKind::LetterReached);
-    let mut position = day.take_out(alloc, account, class);
+    let mut position = day.take_out(alloc, account, class)?;
     position.holding.release();
     position.letter = None;
     day.close_trade(position, &trade)?;

@@ -113,7 +113,7 @@ fn sell(
     requires loose { asked ≤ loose_total (position_of_trade day.old trade.now).holding }
     ensures { OnOk result (day.new ≡ sale_known facts.now day.old trade.now asked) }
 {
-    let mut position = day.take_out(alloc, trade.account, trade.class);
+    let mut position = day.take_out(alloc, trade.account, trade.class)?;
     let sold = take_charged(alloc, facts, &mut position, asked)?;
     let filled = sale_trade(facts, trade, asked, &sold);
     day.close_trade(position, &filled)?;
