@@ -23,38 +23,49 @@ pub(crate) fn credit_of(facts: &Facts, positions: &[KeptPosition], account: u32)
     let household = facts.household(account);
     let mut credit = 0;
     for position in positions {
-        credit += position_credit(facts, household, position);
+        credit += position_credit(facts, account, household, position);
     }
     credit
 }
 
-// What one position adds.
-fn position_credit(facts: &Facts, household: Option<u32>, position: &KeptPosition) -> u128
-    requires { FactsFit facts.now }
+// What one position adds to the credit of an account of this household.
+fn position_credit(
+    facts: &Facts,
+    account: u32,
+    household: Option<u32>,
+    position: &KeptPosition,
+) -> u128
+    requires facts { FactsFit facts.now }
+    requires household { household ≡ household_of (book_of_facts facts.now).accounts account }
     ensures value { result ≡ position_credit (book_of_facts facts.now)
         (sheet_at_hand facts.now) household position.now }
     ensures most { result ≤ 10000000000000000 }
 {
-    if is_counted(facts, household, position) {
+    if is_counted(facts, account, household, position) {
         credit_of_holding(worth_on(facts, position))
     } else {
         0
     }
 }
 
-fn is_counted(facts: &Facts, household: Option<u32>, position: &KeptPosition) -> bool
-    requires { FactsFit facts.now }
+fn is_counted(facts: &Facts, account: u32, household: Option<u32>, position: &KeptPosition) -> bool
+    requires facts { FactsFit facts.now }
+    requires household { household ≡ household_of (book_of_facts facts.now).accounts account }
     ensures { result ≡ is_counted (book_of_facts facts.now) household position.now }
 {
-    facts.counts(position.class) && is_owned(facts, household, position.account)
+    facts.counts(position.class) && is_owned(facts, account, household, position.account)
 }
 
-// Whether an account is of the household.
-fn is_owned(facts: &Facts, household: Option<u32>, account: u32) -> bool
-    requires { FactsFit facts.now }
+// Whether an account is of the household of this one, which takes no search where it is this one.
+fn is_owned(facts: &Facts, own: u32, household: Option<u32>, account: u32) -> bool
+    requires facts { FactsFit facts.now }
+    requires household { household ≡ household_of (book_of_facts facts.now).accounts own }
     ensures { result ≡ option_map_or (λ owner. option_map_or (λ other. other == owner)
         (household_of (book_of_facts facts.now).accounts account) false) household false }
 {
+    if account == own {
+        return household.is_some();
+    }
     match household {
         Some(owner) => match facts.household(account) {
             Some(other) => other == owner,

@@ -145,7 +145,7 @@ fn take_loose(alloc: Global, holding: &mut Position, asked: u64) -> Result<Piece
     ensures few_mils { IfOk result (λ taken. sum_by (λ piece. piece.mils) taken ≤ most_mils) }
     ensures low_cost { IfOk result (λ taken. sum_by (λ piece. piece.cost) taken ≤ most_cost) }
 {
-    let _loose = holding.loose();
+    let _mils = holding.mils();
     let _cost = holding.cost();
     match holding.take(alloc, Mils(asked)) {
         Ok(taken) => Ok(taken),
