@@ -16,20 +16,22 @@ pub struct HouseholdPart {
     pub trades: Vec<Trade>,
 }
 
-/// A part moved on, within the room of its trades.
-pub(crate) fn moved_part(part: HouseholdPart, change: HouseholdMove) -> HouseholdPart
-    requires { vec_len part.trades + length change.trades ≤ vec_capacity part.trades }
-    ensures day { day_of result ≡ day_after_move (day_of part) change }
-    ensures number { result.state.number ≡ change.state.number }
+/// Moves a part on where it stands, within the room of its trades.
+pub(crate) fn move_part(part: &mut HouseholdPart, change: HouseholdMove)
+    requires { vec_len part.old.trades + length change.trades ≤ vec_capacity part.old.trades }
+    ensures day { day_of part.new ≡ day_after_move (day_of part.old) change }
+    ensures number { part.new.state.number ≡ change.state.number }
 {
-    let mut trades = part.trades;
-    trades.truncate(change.kept);
-    let appended: Result<(), AllocError> = trades.extend_from_slice(change.trades.as_slice());
-    appended.unwrap();
-    HouseholdPart {
-        state: change.state,
+    let HouseholdMove {
+        household: _,
+        state,
+        kept,
         trades,
-    }
+    } = change;
+    part.trades.truncate(kept);
+    let appended: Result<(), AllocError> = part.trades.extend_from_slice(trades.as_slice());
+    appended.unwrap();
+    part.state = state;
 }
 
 /// The part of a household of which nothing was kept.

@@ -6,7 +6,7 @@ ghost use Rattle.checkpoint_replay.specs.declared.change.HouseholdMove.{Househol
 ghost use Rattle.checkpoint_replay.specs.Parts.{AreParts, part_in};
 
 use crate::change::HouseholdMove;
-use crate::part::{HouseholdPart, first_part, moved_part};
+use crate::part::{HouseholdPart, first_part, move_part};
 use money_units::NoMemory;
 use std::collections::HashMap;
 
@@ -23,11 +23,11 @@ pub(crate) fn put_move(parts: &mut HashMap<u32, HouseholdPart>, change: Househol
     ensures room { spare parts.old ≤ spare parts.new + 1 }
 {
     let household = change.household;
-    let part = match parts.remove(&household) {
-        Some(part) => moved_part(part, change),
-        None => first_part(change),
-    };
-    let put: Result<_, _> = parts.insert(household, part);
+    if let Some(part) = parts.get_mut(&household) {
+        move_part(part, change);
+        return;
+    }
+    let put: Result<_, _> = parts.insert(household, first_part(change));
     let _before = put.unwrap();
 }
 

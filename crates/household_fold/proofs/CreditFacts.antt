@@ -1,5 +1,7 @@
 -- The credit of an account, position by position.
-use Rattle.std.proofs.Common.{Bool, List, Option, [], ap, cond, false, filter, map, refl, sum_by, sym, true, zero-add, ℕ, ◌+◌, ◌∙◌, ◌∷◌, ◌≡◌}
+use Rattle.std.proofs.Common.{Bool, List, None, Option, Some, [], ap, arith, cond, false, filter, is_some, map, refl, sum_by, sym, true, zero-add, ℕ, ◌+◌, ◌==◌, ◌∙◌, ◌∷◌, ◌≡◌}
+use Rattle.std.proofs.lemmas.Bool.Decides.{nat_tests}
+use Rattle.std.specs.Option.{option_map_or}
 use Rattle.std.proofs.lemmas.List.Sums.{sum_by-cons}
 use Rattle.forward_price.specs.declared.price_sheet.Sheet.{Sheet}
 use Rattle.offering_price.specs.Accumulation.{credit, worth}
@@ -21,3 +23,12 @@ sum-passing n f p (x ∷ xs) =
 
 pub credit-summed : (book : Book) (sheet : Sheet) (household : Option ℕ) (register : Register) → credit (map (worth_on book sheet) (filter (is_counted book household) register)) ≡ sum_by (position_credit book sheet household) register
 credit-summed book sheet household register = sum-passing worth (worth_on book sheet) (is_counted book household) register
+
+same-number : (n : ℕ) → true ≡ (n == n)
+same-number n = grind (arith, nat_tests)
+
+-- an account is of its own household, where it has one
+pub own-owned : (household found : Option ℕ) → household ≡ found → is_some household ≡ option_map_or (λ owner. option_map_or (λ other. other == owner) found false) household false
+own-owned None found is = refl
+own-owned (Some owner) found is =
+    same-number owner ∙ ap (λ o. option_map_or (λ other. other == owner) o false) is

@@ -15,7 +15,7 @@ use crate::listed_prices::{nav_on_trial, published_prices};
 use crate::made_trades::plain_trade;
 use agent_events::{Trade, TradeKind};
 use dividend_reinvest::{Payment, pay};
-use household_positions::{HeldPosition, HouseholdDay, HouseholdRegister, PositionKey};
+use household_positions::{HouseholdDay, HouseholdRegister, KeptPosition, PositionKey};
 use money_units::{Cents, Mils, Nav, NoMemory};
 use std::alloc::Global;
 
@@ -26,13 +26,13 @@ const MAX_POSITION_MILS: u64 = 1_000_000_000_000;
 const MAX_POSITION_CENTS: u64 = 1_000_000_000_000_000;
 
 /// The payment on a position at a rate, in millionths of a dollar per share, and a net asset value.
-pub(crate) fn payment_on(position: &HeldPosition, rate: u64, nav: Nav) -> Payment
+pub(crate) fn payment_on(position: &KeptPosition, rate: u64, nav: Nav) -> Payment
     requires { rate ≤ 1000000000 }
     ensures payment { result ≡ payment_on rate nav position.now }
     ensures limits { KeepsLimits position.now.holding result }
 {
-    let mils = position.holding.mils();
-    let cost = position.holding.cost();
+    let mils = position.holding().mils();
+    let cost = position.holding().cost();
     let room = Mils(MAX_POSITION_MILS - mils.0);
     let cost_room = Cents(MAX_POSITION_CENTS - cost.0);
     pay(mils, rate, nav, position.in_cash, room, cost_room)
@@ -104,7 +104,7 @@ fn reinvest(
         ≡ payment_known facts.now day.old account class (pays.Shares cash mils)) }
 {
     let trade = dividend_trade(facts, account, class, cash, mils);
-    let mut position = day.take_out(alloc, account, class);
+    let mut position = day.take_out(alloc, account, class)?;
     position.holding.add(facts.day(), mils, cash, true)?;
     day.close_trade(position, &trade)?;
     Ok(())

@@ -23,7 +23,7 @@ pub(crate) fn elect(
     ensures { OnOk result (day.new
         ≡ day_after_election (sheet_at_hand facts.now) day.old order.now in_cash) }
 {
-    let mut position = day.take_out(alloc, order.account.number(), class_of(&order.body));
+    let mut position = day.take_out(alloc, order.account.number(), class_of(&order.body))?;
     position.in_cash = in_cash;
     let trade = order_trade(facts, order, kind_of(in_cash));
     day.close_trade(position, &trade)?;

@@ -97,7 +97,7 @@ fn pieces_asked(
     ensures low_cost { IfOk result (λ given. moving.cost_total given ≤ most_cost) }
 {
     match register.find(shares.account, shares.class) {
-        Some(position) => Ok(position.holding.pieces(alloc, shares.asked)?),
+        Some(position) => Ok(position.holding().pieces(alloc, shares.asked)?),
         None => Ok(Pieces::new(alloc)),
     }
 }
@@ -208,7 +208,7 @@ fn move_shares(
 {
     let filled = exchange_trade(facts, trade, shares, moved);
     give_shares(alloc, day, shares)?;
-    let mut target = day.take_out(alloc, shares.account, shares.to);
+    let mut target = day.take_out(alloc, shares.account, shares.to)?;
     add_pieces(&mut target.holding, moved.pieces.as_slice())?;
     day.close_trade(target, &filled)?;
     Ok(())
@@ -222,7 +222,7 @@ fn give_shares(alloc: Global, day: &mut HouseholdDay, shares: &Move) -> Result<(
     if shares.class == shares.to {
         return Ok(());
     }
-    let mut source = day.take_out(alloc, shares.account, shares.class);
+    let mut source = day.take_out(alloc, shares.account, shares.class)?;
     source.holding.remove(shares.asked);
     day.put_back(source)?;
     Ok(())

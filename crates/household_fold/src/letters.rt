@@ -76,7 +76,7 @@ fn day_with_letter(
     );
     let mut trade = order_trade(facts, order, TradeKind::Letter);
     trade.cash = Cents(amount.cents());
-    let mut position = day.take_out(alloc, account, class);
+    let mut position = day.take_out(alloc, account, class)?;
     position.letter = Some(letter);
     day.close_trade(position, &trade)?;
     Ok(())
@@ -179,7 +179,7 @@ fn day_after_settlement(
         (position_at day.old.register key.now) (Some letter.now)) }
     ensures within { OnOk result (AreLettersWithin day.new.register) }
 {
-    let mut position = day.take_out(alloc, key.account, key.class);
+    let mut position = day.take_out(alloc, key.account, key.class)?;
     let held = position.holding.held();
     let settled = letter.settle(facts.terms_of(key.class), facts.nav(key.class), held);
     position.holding.pay_held(settled.paid);

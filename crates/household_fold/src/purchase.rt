@@ -1,7 +1,8 @@
 //! A purchase: its rate, its split, its lot, and what an open letter makes of it.
-ghost use Rattle.std.specs.Prelude.{◌≡◌, ◌<◌, ◌≤◌, IfOk, OnOk, false, true};
+ghost use Rattle.std.specs.Prelude.{◌≡◌, ◌<◌, ◌≤◌, IfOk, OnOk, false, true, ℕ};
 ghost use Rattle.register_machine.specs.replay.Positions.{has_room, with_holding};
 ghost use Rattle.letter_of_intent.specs.Letters.{IsLetter, note_of_purchase};
+ghost use Rattle.offering_price.specs.Accumulation.{bracket};
 ghost use Rattle.register_machine.specs.replay.Purchase.{amount_rated, day_after_reaching, day_if_reached, position_after_note};
 ghost use Rattle.share_lots.specs.Lots.{HasLoose, shares_added};
 ghost use Rattle.household_fold.specs.Facts.{FactsFit, IsListed, sheet_at_hand};
@@ -14,6 +15,7 @@ use crate::facts::Facts;
 use crate::made_trades::{class_of, order_trade, plain_trade};
 use crate::reads::{has_room, letter_of};
 use agent_events::{Amount, Order, Trade, TradeKind, Why};
+use class_terms::Bracket;
 use fund_calendar::Day;
 use household_positions::{HeldPosition, HouseholdDay};
 use letter_of_intent::Letter;
@@ -61,12 +63,26 @@ fn rate_of_purchase(facts: &Facts, day: &HouseholdDay, order: &Order, gross: &Am
 {
     let account = order.account.number();
     let class = class_of(&order.body);
+    let terms = facts.terms_of(class);
+    if has_one_rate(terms.front().as_slice()) {
+        return bracket(terms, u128::from(gross.cents()));
+    }
     let letter = letter_of(day.register(), account, class);
     let credit = credit_of(facts, day.register().positions(), account);
     bracket(
-        facts.terms_of(class),
+        terms,
         amount_rated(letter, u128::from(gross.cents()) + credit),
     )
+}
+
+// Whether a table of loads has one rate for all amounts.
+fn has_one_rate(rows: &[Bracket]) -> bool
+    ensures { result ≡ true → (a b : ℕ) → bracket rows.now a ≡ bracket rows.now b }
+{
+    match rows {
+        [row] => row.floor.0 == 0,
+        _ => false,
+    }
 }
 
 fn amount_rated(letter: Option<Letter>, amount: u128) -> u128
@@ -152,7 +168,7 @@ fn day_with_purchase(
     let class = class_of(&order.body);
     let letter = letter_of(day.register(), account, class);
     let trade = trade_of_purchase(facts, order, gross, split);
-    let position = day.take_out(alloc, account, class);
+    let position = day.take_out(alloc, account, class)?;
     let (bought, number) = position_with_lot(position, facts.day(), gross, split)?;
     match letter {
         Some(letter) => {
@@ -251,7 +267,7 @@ fn day_after_reaching(
     let account = order.account.number();
     let class = class_of(&order.body);
     let trade = plain_trade(facts, account, class, TradeKind::LetterReached);
-    let mut position = day.take_out(alloc, account, class);
+    let mut position = day.take_out(alloc, account, class)?;
     position.holding.release();
     position.letter = None;
     day.close_trade(position, &trade)?;

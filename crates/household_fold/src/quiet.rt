@@ -10,7 +10,7 @@ use crate::dividends::payment_on;
 use crate::facts::Facts;
 use agent_events::Order;
 use dividend_reinvest::Payment;
-use household_positions::{HeldPosition, HouseholdRegister};
+use household_positions::{HouseholdRegister, KeptPosition};
 
 /// Whether there is no order, no payment and no letter that ends; the step then changes nothing.
 pub(crate) fn is_quiet(facts: &Facts, register: &HouseholdRegister, orders: &[Order]) -> bool
@@ -23,7 +23,7 @@ pub(crate) fn is_quiet(facts: &Facts, register: &HouseholdRegister, orders: &[Or
 }
 
 /// Whether there is no order, no payment and no letter that ends.
-fn is_left_alone(facts: &Facts, positions: &[HeldPosition], orders: &[Order]) -> bool
+fn is_left_alone(facts: &Facts, positions: &[KeptPosition], orders: &[Order]) -> bool
     requires { FactsFit facts.now }
     ensures { result ≡ is_quiet_for facts.now orders.now positions.now }
 {
@@ -31,7 +31,7 @@ fn is_left_alone(facts: &Facts, positions: &[HeldPosition], orders: &[Order]) ->
 }
 
 /// Whether the sheet pays on any position.
-fn any_paid(facts: &Facts, positions: &[HeldPosition]) -> bool
+fn any_paid(facts: &Facts, positions: &[KeptPosition]) -> bool
     requires { FactsFit facts.now }
     ensures { result ≡ list_any (is_paid facts.now) positions.now }
 {
@@ -44,7 +44,7 @@ fn any_paid(facts: &Facts, positions: &[HeldPosition]) -> bool
 }
 
 /// Whether the letter of any position ends by the date of the sheet.
-fn any_letter_over(facts: &Facts, positions: &[HeldPosition]) -> bool
+fn any_letter_over(facts: &Facts, positions: &[KeptPosition]) -> bool
     requires { FactsFit facts.now }
     ensures { result ≡ list_any (has_letter_over (sheet_at_hand facts.now)) positions.now }
 {
@@ -57,7 +57,7 @@ fn any_letter_over(facts: &Facts, positions: &[HeldPosition]) -> bool
 }
 
 /// Whether the sheet lists a position's class and pays on it.
-fn is_paid(facts: &Facts, position: &HeldPosition) -> bool
+fn is_paid(facts: &Facts, position: &KeptPosition) -> bool
     requires { FactsFit facts.now }
     ensures { result ≡ is_paid facts.now position.now }
 {
@@ -65,14 +65,14 @@ fn is_paid(facts: &Facts, position: &HeldPosition) -> bool
 }
 
 /// The class of a position.
-fn class_of(position: &HeldPosition) -> u32
+fn class_of(position: &KeptPosition) -> u32
     ensures { result ≡ position.now.class }
 {
     position.class
 }
 
 /// Whether a sheet that lists a position's class pays on it.
-fn has_payment(facts: &Facts, position: &HeldPosition) -> bool
+fn has_payment(facts: &Facts, position: &KeptPosition) -> bool
     requires facts { FactsFit facts.now }
     requires listed { IsListed facts.now position.now.class }
     ensures { result ≡ is_payment (payment_of facts.now position.now.class position.now) }
@@ -86,7 +86,7 @@ fn has_payment(facts: &Facts, position: &HeldPosition) -> bool
 }
 
 /// Whether a position has a letter that ends by the date of the sheet, in a class that the sheet lists.
-fn has_letter_over(facts: &Facts, position: &HeldPosition) -> bool
+fn has_letter_over(facts: &Facts, position: &KeptPosition) -> bool
     requires { FactsFit facts.now }
     ensures { result ≡ has_letter_over (sheet_at_hand facts.now) position.now }
 {

@@ -2,7 +2,7 @@
 ghost use Rattle.std.specs.Prelude.{◌≡◌};
 ghost use Rattle.register_machine.specs.replay.Positions.{has_room, position_of};
 
-use household_positions::{HeldPosition, HouseholdRegister};
+use household_positions::{HouseholdRegister, KeptPosition};
 use letter_of_intent::Letter;
 use money_units::{Cents, Mils};
 
@@ -40,9 +40,9 @@ pub(crate) fn has_room(
     }
 }
 
-fn held_has_room(position: &HeldPosition, mils: Mils, cost: Cents) -> bool
+fn held_has_room(position: &KeptPosition, mils: Mils, cost: Cents) -> bool
     ensures { result ≡ has_room position.now.holding mils cost }
 {
-    u128::from(position.holding.mils().0) + u128::from(mils.0) <= MAX_POSITION_MILS
-        && u128::from(position.holding.cost().0) + u128::from(cost.0) <= MAX_POSITION_CENTS
+    u128::from(position.holding().mils().0) + u128::from(mils.0) <= MAX_POSITION_MILS
+        && u128::from(position.holding().cost().0) + u128::from(cost.0) <= MAX_POSITION_CENTS
 }

@@ -113,7 +113,7 @@ fn sell(
     requires loose { asked ≤ loose_total (position_of_trade day.old trade.now).holding }
     ensures { OnOk result (day.new ≡ sale_known facts.now day.old trade.now asked) }
 {
-    let mut position = day.take_out(alloc, trade.account, trade.class);
+    let mut position = day.take_out(alloc, trade.account, trade.class)?;
     let sold = take_charged(alloc, facts, &mut position, asked)?;
     let filled = sale_trade(facts, trade, asked, &sold);
     day.close_trade(position, &filled)?;
@@ -145,7 +145,7 @@ fn take_loose(alloc: Global, holding: &mut Position, asked: u64) -> Result<Piece
     ensures few_mils { IfOk result (λ taken. sum_by (λ piece. piece.mils) taken ≤ most_mils) }
     ensures low_cost { IfOk result (λ taken. sum_by (λ piece. piece.cost) taken ≤ most_cost) }
 {
-    let _loose = holding.loose();
+    let _mils = holding.mils();
     let _cost = holding.cost();
     match holding.take(alloc, Mils(asked)) {
         Ok(taken) => Ok(taken),

@@ -117,7 +117,7 @@ impl HouseholdState {
         ))
     }
 
-    /// The state once more: one allocation for each position.
+    /// The state once more: one allocation, since the lots of its positions are common to both.
     pub fn copied(&self, alloc: Global) -> Result<HouseholdState, NoMemory>
         ensures { IfOk result (λ copy. copy ≡ self.now) }
     {
@@ -152,7 +152,7 @@ impl HouseholdState {
             (find (is_position account class) self.now.register) }
     {
         match self.register.find(account, class) {
-            Some(position) => Some(&position.holding),
+            Some(position) => Some(position.holding()),
             None => None,
         }
     }

@@ -1,5 +1,5 @@
 //! The day that goes on: the register of a household and its trades within one sheet.
-ghost use Rattle.std.specs.Prelude.{◌≡◌, [], OnOk};
+ghost use Rattle.std.specs.Prelude.{◌≡◌, [], IfOk, OnOk};
 ghost use Rattle.agent_events.specs.declared.trade.Outcome.TheVariants.{Unfilled};
 ghost use Rattle.register_machine.specs.replay.Positions.{position_of};
 ghost use Rattle.register_machine.specs.replay.Trades.{day_after_trade, with_position, with_trade};
@@ -55,8 +55,14 @@ impl HouseholdDay {
     }
 
     /// Takes the position of an account and class out, the fresh one where none stands there.
-    pub fn take_out(&mut self, alloc: Global, account: u32, class: u32) -> HeldPosition
-        ensures position { result ≡ position_of self.old.register account class }
+    pub fn take_out(
+        &mut self,
+        alloc: Global,
+        account: u32,
+        class: u32,
+    ) -> Result<HeldPosition, NoMemory>
+        ensures position { IfOk result (λ position. position
+            ≡ position_of self.old.register account class) }
         ensures rest { self.new ≡ day_without account class self.old }
     {
         self.register.take_out(alloc, account, class)

@@ -4,11 +4,13 @@
 
 mod day;
 mod held;
+mod kept;
 mod key;
 mod places;
 mod register;
 
 pub use crate::day::HouseholdDay;
 pub use crate::held::HeldPosition;
+pub use crate::kept::KeptPosition;
 pub use crate::key::{PositionKey, PositionKeys};
 pub use crate::register::HouseholdRegister;

@@ -6,10 +6,12 @@ ghost use Rattle.register_machine.specs.replay.Positions as spec;
 ghost use Rattle.household_positions.specs.Register.{AreInOrder, IsPlaceOf, IsRegister, without};
 
 use crate::held::HeldPosition;
+use crate::kept::KeptPosition;
 use money_units::NoMemory;
+use std::alloc::Global;
 
 /// The place of an account and class: the positions that come before it stand before it.
-fn place_of(positions: &[HeldPosition], account: u32, class: u32) -> usize
+fn place_of(positions: &[KeptPosition], account: u32, class: u32) -> usize
     requires { AreInOrder positions.now }
     ensures point { IsPlaceOf account class positions.now result }
     ensures bound { result ≤ length positions.now }
@@ -18,7 +20,7 @@ fn place_of(positions: &[HeldPosition], account: u32, class: u32) -> usize
 }
 
 /// The place of a position: those that come before it stand before it.
-fn place_for(positions: &[HeldPosition], position: &HeldPosition) -> usize
+fn place_for(positions: &[KeptPosition], position: &HeldPosition) -> usize
     requires { AreInOrder positions.now }
     ensures point { IsPlaceOf position.now.account position.now.class positions.now result }
     ensures bound { result ≤ length positions.now }
@@ -27,14 +29,14 @@ fn place_for(positions: &[HeldPosition], position: &HeldPosition) -> usize
 }
 
 /// What stands in a place.
-fn in_place(positions: &[HeldPosition], place: usize) -> Option<&HeldPosition>
+fn in_place(positions: &[KeptPosition], place: usize) -> Option<&KeptPosition>
     ensures { option_copied result ≡ slice_get positions.now place }
 {
     positions.get(place)
 }
 
 /// Whether the position of this account and class stands in a place.
-fn stands_in(positions: &[HeldPosition], place: usize, account: u32, class: u32) -> bool
+fn stands_in(positions: &[KeptPosition], place: usize, account: u32, class: u32) -> bool
     ensures { result ≡ option_map_or (is_position account class) (slice_get positions.now place)
         false }
 {
@@ -45,7 +47,7 @@ fn stands_in(positions: &[HeldPosition], place: usize, account: u32, class: u32)
 }
 
 /// The position of an account and class, where there is one.
-pub fn found(positions: &[HeldPosition], account: u32, class: u32) -> Option<&HeldPosition>
+pub fn found(positions: &[KeptPosition], account: u32, class: u32) -> Option<&KeptPosition>
     requires { AreInOrder positions.now }
     ensures { option_copied result ≡ find (is_position account class) positions.now }
 {
@@ -59,10 +61,10 @@ pub fn found(positions: &[HeldPosition], account: u32, class: u32) -> Option<&He
 
 /// Removes the position of an account and class, and answers it, where there is one.
 pub fn remove_found(
-    positions: &mut Vec<HeldPosition>,
+    positions: &mut Vec<KeptPosition>,
     account: u32,
     class: u32,
-) -> Option<HeldPosition>
+) -> Option<KeptPosition>
     requires { IsRegister positions.old.items }
     ensures found { result ≡ find (is_position account class) positions.old.items }
     ensures rest { positions.new.items ≡ without account class positions.old.items }
@@ -77,7 +79,7 @@ pub fn remove_found(
 }
 
 /// Clears the place of a position.
-fn clear_place(positions: &mut Vec<HeldPosition>, position: &HeldPosition)
+fn clear_place(positions: &mut Vec<KeptPosition>, position: &HeldPosition)
     requires { IsRegister positions.old.items }
     ensures rest { positions.new.items
         ≡ without position.now.account position.now.class positions.old.items }
@@ -87,7 +89,11 @@ fn clear_place(positions: &mut Vec<HeldPosition>, position: &HeldPosition)
 }
 
 /// Puts a position in its place, which nothing has, and drops it where it is fresh.
-fn insert_kept(positions: &mut Vec<HeldPosition>, position: HeldPosition) -> Result<(), NoMemory>
+fn insert_kept(
+    alloc: Global,
+    positions: &mut Vec<KeptPosition>,
+    position: HeldPosition,
+) -> Result<(), NoMemory>
     requires register { IsRegister positions.old.items }
     requires absent { find (is_position position.account position.class) positions.old.items
         ≡ None }
@@ -98,17 +104,22 @@ fn insert_kept(positions: &mut Vec<HeldPosition>, position: HeldPosition) -> Res
     if position.is_fresh() {
         return Ok(());
     }
-    positions.insert(place, position)?;
+    let kept = KeptPosition::keep(alloc, position)?;
+    positions.insert(place, kept)?;
     Ok(())
 }
 
 /// Puts a position in its place, in the stead of the one that stands there; a fresh one isn't kept.
-pub fn put(positions: &mut Vec<HeldPosition>, position: HeldPosition) -> Result<(), NoMemory>
+pub fn put(
+    alloc: Global,
+    positions: &mut Vec<KeptPosition>,
+    position: HeldPosition,
+) -> Result<(), NoMemory>
     requires { IsRegister positions.old.items }
     ensures ok { OnOk result (positions.new.items ≡ spec.put position positions.old.items) }
     ensures register { IsRegister positions.new.items }
 {
     clear_place(positions, &position);
-    insert_kept(positions, position)?;
+    insert_kept(alloc, positions, position)?;
     Ok(())
 }

@@ -8,6 +8,7 @@ ghost use Rattle.share_lots.specs.Lots.{loose_total, most_mils};
 ghost use Rattle.household_positions.specs.Register.{IsRegister, without};
 
 use crate::held::HeldPosition;
+use crate::kept::KeptPosition;
 use crate::key::PositionKeys;
 use crate::places;
 use forward_price::Sheet;
@@ -19,7 +20,8 @@ use std::marker::Model;
 /// The positions of a household by account and then class, none of them fresh, which contracts see as that register.
 #[derive(Debug, Drop)]
 pub struct HouseholdRegister {
-    positions: Vec<HeldPosition>,
+    alloc: Global,
+    positions: Vec<KeptPosition>,
 }
 
 impl Model for HouseholdRegister {
@@ -40,16 +42,17 @@ impl HouseholdRegister {
         ensures { result ≡ [] }
     {
         HouseholdRegister {
+            alloc,
             positions: Vec::new(alloc),
         }
     }
 
-    /// A register equal to it: one piece of memory for each position, and one for all.
+    /// A register equal to it: one piece of memory for all positions, whose lots are common to both.
     pub fn copied(&self, alloc: Global) -> Result<HouseholdRegister, NoMemory>
         ensures { IfOk result (λ copy. copy ≡ self.now) }
     {
         let positions = copied_positions(alloc, &self.positions)?;
-        Ok(HouseholdRegister { positions })
+        Ok(HouseholdRegister { alloc, positions })
     }
 
     /// Whether no position is kept.
@@ -60,7 +63,7 @@ impl HouseholdRegister {
     }
 
     /// The positions by account and then class.
-    pub fn positions(&self) -> &[HeldPosition]
+    pub fn positions(&self) -> &[KeptPosition]
         ensures positions { result.now ≡ self.now }
         ensures register { IsRegister self.now }
     {
@@ -68,7 +71,7 @@ impl HouseholdRegister {
     }
 
     /// The position of an account and class, where it isn't fresh, by a search.
-    pub fn find(&self, account: u32, class: u32) -> Option<&HeldPosition>
+    pub fn find(&self, account: u32, class: u32) -> Option<&KeptPosition>
         ensures { option_copied result ≡ find (is_position account class) self.now }
     {
         places::found(&self.positions, account, class)
@@ -80,7 +83,7 @@ impl HouseholdRegister {
         ensures bound { result ≤ most_mils }
     {
         match self.find(account, class) {
-            Some(position) => position.holding.loose(),
+            Some(position) => position.holding().loose(),
             None => Mils(0),
         }
     }
@@ -105,14 +108,20 @@ impl HouseholdRegister {
         }
     }
 
-    /// Takes the position of an account and class out, the fresh one where none stands there.
-    pub fn take_out(&mut self, alloc: Global, account: u32, class: u32) -> HeldPosition
-        ensures position { result ≡ position_of self.old account class }
+    /// Takes the position of an account and class out, the fresh one where none stands there. Lots that another register has too
+    /// are copied for it.
+    pub fn take_out(
+        &mut self,
+        alloc: Global,
+        account: u32,
+        class: u32,
+    ) -> Result<HeldPosition, NoMemory>
+        ensures position { IfOk result (λ position. position ≡ position_of self.old account class) }
         ensures rest { self.new ≡ without account class self.old }
     {
         match places::remove_found(&mut self.positions, account, class) {
-            Some(position) => position,
-            None => HeldPosition::fresh(alloc, account, class),
+            Some(position) => position.taken(alloc),
+            None => Ok(HeldPosition::fresh(alloc, account, class)),
         }
     }
 
@@ -121,7 +130,7 @@ impl HouseholdRegister {
     pub fn put_back(&mut self, position: HeldPosition) -> Result<(), NoMemory>
         ensures { OnOk result (self.new ≡ put position self.old) }
     {
-        places::put(&mut self.positions, position)?;
+        places::put(self.alloc, &mut self.positions, position)?;
         Ok(())
     }
 
@@ -155,7 +164,7 @@ impl HouseholdRegister {
 /// Appends the key of a position, where it is asked for.
 fn push_key_if(
     keys: &mut PositionKeys,
-    position: &HeldPosition,
+    position: &KeptPosition,
     asked: bool,
 ) -> Result<(), NoMemory>
     ensures { OnOk result (keys.new
@@ -170,13 +179,13 @@ fn push_key_if(
 /// Positions equal to these.
 fn copied_positions(
     alloc: Global,
-    positions: &[HeldPosition],
-) -> Result<Vec<HeldPosition>, NoMemory>
+    positions: &[KeptPosition],
+) -> Result<Vec<KeptPosition>, NoMemory>
     ensures { IfOk result (λ copies. copies.items ≡ positions.now) }
 {
     let mut copies = Vec::with_capacity(alloc, positions.len())?;
     for position in positions {
-        copies.push(position.copied(alloc)?)?;
+        copies.push(position.shared()?)?;
     }
     Ok(copies)
 }

@@ -1,6 +1,6 @@
 -- Which states are left of some, with one more.
-use Rattle.std.proofs.Common.{All, Bool, Contains, Err, List, None, Ok, Option, Result, Some, [], arith, cond, drop, false, fold, inl, inr, length, nat_le, nat_lt, refl, subst, suc, sym, take, true, ℕ, ◌++◌, ◌<◌, ◌∙◌, ◌∷◌, ◌≡◌, ◌⊎◌}
-use Rattle.std.proofs.lemmas.List.Elements.{All-append, All-nil, All-contains_itself, All-drop, All-push, All-take, All-weaker}
+use Rattle.std.proofs.Common.{All, Bool, Contains, Err, List, None, Ok, Option, Result, Some, [], arith, cond, drop, false, fold, inl, inr, length, nat_le, nat_lt, refl, subst, suc, sym, take, true, ℕ, ◌++◌, ◌<◌, ◌∷◌, ◌≡◌, ◌⊎◌}
+use Rattle.std.proofs.lemmas.List.Elements.{All-append, All-contains_itself, All-drop, All-push, All-take, All-weaker}
 use Rattle.std.proofs.lemmas.Bool.{ltb-true}
 use Rattle.std.specs.Prelude.{OnErr, OnOk}
 use Rattle.kept_states.specs.KeptStates.{last_before, without_second, with_one_more}
@@ -55,8 +55,10 @@ found-before sheet states kept is = elim (found-behind sheet states None kept is
     none-some : None ≡ Some kept → ⊥
     none-some h = cc
 
--- ---- states kept with one more, where there is memory for it, and none where there isn't
+-- ---- states kept with one more, where there is memory for it, and those that have a place beside it where there isn't
 
-pub kept-some : {X E : Type 0} (put : Result X E) (old new left more : List KeptState) (state : KeptState) → OnOk put (new ≡ more) → OnErr put (new ≡ left) → left ≡ [] → more ≡ with_one_more old state → All (λ kept. Contains old kept ⊎ kept ≡ state) new
-kept-some (Ok x) old new left more state ok err none is = subst (All (λ kept. Contains old kept ⊎ kept ≡ state)) (sym (ok ∙ is)) (one-more old state)
-kept-some (Err e) old new left more state ok err none is = subst (All (λ kept. Contains old kept ⊎ kept ≡ state)) (sym (err ∙ none)) (All-nil (λ kept. Contains old kept ⊎ kept ≡ state))
+pub kept-after : {X E : Type 0} (kept : Result X E) (old new : List KeptState) (state : KeptState) → OnOk kept (new ≡ with_one_more old state) → OnErr kept (new ≡ without_second old) → All (λ kept. Contains old kept ⊎ kept ≡ state) new
+kept-after (Ok x) old new state ok err = subst (All (λ kept. Contains old kept ⊎ kept ≡ state)) (sym ok) (one-more old state)
+kept-after (Err e) old new state ok err =
+    subst (All (λ kept. Contains old kept ⊎ kept ≡ state)) (sym err)
+    (All-weaker (Contains old) (λ kept. Contains old kept ⊎ kept ≡ state) (λ kept there. inl there) (without_second old) (all-thinned old))

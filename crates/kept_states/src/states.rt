@@ -1,5 +1,5 @@
 //! The states that are kept of each household.
-ghost use Rattle.std.specs.Prelude.{◌≡◌, ◌<◌, ◌≤◌, ◌+◌, ◌⊎◌, ℕ, [], All, Contains, IfOk, IfSome, OnErr, OnOk, false, filter, nat_eq, nat_le, nat_lt};
+ghost use Rattle.std.specs.Prelude.{◌≡◌, ◌<◌, ◌≤◌, ◌+◌, ◌∷◌, ◌⊎◌, ℕ, [], All, Contains, IfOk, IfSome, OnErr, OnOk, false, filter, nat_eq, nat_le, nat_lt};
 ghost use Rattle.kept_states.specs.KeptStates.{is_due, last_before, states_in, without_second, with_one_more};
 ghost use Rattle.std.specs.Option.{option_copied};
 
@@ -90,11 +90,7 @@ impl KeptStates {
         ensures others { (other : ℕ) → nat_eq household other ≡ false
             → states_in self.new other ≡ states_in self.old other }
     {
-        let states = taken(&mut self.rows, self.alloc, household);
-        match with_one_more(states, state) {
-            Ok(states) => put(&mut self.rows, household, states),
-            Err(fault) => Err(fault),
-        }
+        keep_state(&mut self.rows, self.alloc, household, state)
     }
 
     /// Forgets the states of a household behind this sheet and later ones.
@@ -138,53 +134,62 @@ fn is_far(last: &KeptState, sheet: u32) -> bool
     SHEETS_BETWEEN <= sheet && last.sheet <= sheet - SHEETS_BETWEEN
 }
 
-// Takes the states of a household out.
-fn taken(rows: &mut HashMap<u32, HouseholdStates>, alloc: Global, household: u32) -> Vec<KeptState>
-    ensures states { result.items ≡ states_in rows.old.entries household }
-    ensures own { states_in rows.new.entries household ≡ [] }
+// Keeps a state more of a household, beside those that are there.
+fn keep_state(
+    rows: &mut HashMap<u32, HouseholdStates>,
+    alloc: Global,
+    household: u32,
+    state: KeptState,
+) -> Result<(), NoMemory>
+    ensures ok { OnOk result (states_in rows.new.entries household
+        ≡ with_one_more (states_in rows.old.entries household) state) }
+    ensures err { OnErr result (states_in rows.new.entries household
+        ≡ without_second (states_in rows.old.entries household)) }
     ensures others { (other : ℕ) → nat_eq household other ≡ false
         → states_in rows.new.entries other ≡ states_in rows.old.entries other }
 {
-    match rows.remove(&household) {
-        Some(own) => own.states,
-        None => Vec::new(alloc),
+    if let Some(own) = rows.get_mut(&household) {
+        return add_state(&mut own.states, state);
     }
+    put_first(rows, alloc, household, state)
 }
 
-// Puts states of a household in the place of those that are there; after `NoMemory` those stay.
-fn put(
+// Keeps the first state of a household.
+fn put_first(
     rows: &mut HashMap<u32, HouseholdStates>,
+    alloc: Global,
     household: u32,
-    states: Vec<KeptState>,
+    state: KeptState,
 ) -> Result<(), NoMemory>
-    ensures ok { OnOk result (states_in rows.new.entries household ≡ states.items) }
-    ensures err { OnErr result (states_in rows.new.entries household
-        ≡ states_in rows.old.entries household) }
+    requires { states_in rows.old.entries household ≡ [] }
+    ensures ok { OnOk result (states_in rows.new.entries household ≡ state ∷ []) }
+    ensures err { OnErr result (states_in rows.new.entries household ≡ []) }
     ensures others { (other : ℕ) → nat_eq household other ≡ false
         → states_in rows.new.entries other ≡ states_in rows.old.entries other }
 {
+    let mut states = Vec::new(alloc);
+    states.push(state)?;
     rows.insert(household, HouseholdStates { states })?;
     Ok(())
 }
 
-// These states, without the second one where there is no place for one more.
-fn thinned(states: Vec<KeptState>) -> Vec<KeptState>
-    ensures { result.items ≡ without_second states.items }
+// Adds a state, in the place of the second one where there is no place for one more.
+fn add_state(states: &mut Vec<KeptState>, state: KeptState) -> Result<(), NoMemory>
+    ensures ok { OnOk result (states.new.items ≡ with_one_more states.old.items state) }
+    ensures err { OnErr result (states.new.items ≡ without_second states.old.items) }
 {
-    let mut states = states;
+    thin(states);
+    states.push(state)?;
+    Ok(())
+}
+
+// Forgets the second state where there is no place for one more.
+fn thin(states: &mut Vec<KeptState>)
+    ensures { states.new.items ≡ without_second states.old.items }
+{
     if MOST_STATES <= states.len() {
         let _second = states.remove(1);
     }
-    states
-}
-
-// So many of these states as have a place beside one more, and that one.
-fn with_one_more(states: Vec<KeptState>, state: KeptState) -> Result<Vec<KeptState>, NoMemory>
-    ensures { IfOk result (λ more. more.items ≡ with_one_more states.items state) }
-{
-    let mut states = thinned(states);
-    states.push(state)?;
-    Ok(states)
 }
 
 // Leaves the states behind the sheets before this one.

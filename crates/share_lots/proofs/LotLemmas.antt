@@ -1,7 +1,7 @@
 -- What a change of each lot leaves of what holds of every position, and sums over lots.
 use Rattle.std.proofs.Common.{◌≡◌, ◌≢◌, ℕ, zero, suc, ◌+◌, ◌-◌, ◌*◌, ◌<◌, ◌≤◌, Bool, true, false, cond, not, min, List, [], ◌∷◌, ◌++◌, length, get_or, map, filter, take, drop, set, sum_by, refl, sym, ap, ◌∙◌, inl, inr, arith, append_assoc, append-nil, find, Option, Some, None, option_map}
 use Rattle.std.proofs.Math.Nat.{mul-le-mul_left}
-use Rattle.std.proofs.lemmas.List.{at_drop_more, at_drop_all, take_more_set, take_all, drop_all, drop-set-lt}
+use Rattle.std.proofs.lemmas.List.{at_drop_more, at_drop_all, take-append-drop, take_more_set, take_all, drop_all, drop-set-lt}
 use Rattle.std.proofs.lemmas.List.Edits.{map_over_more}
 use Rattle.std.specs.Prelude.{All, AllPairs}
 use Rattle.std.specs.List.Sorted.{IsPartitionPoint, IsPartitionedBy}
@@ -187,6 +187,38 @@ taken-more taken next lots i left asked x h is new done =
 
 pub taken-all : (taken : List Piece) (lots : List Lot) (i left asked : ℕ) → length lots ≤ i → taken ++ pieces left (drop i lots) ≡ pieces asked lots → taken ≡ pieces asked lots
 taken-all taken lots i left asked h done = rw (pieces-all lots i left h, append-nil) at done
+
+-- where nothing is left to be taken, the lots that are left give nothing and stay
+nothing-taken : (lots : List Lot) → pieces 0 lots ≡ []
+unfolding pieces
+nothing-taken [] = refl
+nothing-taken (x ∷ xs) =
+    let none : min x.loose 0 ≡ 0 = omega arith in
+    let rest : 0 - x.loose ≡ 0 = omega arith in
+    ap (λ n. pieces_of x n ++ pieces (0 - x.loose) xs) none ∙ ap (λ n. pieces n xs) rest ∙ nothing-taken xs
+
+pub taken-up : (taken : List Piece) (lots : List Lot) (i left asked : ℕ) → left ≡ 0 → taken ++ pieces left (drop i lots) ≡ pieces asked lots → taken ≡ pieces asked lots
+taken-up taken lots i left asked none done =
+    sym (ap (λ n. taken ++ pieces n (drop i lots)) none
+    ∙ ap (λ ps. taken ++ ps) (nothing-taken (drop i lots))
+    ∙ append-nil taken) ∙ done
+
+nothing-lessened : (lots : List Lot) → All (λ l. 1 ≤ mils l) lots → lots_less 0 lots ≡ lots
+unfolding lots_less
+nothing-lessened [] all = refl
+nothing-lessened (x ∷ xs) all =
+    let none : min x.loose 0 ≡ 0 = omega arith in
+    let rest : 0 - x.loose ≡ 0 = omega arith in
+    ap (λ n. lot_less x n ∷ lots_less (0 - x.loose) xs) none
+    ∙ ap (λ n. lot_less x 0 ∷ lots_less n xs) rest
+    ∙ ap (λ l. l ∷ lots_less 0 xs) (sym (nothing-less x (All-head (λ l. 1 ≤ mils l) x xs all)))
+    ∙ ap (λ ls. x ∷ ls) (nothing-lessened xs (All-tail (λ l. 1 ≤ mils l) x xs all))
+
+pub reduced-up : (lots init : List Lot) (i left asked : ℕ) → left ≡ 0 → All (λ l. 1 ≤ mils l) (drop i lots) → take i lots ++ lots_less left (drop i lots) ≡ lots_less asked init → lots ≡ lots_less asked init
+reduced-up lots init i left asked none some done =
+    sym (ap (λ n. take i lots ++ lots_less n (drop i lots)) none
+    ∙ ap (λ ls. take i lots ++ ls) (nothing-lessened (drop i lots) some)
+    ∙ take-append-drop i lots) ∙ done
 
 -- lists with the same rest have the same element there
 pub same_rest : {X : Type 0} (xs ys : List X) (i : ℕ) (d : X) → i < length xs → i < length ys → drop i xs ≡ drop i ys → (get_or xs i d ≡ get_or ys i d) × (drop (i + 1) xs ≡ drop (i + 1) ys)

@@ -16,6 +16,9 @@ pub(crate) fn take_pieces(alloc: Global, lots: &[Lot], asked: u64) -> Result<Pie
     let mut taken = Pieces::new(alloc);
     let mut left = asked;
     for lot in lots {
+        if left == 0 {
+            return Ok(taken);
+        }
         let quantity = loose_of(lot).min(left);
         push_piece(&mut taken, lot, quantity)?;
         left -= quantity;
@@ -79,6 +82,9 @@ pub(crate) fn reduce_lots(lots: &mut [Lot], asked: u64)
 {
     let mut left = asked;
     for lot in lots.iter_mut() {
+        if left == 0 {
+            return;
+        }
         let quantity = loose_of(lot).min(left);
         lessen(lot, quantity);
         left -= quantity;

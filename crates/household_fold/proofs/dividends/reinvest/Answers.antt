@@ -10,7 +10,7 @@ pub add-requires-clause-next : goal.add-requires-clause-next
 add-requires-clause-next c =
     let known = c.args.facts.now in
     let p = position_of c.args.day.now.register c.args.account c.args.class in
-    let held = ap (λ (x : Position). x.holding) (c.position.view_is ∙ c.take_out-position.ensures.position) in
+    let held = ap (λ (x : Position). x.holding) (c.position.view_is ∙ c.in_ok-position.ensures.position) in
     rw (held, c.day.ensures)
     (put-number (with_holding p (shares_added p.holding (sheet_at_hand known).day c.args.mils c.args.cash true).holding) c.args.day.now.register c.requires.lots)
 
@@ -19,7 +19,7 @@ returns c =
     let known = c.args.facts.now in
     let inside = c.position.inside in
     let x : Position = record { account = inside.account; class = inside.class; holding = inside.holding; in_cash = inside.in_cash; letter = inside.letter } in
-    reinvested (sheet_at_hand known) c.args.day.now c.take_out-position.new.self c.close_trade.new.self c.args.account c.args.class c.args.cash c.args.mils
+    reinvested (sheet_at_hand known) c.args.day.now c.take_out.new.self c.close_trade.new.self c.args.account c.args.class c.args.cash c.args.mils
     c.in_ok-add.field-0 x c.add.new.self c.dividend_trade-trade.result
-    c.take_out-position.ensures.rest (c.position.view_is ∙ c.take_out-position.ensures.position)
+    c.take_out.ensures.rest (c.position.view_is ∙ c.in_ok-position.ensures.position)
     (rw (← c.day.ensures) c.in_ok-add.ensures.added) c.dividend_trade-trade.ensures (c.in_ok-close_trade.ensures)

@@ -22,10 +22,10 @@ day-is c =
     let settled = c.settle-settled.result in
     let inside = c.position.inside in
     let left : Holding → Position = λ h. record { account = inside.account; class = inside.class; holding = h; in_cash = inside.in_cash; letter = None } in
-    let there = c.position.view_is ∙ c.take_out-position.ensures.position ∙ place-at day.register _ _ _ _ account class in
+    let there = c.position.view_is ∙ c.in_ok-position.ensures.position ∙ place-at day.register _ _ _ _ account class in
     c.in_ok-close_trade.ensures
-    ∙ settled-is book sheet day key letter settled c.take_out-position.new.self (left c.release.new.self) c.letter_end_trade-trade.result
-    (c.take_out-position.ensures.rest ∙ without-at day _ _ _ _ account class)
+    ∙ settled-is book sheet day key letter settled c.take_out.new.self (left c.release.new.self) c.letter_end_trade-trade.result
+    (c.take_out.ensures.rest ∙ without-at day _ _ _ _ account class)
     (ap left (c.release.ensures.released ∙ ap release_all c.pay_held.ensures.paid) ∙ ap (paid_and_released settled.paid) there)
     c.letter_end_trade-trade.ensures
     (c.settle-settled.ensures.settlement

@@ -41,9 +41,9 @@ day-is c =
     let letter = c.begin-letter.result in
     let cash : ℕ → Trade → Trade = λ n t. record t { cash = n } in
     c.in_ok-close_trade.ensures
-    ∙ begun-is c.args.facts.now day order c.args.amount.now letter c.take_out-position.new.self _ _
-    (c.take_out-position.ensures.rest ∙ without-at day _ _ _ _ account class)
-    (ap (with_letter letter) (c.position.view_is ∙ c.take_out-position.ensures.position ∙ place-at day.register _ _ _ _ account class))
+    ∙ begun-is c.args.facts.now day order c.args.amount.now letter c.take_out.new.self _ _
+    (c.take_out.ensures.rest ∙ without-at day _ _ _ _ account class)
+    (ap (with_letter letter) (c.position.view_is ∙ c.in_ok-position.ensures.position ∙ place-at day.register _ _ _ _ account class))
     (begins-is c)
     (ap (cash c.cents-2.result) c.order_trade-trade.ensures ∙ ap (λ n. cash n (order_trade sheet order TradeKind.Letter)) c.cents-2.ensures.value)
 

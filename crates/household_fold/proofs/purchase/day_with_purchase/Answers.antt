@@ -16,7 +16,7 @@ use Rattle.household_fold.proofs.purchase.day_with_purchase.Goals as goal
 pub position_with_lot-requires-clause-next : goal.position_with_lot-requires-clause-next
 position_with_lot-requires-clause-next c =
     let P : Position → Type 0 = λ p. p.holding.next_lot < 4294967295 in
-    subst P (sym (c.take_out-position.ensures.position ∙ place-at c.args.day.now.register _ _ _ _ c.number-account.ensures.value c.class_of-class.ensures))
+    subst P (sym (c.in_ok-position.ensures.position ∙ place-at c.args.day.now.register _ _ _ _ c.number-account.ensures.value c.class_of-class.ensures))
     (next-before c.args.facts.now c.args.day.now c.args.order.now c.args.gross.now c.args.split.now c.requires.lots)
 
 pub position_after_note-kept-requires-clause-letter : goal.position_after_note-kept-requires-clause-letter
@@ -34,14 +34,14 @@ plain-day c =
     let split = c.args.split.now in
     let account = c.number-account.ensures.value in
     let class = c.class_of-class.ensures in
-    let there = c.take_out-position.ensures.position ∙ place-at day.register _ _ _ _ account class in
+    let there = c.in_ok-position.ensures.position ∙ place-at day.register _ _ _ _ account class in
     let bought : Position → ℕ → Position = λ p d. with_holding p (shares_added p.holding d split.mils gross false).holding in
     let none : (position_in day order).letter ≡ None =
     (sym (c.letter_of-letter.ensures ∙ ap (λ r. (position_of r c.number-account.result c.class_of-class.result).letter) c.register.ensures
     ∙ ap (λ (p : Position). p.letter) (place-at day.register _ _ _ _ account class)) ∙ c.in-None.is) in
     c.in_ok-close_trade-in-None.ensures
     ∙ closed-by _ (day_without order.account (class_of order.body) day) _ (with_holding (position_in day order) (lot_bought known day order gross split).holding) _ (trade_of_purchase known order gross split)
-    (c.take_out-position.ensures.rest ∙ without-at day _ _ _ _ account class)
+    (c.take_out.ensures.rest ∙ without-at day _ _ _ _ account class)
     (c.in_ok-bought.ensures.lot ∙ ap (λ p. bought p c.day.result) there ∙ ap (bought (position_in day order)) c.day.ensures)
     c.trade_of_purchase-trade.ensures
     ∙ plain-is known day order gross split none
@@ -70,12 +70,12 @@ noted-day c =
     let split = c.args.split.now in
     let account = c.number-account.ensures.value in
     let class = c.class_of-class.ensures in
-    let there = c.take_out-position.ensures.position ∙ place-at day.register _ _ _ _ account class in
+    let there = c.in_ok-position.ensures.position ∙ place-at day.register _ _ _ _ account class in
     let bought : Position → ℕ → Position = λ p d. with_holding p (shares_added p.holding d split.mils gross false).holding in
     let number : Position → ℕ → ℕ = λ p d. (shares_added p.holding d split.mils gross false).number in
     c.in_ok-close_trade-in-Some.ensures
     ∙ closed-by _ (day_without order.account (class_of order.body) day) _ (kept_in known day order c.in-Some.letter gross split) _ (trade_of_purchase known order gross split)
-    (c.take_out-position.ensures.rest ∙ without-at day _ _ _ _ account class)
+    (c.take_out.ensures.rest ∙ without-at day _ _ _ _ account class)
     (c.position_after_note-kept.ensures.kept
     ∙ kept-is (position_in day order) c.in_ok-bought.bought (lot_bought known day order gross split) c.in_ok-bought.number c.in-Some.letter gross split
     (c.in_ok-bought.ensures.lot ∙ ap (λ p. bought p c.day.result) there ∙ ap (bought (position_in day order)) c.day.ensures)

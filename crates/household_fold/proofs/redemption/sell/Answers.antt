@@ -12,7 +12,7 @@ use Rattle.household_fold.proofs.redemption.sell.Goals as goal
 pub take_charged-requires-clause-listed : goal.take_charged-requires-clause-listed
 take_charged-requires-clause-listed c =
     let trade = c.args.trade.now in
-    let class = ap (λ (p : Position). p.class) c.take_out-position.ensures.position ∙ own-class c.args.day.now.register trade.account trade.class in
+    let class = ap (λ (p : Position). p.class) c.in_ok-position.ensures.position ∙ own-class c.args.day.now.register trade.account trade.class in
     let P : ℕ → Type 0 = λ n. IsListed c.args.facts.now n in
     subst P (sym class) c.requires.listed
 
@@ -26,11 +26,11 @@ returns c =
     let class = own-class c.args.day.now.register trade.account trade.class in
     let f = λ (y : Position). position_less y asked in
     c.in_ok-close_trade.ensures
-    ∙ closed-at c.args.day.now c.take_out-position.new.self trade.account trade.class trade.account trade.class f _ c.take_out-position.result _ _
-    refl refl c.take_out-position.ensures.rest c.take_out-position.ensures.position
+    ∙ closed-at c.args.day.now c.take_out.new.self trade.account trade.class trade.account trade.class f _ c.in_ok-position.position _ _
+    refl refl c.take_out.ensures.rest c.in_ok-position.ensures.position
     c.in_ok-sold.ensures.left (λ y. refl) (λ y. refl)
     (c.sale_trade-filled.ensures
     ∙ (ap (λ n. redemption_trade trade (nav_of sheet n) asked c.in_ok-sold.sold) (sym class)
     ∙ ap (redemption_trade trade (nav_of sheet found.class) asked)
     (c.in_ok-sold.ensures.charged
-    ∙ ap (λ (p : Position). charge_of_pieces (pieces asked p.holding.lots) (nav_of sheet p.class) sheet.day (schedule_of book p.class)) c.take_out-position.ensures.position)))
+    ∙ ap (λ (p : Position). charge_of_pieces (pieces asked p.holding.lots) (nav_of sheet p.class) sheet.day (schedule_of book p.class)) c.in_ok-position.ensures.position)))

@@ -1,7 +1,10 @@
-use Rattle.std.proofs.Common.{◌≡◌, ◌<◌, length, ◌∙◌, ap, sym, min, arith}
+use Rattle.std.proofs.Common.{◌≡◌, ◌<◌, ◌≤◌, All, List, length, ◌∙◌, ap, subst, sym, min, arith}
+use Rattle.std.proofs.lemmas.List.{set-get_or}
+use Rattle.std.proofs.lemmas.List.Elements.{All-drop, All-weaker}
+use Rattle.share_lots.specs.Lots.{IsLot, mils}
 use Rattle.share_lots.specs.declared.lot.Lot.{Lot}
 use Rattle.share_lots.specs.Taking.{lot_less}
-use Rattle.share_lots.proofs.LotLemmas.{reduced-more, reduced-all, same_rest, rest-set}
+use Rattle.share_lots.proofs.LotLemmas.{reduced-more, reduced-all, reduced-up, same_rest, rest-set}
 use Rattle.share_lots.proofs.taking.reduce_lots.Goals as goal
 
 pub lessen-requires-clause-lot : goal.lessen-requires-clause-lot
@@ -23,3 +26,12 @@ loop-lot-preserved c =
 
 pub returns : goal.returns
 returns c = reduced-all c.loop-lot.lots c.args.lots.now c.loop-lot.lot-index c.loop-lot.left c.args.asked (omega arith) c.loop-lot.invariant.done
+
+pub returns-then-left-eq0 : goal.returns-then-left-eq0
+returns-then-left-eq0 c =
+    let lots = c.loop-lot.lots in
+    let place = c.loop-lot.lot-index in
+    let some = All-drop (λ (l : Lot). 1 ≤ mils l) place c.args.lots.now (All-weaker IsLot (λ (l : Lot). 1 ≤ mils l) (λ l is. is.with_mils) c.args.lots.now c.requires) in
+    set-get_or lots place c.lot-item.result
+    ∙ reduced-up lots c.args.lots.now place c.loop-lot.left c.args.asked c.if-left-eq0.true
+    (subst (λ (ls : List Lot). All (λ (l : Lot). 1 ≤ mils l) ls) (sym c.loop-lot.invariant.rest) some) c.loop-lot.invariant.done

@@ -1,6 +1,6 @@
 use Rattle.std.proofs.Common.{◌≡◌, ◌++◌, ◌∙◌, ap, min}
 use Rattle.share_lots.specs.Taking.{pieces_of}
-use Rattle.share_lots.proofs.LotLemmas.{taken-more, taken-all}
+use Rattle.share_lots.proofs.LotLemmas.{taken-more, taken-all, taken-up}
 use Rattle.share_lots.proofs.taking.take_pieces.Goals as goal
 
 pub loop-lot-preserved : goal.loop-lot-preserved
@@ -12,3 +12,6 @@ loop-lot-preserved c =
 
 pub returns : goal.returns
 returns c = taken-all c.loop-lot.taken c.args.lots.now c.loop-lot.lot-index c.loop-lot.left c.args.asked c.loop-lot-test.false c.loop-lot.invariant
+
+pub returns-then-left-eq0 : goal.returns-then-left-eq0
+returns-then-left-eq0 c = taken-up c.loop-lot.taken c.args.lots.now c.loop-lot.lot-index c.loop-lot.left c.args.asked c.if-left-eq0.true c.loop-lot.invariant

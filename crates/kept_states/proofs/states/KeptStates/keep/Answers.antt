@@ -1,14 +1,12 @@
-use Rattle.std.proofs.Common.{List, ap, ℕ, ◌∙◌}
-use Rattle.kept_states.proofs.StateFacts.{kept-some}
-use Rattle.kept_states.specs.KeptStates.{states_in, with_one_more}
+use Rattle.std.proofs.Common.{All, Contains, List, subst, ℕ, ◌≡◌, ◌⊎◌}
+use Rattle.kept_states.proofs.StateFacts.{kept-after}
+use Rattle.kept_states.specs.KeptStates.{states_in}
 use Rattle.kept_states.specs.declared.states.HouseholdStates.{HouseholdStates}
 use Rattle.kept_states.specs.declared.states.KeptState.{KeptState}
 use Rattle.kept_states.proofs.states.KeptStates.keep.Goals as goal
 
-pub returns-in-Ok-clause-own : goal.returns-in-Ok-clause-own
-returns-in-Ok-clause-own c =
-    kept-some c.put.result (states_in c.args.self.now c.args.household) (states_in c.put.new.rows.entries c.args.household) (states_in c.taken-states.new.rows.entries c.args.household)
-    c.in-Ok.states.items c.args.state c.put.ensures.ok c.put.ensures.err c.taken-states.ensures.own
-    (c.in-Ok.ensures
-    ∙ (ap (λ (states : List KeptState). with_one_more states c.args.state) c.taken-states.ensures.states
-    ∙ ap (λ (rows : List (ℕ × HouseholdStates)). with_one_more (states_in rows c.args.household) c.args.state) c.self.view_is))
+pub returns-clause-own : goal.returns-clause-own
+returns-clause-own c =
+    let new = states_in c.keep_state.new.rows.entries c.args.household in
+    subst (λ (rows : List (ℕ × HouseholdStates)). All (λ (kept : KeptState). Contains (states_in rows c.args.household) kept ⊎ kept ≡ c.args.state) new) c.self.view_is
+    (kept-after c.keep_state.result (states_in c.self.inside.rows.entries c.args.household) new c.args.state c.keep_state.ensures.ok c.keep_state.ensures.err)

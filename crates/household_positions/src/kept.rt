@@ -1,0 +1,180 @@
+//! A position as a register keeps it: registers that are copied from one another have its lots in common.
+ghost use Rattle.std.specs.Prelude.{◌≡◌, false, IfOk};
+ghost use Rattle.std.specs.Option.{option_map_or};
+ghost use Rattle.letter_of_intent.specs.Letters.{has_expired};
+ghost use Rattle.register_machine.specs.replay.Letter.{has_letter_over};
+ghost use Rattle.register_machine.specs.replay.Positions as spec;
+
+use crate::held::HeldPosition;
+use crate::key::PositionKey;
+use forward_price::{Sheet, lists_class};
+use fund_calendar::Day;
+use letter_of_intent::Letter;
+use money_units::NoMemory;
+use share_lots::Position;
+use std::alloc::Global;
+use std::marker::Model;
+use std::rc::Rc;
+
+/// What an account holds of a class, as a register keeps it. A copy of it takes no memory: its lots are common to both, and the
+/// one that is taken out of its register copies them, unless it is the last that has them.
+#[derive(Debug, Drop)]
+pub struct KeptPosition {
+    pub account: u32,
+    pub class: u32,
+    holding: Rc<Position>,
+    pub in_cash: bool,
+    pub letter: Option<Letter>,
+}
+
+impl Model for KeptPosition {
+    ghost use Rattle.register_machine.specs.replay.Positions.{Position as position};
+
+    ghost Value = { position };
+
+    ghost view = { λ p. record {
+      account = p.account;
+      class = p.class;
+      holding = p.holding.value;
+      in_cash = p.in_cash;
+      letter = p.letter;
+    } };
+}
+
+impl KeptPosition {
+    /// A position as a register keeps it.
+    pub(crate) fn keep(alloc: Global, position: HeldPosition) -> Result<KeptPosition, NoMemory>
+        ensures { IfOk result (λ kept. kept ≡ position) }
+    {
+        let HeldPosition {
+            account,
+            class,
+            holding,
+            in_cash,
+            letter,
+        } = position;
+        let holding = kept_holding(alloc, holding)?;
+        Ok(KeptPosition {
+            account,
+            class,
+            holding,
+            in_cash,
+            letter,
+        })
+    }
+
+    /// The position with lots of its own, to be changed.
+    pub(crate) fn taken(self, alloc: Global) -> Result<HeldPosition, NoMemory>
+        ensures { IfOk result (λ position. position ≡ self) }
+    {
+        let KeptPosition {
+            account,
+            class,
+            holding,
+            in_cash,
+            letter,
+        } = self;
+        let holding = own_holding(alloc, holding)?;
+        Ok(HeldPosition {
+            account,
+            class,
+            holding,
+            in_cash,
+            letter,
+        })
+    }
+
+    /// A position equal to it, with the same lots in memory.
+    pub(crate) fn shared(&self) -> Result<KeptPosition, NoMemory>
+        ensures { IfOk result (λ copy. copy ≡ self.now) }
+    {
+        let holding = shared_holding(&self.holding)?;
+        Ok(KeptPosition {
+            account: self.account,
+            class: self.class,
+            holding,
+            in_cash: self.in_cash,
+            letter: self.letter,
+        })
+    }
+
+    /// Its lots.
+    pub fn holding(&self) -> &Position
+        ensures { result.now ≡ self.now.holding }
+    {
+        self.holding.as_ref()
+    }
+
+    /// Its account and class.
+    pub fn key(&self) -> PositionKey
+        ensures { result ≡ spec.key_of self.now }
+    {
+        PositionKey {
+            account: self.account,
+            class: self.class,
+        }
+    }
+
+    /// Whether it is of this account and class.
+    pub fn is_at(&self, account: u32, class: u32) -> bool
+        ensures { result ≡ spec.is_position account class self.now }
+    {
+        self.account == account && self.class == class
+    }
+
+    /// Whether it comes before the position of this account and class.
+    pub fn stands_before(&self, account: u32, class: u32) -> bool
+        ensures { result ≡ spec.stands_before self.now (spec.fresh_position account class) }
+    {
+        self.account < account || (self.account == account && self.class < class)
+    }
+
+    /// Whether it has an open letter, a sheet is dated after its 13 months, and the sheet lists its class.
+    pub fn has_letter_over(&self, sheet: &Sheet) -> bool
+        ensures { result ≡ has_letter_over sheet.now self.now }
+    {
+        lists_class(sheet.prices.as_slice(), self.class) && self.letter_is_over(sheet.day)
+    }
+
+    /// Whether it has an open letter that is over on this day.
+    fn letter_is_over(&self, day: Day) -> bool
+        ensures { result ≡ option_map_or (λ letter. has_expired letter day) self.now.letter false }
+    {
+        match &self.letter {
+            Some(letter) => letter.expired(day),
+            None => false,
+        }
+    }
+}
+
+/// Lots that several positions may have in common.
+fn kept_holding(alloc: Global, holding: Position) -> Result<Rc<Position>, NoMemory>
+    ensures { IfOk result (λ kept. kept.value ≡ holding) }
+{
+    let kept = Rc::new(alloc, holding)?;
+    Ok(kept)
+}
+
+/// The same lots once more.
+fn shared_holding(holding: &Rc<Position>) -> Result<Rc<Position>, NoMemory>
+    ensures { IfOk result (λ shared. shared.value ≡ holding.now.value) }
+{
+    let shared = holding.clone()?;
+    Ok(shared)
+}
+
+/// The lots themselves where no other position has them, and else a copy of them.
+fn own_holding(alloc: Global, holding: Rc<Position>) -> Result<Position, NoMemory>
+    ensures { IfOk result (λ own. own ≡ holding.value) }
+{
+    match Rc::try_unwrap(holding) {
+        Ok(own) => Ok(own),
+        Err(shared) => copied_holding(alloc, &shared),
+    }
+}
+
+fn copied_holding(alloc: Global, holding: &Rc<Position>) -> Result<Position, NoMemory>
+    ensures { IfOk result (λ copy. copy ≡ holding.now.value) }
+{
+    holding.as_ref().copied(alloc)
+}
