@@ -2,7 +2,7 @@
 ghost use Rattle.std.specs.Prelude.{◌≡◌, ◌≤◌, ◌+◌, ◌||◌, [], Some, Ok, false, length, take, drop, IfOk, IfSome, OnOk, OnErr, unwrap_or};
 ghost use Rattle.httparse.specs.Spans.{span_bytes};
 ghost use Rattle.http_stream.specs.Kept.{StandsAt};
-ghost use Rattle.http_stream.specs.Stream.{with_more};
+ghost use Rattle.http_stream.specs.Stream.{LooksAs, with_more};
 ghost use Rattle.http_calls.specs.Calls.{fault_closes};
 ghost use Rattle.http_calls.specs.Steps.{StepsAs, answer_at};
 
@@ -96,28 +96,13 @@ impl Feed {
         ensures ok { IfOk result (λ step. StepsAs self.old step self.new) }
         ensures err { OnErr result (self.new ≡ self.old) }
     {
-        match self.intake.look() {
-            Front::Nothing => Ok(Step::Need),
-            Front::Closing(fault) => {
-                self.intake.take(0, true);
-                Ok(Step::Fault { fault, last: true })
+        let front = self.intake.look();
+        if let Front::Whole(head) = front {
+            if let Some(account) = account_shown(self.intake.rest(), head) {
+                return self.show_call(alloc, head, account);
             }
-            Front::Whole(head) => self.whole(alloc, head),
         }
-    }
-
-    // The call of a whole message.
-    fn whole(&mut self, alloc: Global, head: HeadAt) -> Result<Step, NoMemory>
-        requires is_open { self.old.closed ≡ false }
-        requires stands { StandsAt self.old.rest (Some head) }
-        requires within { head.size + unwrap_or head.length 0 ≤ length self.old.rest }
-        ensures ok { IfOk result (λ step. StepsAs self.old step self.new) }
-        ensures err { OnErr result (self.new ≡ self.old) }
-    {
-        match account_shown(self.intake.rest(), head) {
-            Some(account) => self.show_call(alloc, head, account),
-            None => self.other_call(alloc, head),
-        }
+        self.other_step(alloc, front)
     }
 
     // The call that asks to show this account.
@@ -143,8 +128,24 @@ impl Feed {
         Ok(Step::Call(Call { key, ask, last }))
     }
 
-    // Any other call takes more room on the stack, so it stands in a frame of its own.
+    // Any other step takes more room on the stack, so it stands in a frame of its own.
     #[inline(never)]
+    fn other_step(&mut self, alloc: Global, front: Front) -> Result<Step, NoMemory>
+        requires looks { LooksAs self.old front }
+        ensures ok { IfOk result (λ step. StepsAs self.old step self.new) }
+        ensures err { OnErr result (self.new ≡ self.old) }
+    {
+        match front {
+            Front::Nothing => Ok(Step::Need),
+            Front::Closing(fault) => {
+                self.intake.take(0, true);
+                Ok(Step::Fault { fault, last: true })
+            }
+            Front::Whole(head) => self.other_call(alloc, head),
+        }
+    }
+
+    // The call of a whole message.
     fn other_call(&mut self, alloc: Global, head: HeadAt) -> Result<Step, NoMemory>
         requires is_open { self.old.closed ≡ false }
         requires stands { StandsAt self.old.rest (Some head) }
