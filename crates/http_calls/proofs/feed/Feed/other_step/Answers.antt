@@ -1,6 +1,6 @@
 use Rattle.std.proofs.Common.{◌∙◌, ap, subst, true}
 use Rattle.http_stream.specs.declared.intake.Front.{Front}
-use Rattle.http_stream.specs.Stream.{LooksAs, Stream, after_item}
+use Rattle.http_stream.specs.Stream.{LooksAs, after_item}
 use Rattle.http_calls.proofs.StepLaws.{closing-step}
 use Rattle.http_calls.proofs.feed.Feed.other_step.Goals as goal
 
