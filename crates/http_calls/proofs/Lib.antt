@@ -2,4 +2,5 @@ pub mod FlatLaws
 pub mod FlatReads
 pub mod MemberLaws
 pub mod PartLaws
+pub mod ShowLaws
 pub mod StepLaws

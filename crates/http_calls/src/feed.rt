@@ -1,13 +1,14 @@
 //! The calls of a connection, one after another.
-ghost use Rattle.std.specs.Prelude.{◌≡◌, ◌≤◌, ◌+◌, ◌||◌, [], Some, false, length, take, drop, IfOk, OnOk, OnErr, unwrap_or};
+ghost use Rattle.std.specs.Prelude.{◌≡◌, ◌≤◌, ◌+◌, ◌||◌, [], Some, Ok, false, length, take, drop, IfOk, IfSome, OnOk, OnErr, unwrap_or};
 ghost use Rattle.httparse.specs.Spans.{span_bytes};
 ghost use Rattle.http_stream.specs.Kept.{StandsAt};
-ghost use Rattle.http_stream.specs.Stream.{with_more};
+ghost use Rattle.http_stream.specs.Stream.{LooksAs, with_more};
 ghost use Rattle.http_calls.specs.Calls.{fault_closes};
 ghost use Rattle.http_calls.specs.Steps.{StepsAs, answer_at};
 
 use crate::calls::{CallAsk, answered};
-use agent_events::KeyText;
+use crate::shows::shown_account;
+use agent_events::{Identifier, KeyText, Request};
 use http_stream::{Front, HeadAt, HttpFault, Intake};
 use json::Scratch;
 use money_units::NoMemory;
@@ -95,18 +96,57 @@ impl Feed {
         ensures ok { IfOk result (λ step. StepsAs self.old step self.new) }
         ensures err { OnErr result (self.new ≡ self.old) }
     {
-        match self.intake.look() {
+        let front = self.intake.look();
+        if let Front::Whole(head) = front {
+            if let Some(account) = account_shown(self.intake.rest(), head) {
+                return self.show_call(alloc, head, account);
+            }
+        }
+        self.other_step(alloc, front)
+    }
+
+    // The call that asks to show this account.
+    fn show_call(
+        &mut self,
+        alloc: Global,
+        head: HeadAt,
+        account: Identifier,
+    ) -> Result<Step, NoMemory>
+        requires is_open { self.old.closed ≡ false }
+        requires stands { StandsAt self.old.rest (Some head) }
+        requires within { head.size + unwrap_or head.length 0 ≤ length self.old.rest }
+        requires asked { answer_at self.old.rest head
+            ≡ Ok (CallAsk.One (Ok (Request.Show account))) }
+        ensures ok { IfOk result (λ step. StepsAs self.old step self.new) }
+        ensures err { OnErr result (self.new ≡ self.old) }
+    {
+        let key = message_key(alloc, self.intake.rest(), head)?;
+        let size = size_at(self.intake.rest(), head);
+        self.intake.take(size, head.closes);
+        let ask = CallAsk::One(Ok(Request::Show(account)));
+        let last = self.intake.is_closed();
+        Ok(Step::Call(Call { key, ask, last }))
+    }
+
+    // Any other step takes more room on the stack, so it stands in a frame of its own.
+    #[inline(never)]
+    fn other_step(&mut self, alloc: Global, front: Front) -> Result<Step, NoMemory>
+        requires looks { LooksAs self.old front }
+        ensures ok { IfOk result (λ step. StepsAs self.old step self.new) }
+        ensures err { OnErr result (self.new ≡ self.old) }
+    {
+        match front {
             Front::Nothing => Ok(Step::Need),
             Front::Closing(fault) => {
                 self.intake.take(0, true);
                 Ok(Step::Fault { fault, last: true })
             }
-            Front::Whole(head) => self.whole(alloc, head),
+            Front::Whole(head) => self.other_call(alloc, head),
         }
     }
 
     // The call of a whole message.
-    fn whole(&mut self, alloc: Global, head: HeadAt) -> Result<Step, NoMemory>
+    fn other_call(&mut self, alloc: Global, head: HeadAt) -> Result<Step, NoMemory>
         requires is_open { self.old.closed ≡ false }
         requires stands { StandsAt self.old.rest (Some head) }
         requires within { head.size + unwrap_or head.length 0 ≤ length self.old.rest }
@@ -138,6 +178,15 @@ fn size_at(rest: &[u8], head: HeadAt) -> usize
     ensures { result ≡ head.size + unwrap_or head.length 0 }
 {
     head.size + head.length.unwrap_or(0)
+}
+
+// The account that the message asks to show whose head stands here.
+fn account_shown(rest: &[u8], head: HeadAt) -> Option<Identifier>
+    requires stands { StandsAt rest.now (Some head) }
+    ensures { IfSome result
+        (λ account. answer_at rest.now head ≡ Ok (CallAsk.One (Ok (Request.Show account)))) }
+{
+    shown_account(head.target.of(rest), head.method.of(rest))
 }
 
 // What the message asks whose head stands here.

@@ -8,6 +8,7 @@ mod flat;
 mod members;
 mod names;
 mod routes;
+mod shows;
 
 pub use crate::calls::{BatchAsks, CallAsk};
 pub use crate::feed::{Call, Feed, Step};

@@ -11,6 +11,7 @@ ghost use Rattle.http_stream.specs.Reading.{FoundAs, IsNoName, IsTallyWithin, Pa
 use crate::fault::HttpFault;
 use httparse::Status;
 use httparse::spans::{EMPTY_HEADER_SPAN, HeaderSpan, RequestSpans, Span, parse_request};
+use money_units::same_bytes;
 
 /// Where the parts of a head stand, counted from the first byte of the item, and what it says of its body and its connection.
 #[derive(Clone, Copy, Debug, PartialEq, Eq)]
@@ -217,17 +218,9 @@ fn add_field(text: &[u8], size: usize, facts: &mut Facts, field: HeaderSpan)
 {
     if is_asked(field.name) {
         let name = field.name.of(text);
-        add_value(&mut facts.key, is_named(name, b"x-agent-key"), field.value);
-        add_value(
-            &mut facts.length,
-            is_named(name, b"content-length"),
-            field.value,
-        );
-        add_value(
-            &mut facts.coding,
-            is_named(name, b"transfer-encoding"),
-            field.value,
-        );
+        add_value(&mut facts.key, is_key(name), field.value);
+        add_value(&mut facts.length, is_content_length(name), field.value);
+        add_value(&mut facts.coding, is_coding(name), field.value);
         if is_close(name, field.value.of(text)) {
             facts.closes = true;
         }
@@ -252,6 +245,25 @@ fn add_value(tally: &mut Tally, counts: bool, value: Span)
         tally.count += 1;
         tally.value = value;
     }
+}
+
+// The usual spelling of a name is tried first.
+fn is_key(name: &[u8]) -> bool
+    ensures { result ≡ str_eq_ignore_ascii_case name.now spec.key_name }
+{
+    same_bytes(name, b"X-Agent-Key") || is_named(name, b"x-agent-key")
+}
+
+fn is_content_length(name: &[u8]) -> bool
+    ensures { result ≡ str_eq_ignore_ascii_case name.now spec.length_name }
+{
+    same_bytes(name, b"Content-Length") || is_named(name, b"content-length")
+}
+
+fn is_coding(name: &[u8]) -> bool
+    ensures { result ≡ str_eq_ignore_ascii_case name.now spec.coding_name }
+{
+    is_named(name, b"transfer-encoding")
 }
 
 fn is_close(name: &[u8], value: &[u8]) -> bool

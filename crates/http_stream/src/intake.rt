@@ -1,6 +1,6 @@
 //! The bytes of a connection that were read and aren't answered yet.
-ghost use Rattle.std.specs.Prelude.{◌≡◌, ◌+◌, ◌≤◌, nat_le, nat_lt, if◌then◌else◌, [], true, false, length, take, drop, OnOk, OnErr, unwrap_or};
-ghost use Rattle.http_stream.specs.Kept.{IsFrontScan, IsScanned, SeenAs};
+ghost use Rattle.std.specs.Prelude.{◌≡◌, ◌+◌, ◌≤◌, nat_le, nat_lt, if◌then◌else◌, [], Some, true, false, length, take, drop, OnOk, OnErr, unwrap_or};
+ghost use Rattle.http_stream.specs.Kept.{IsFrontScan, IsScanned, SeenAs, StandsAt};
 ghost use Rattle.http_stream.specs.Lines.{Front as Shape, front, head_limit};
 ghost use Rattle.http_stream.specs.Stream.{LooksAs, after_item, with_more};
 
@@ -136,28 +136,47 @@ impl Intake {
         if self.closed {
             return Front::Nothing;
         }
-        match self.find_head() {
-            Seen::Open(_) => Front::Nothing,
+        if let Some(head) = self.waiting {
+            return self.whole_or_wait(head);
+        }
+        if self.scan.size == 0 {
+            // The lines of a short head that is there as a whole need no scan.
+            if let Parsed::Head(head) = parse_short_head(window_of(self.rest())) {
+                return self.whole_or_wait(head);
+            }
+        }
+        self.look_by_lines()
+    }
+
+    // What the lines so far say of the next item; how far they were scanned is kept.
+    fn look_by_lines(&mut self) -> Front
+        requires is_open { self.old.closed ≡ false }
+        ensures looks { LooksAs self.old result }
+        ensures same { self.new ≡ self.old }
+    {
+        match seen_by_lines(self.rest(), self.scan) {
+            Seen::Open(scan) => {
+                self.scan = scan;
+                Front::Nothing
+            }
             Seen::Closing(fault) => Front::Closing(fault),
-            Seen::Head(head) => whole_or_nothing(self.rest().len(), head),
+            Seen::Head(head) => self.whole_or_wait(head),
         }
     }
 
-    // The head at the front; what was read of it is kept.
-    fn find_head(&mut self) -> Seen
-        ensures seen { SeenAs self.old.rest result }
+    // The message whose head stands at the front; the head is kept only where its body is awaited.
+    fn whole_or_wait(&mut self, head: HeadAt) -> Front
+        requires is_open { self.old.closed ≡ false }
+        requires stands { StandsAt self.old.rest (Some head) }
+        ensures looks { LooksAs self.old result }
         ensures same { self.new ≡ self.old }
     {
-        if let Some(head) = self.waiting {
-            return Seen::Head(head);
+        if is_whole(self.rest().len(), head) {
+            Front::Whole(head)
+        } else {
+            self.waiting = Some(head);
+            Front::Nothing
         }
-        let seen = seen_at(self.rest(), self.scan);
-        match seen {
-            Seen::Open(scan) => self.scan = scan,
-            Seen::Closing(_) => (),
-            Seen::Head(head) => self.waiting = Some(head),
-        }
-        seen
     }
 
     /// Takes the next item, of so many bytes; where it closes the connection, or is the 10,000th, no further one comes.
@@ -174,42 +193,15 @@ impl Intake {
     }
 }
 
-fn whole_or_nothing(left: usize, head: HeadAt) -> Front
+// Whether the body of a head came, among so many bytes that are left.
+fn is_whole(left: usize, head: HeadAt) -> bool
     requires { head.size ≤ left }
-    ensures { result
-        ≡ (if nat_le (head.size + unwrap_or head.length 0) left then Front.Whole head else
-        Front.Nothing) }
+    ensures { result ≡ nat_le (head.size + unwrap_or head.length 0) left }
 {
-    if head.length.unwrap_or(0) <= left - head.size {
-        Front::Whole(head)
-    } else {
-        Front::Nothing
-    }
+    head.length.unwrap_or(0) <= left - head.size
 }
 
 // What is seen at the front of what is left, where the lines were scanned so far.
-fn seen_at(rest: &[u8], scan: Scan) -> Seen
-    requires { IsScanned rest.now scan }
-    ensures { SeenAs rest.now result }
-{
-    if scan.size == 0 {
-        seen_first(rest, scan)
-    } else {
-        seen_by_lines(rest, scan)
-    }
-}
-
-// The same at the first look: the lines of a short head that is there as a whole need no scan.
-fn seen_first(rest: &[u8], scan: Scan) -> Seen
-    requires { IsScanned rest.now scan }
-    ensures { SeenAs rest.now result }
-{
-    match parse_short_head(window_of(rest)) {
-        Parsed::Head(head) => Seen::Head(head),
-        _ => seen_by_lines(rest, scan),
-    }
-}
-
 fn seen_by_lines(rest: &[u8], scan: Scan) -> Seen
     requires { IsScanned rest.now scan }
     ensures { SeenAs rest.now result }

@@ -1,16 +1,23 @@
-use Rattle.std.proofs.Common.{◌≡◌, ◌+◌, ◌∙◌, ℕ, List, cond, leb, length, sym, ap, subst}
-use Rattle.std.specs.Option.{unwrap_or}
-use Rattle.http_stream.specs.declared.intake.Front.{Front as Look}
-use Rattle.http_stream.specs.Stream.{LooksAs, Stream}
-use Rattle.http_stream.proofs.LookLaws.{looks}
+use Rattle.std.proofs.Common.{List, ℕ, Option, take, ap, ◌∙◌, subst}
+use Rattle.http_stream.specs.declared.head.HeadAt.{HeadAt}
+use Rattle.http_stream.specs.declared.head.Parsed.{Parsed}
+use Rattle.http_stream.specs.Kept.{StandsAt}
+use Rattle.http_stream.specs.Lines.{head_limit}
+use Rattle.http_stream.specs.Reading.{FoundAs}
+use Rattle.http_stream.specs.Stream.{Stream}
+use Rattle.http_stream.proofs.HeadLaws.{head-take}
+use Rattle.http_stream.proofs.HeadLines.{head-shows}
 use Rattle.http_stream.proofs.intake.Intake.look.Goals as goal
 
-pub returns-in-Head-clause-looks : goal.returns-in-Head-clause-looks
-returns-in-Head-clause-looks c =
-    let at = c.in-Head.head in
-    let seen = c.in-Head.ensures in
-    let same = c.rest.ensures ∙ ap (λ s. s.rest) seen.same in
-    let answer = c.whole_or_nothing.ensures
-    ∙ ap (λ (rest : List ℕ). cond (leb (at.size + unwrap_or at.length 0) (length rest)) (Look.Whole at) Look.Nothing) same in
-    let P : Look → Type 0 = λ front. LooksAs c.args.self.now front in
-    subst P (sym answer) (looks c.args.self.now at (sym (ap (λ (s : Stream). s.closed) c.self.view_is) ∙ c.if-self.false) seen.seen)
+pub whole_or_wait-requires-clause-stands : goal.whole_or_wait-requires-clause-stands
+whole_or_wait-requires-clause-stands c =
+    let P : Option HeadAt → Type 0 = λ waiting. StandsAt c.args.self.now.rest waiting in
+    let Q : Stream → Type 0 = λ stream. StandsAt stream.rest c.self.inside.waiting in
+    subst P c.in-Some.is (subst Q c.self.view_is c.self.invariant.1.stands)
+
+pub whole_or_wait-requires-in-Head-clause-stands : goal.whole_or_wait-requires-in-Head-clause-stands
+whole_or_wait-requires-in-Head-clause-stands c =
+    let P : List ℕ → Type 0 = λ text. FoundAs text (Parsed.Head c.in-Head.head) in
+    let found = subst P (c.window_of.ensures ∙ ap (take head_limit) c.rest.ensures) c.in-Head.ensures in
+    let rest = c.args.self.now.rest in
+    (found.0, head-shows rest found.0 found.1, head-take rest head_limit found.0 c.in-Head.head found.2)

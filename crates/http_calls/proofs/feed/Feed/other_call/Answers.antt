@@ -5,7 +5,7 @@ use Rattle.http_stream.specs.Stream.{Stream, after_item}
 use Rattle.http_calls.specs.Calls.{fault_closes}
 use Rattle.http_calls.specs.Steps.{answer_at}
 use Rattle.http_calls.proofs.StepLaws.{call-step, fault-step}
-use Rattle.http_calls.proofs.feed.Feed.whole.Goals as goal
+use Rattle.http_calls.proofs.feed.Feed.other_call.Goals as goal
 
 pub returns-in_ok-key-in-Ok-clause-ok : goal.returns-in_ok-key-in-Ok-clause-ok
 returns-in_ok-key-in-Ok-clause-ok c =
