@@ -1,25 +1,14 @@
 -- What a run over a connection does, item by item.
-use Rattle.std.proofs.Common.{Err, List, Ok, Result, [], ap, append-nil, arith, length, length-append, refl, sym, ℕ, ◌+◌, ◌++◌, ◌∙◌, ◌∷◌, ◌≡◌, ◌≤◌}
+use Rattle.std.proofs.Common.{Err, List, Ok, Result, [], ap, append-nil, arith, sym, ℕ, ◌++◌, ◌∙◌, ◌≡◌, ◌≤◌}
 use Rattle.std.specs.Prelude.{Bool}
-use Rattle.http_calls.specs.Calls.{ends, item_answer, item_key}
+use Rattle.http_calls.specs.Calls.{item_answer, item_key}
 use Rattle.http_calls.specs.declared.calls.CallAsk.{CallAsk}
-use Rattle.http_stream.proofs.ItemLaws.{items-then}
-use Rattle.http_stream.specs.Stream.{Items, Stream, StreamItem}
+use Rattle.http_stream.specs.Stream.{Stream}
 use Rattle.http_stream.specs.declared.fault.HttpFault.{HttpFault}
 use Rattle.connection_service.proofs.AnswerFacts.{grown-then}
 use Rattle.connection_service.specs.Answers.{AnswersBy, At, Gets, Kept, Said}
 use Rattle.connection_service.specs.Runs.{Run}
 use Rattle.register_machine.specs.journal.Journals.{Journal}
-
-pub run-items : (operator : List ℕ) (stream : Stream) (opened : At) (left : Stream) (at : At) (texts : List (List ℕ))
-    → Run operator stream opened left at texts → (items : List StreamItem) × Items ends stream items left × (length items ≡ length texts)
-run-items operator stream opened left at texts Run.none = ([], Items.none stream, refl)
-run-items operator stream opened left at texts (Run.more between after mid now before item text run is answers) =
-    let (items, are, many) = run-items operator stream opened between mid before run in (
-      items ++ item ∷ [],
-      items-then ends stream between after items (item ∷ []) are (Items.next between item after [] after is (Items.none after)),
-      length-append items (item ∷ []) ∙ ap (λ n. n + 1) many ∙ sym (length-append before (text ∷ [])),
-    )
 
 gets-grows : (last : Bool) (said : Said) (old : Kept) (bytes : List ℕ) (new : Kept) → Gets last said old bytes new → (more : Journal) × (new.journal ≡ old.journal ++ more)
 gets-grows last said old bytes new (Gets.Answered is next) = (said.events, ap (λ (kept : Kept). kept.journal) next)

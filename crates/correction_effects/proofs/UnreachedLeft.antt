@@ -5,7 +5,7 @@ use Rattle.std.specs.List.Sorted.{IsStrictlyIncreasing}
 use Rattle.std.specs.Option.{option_map_or}
 use Rattle.agent_events.specs.Events.{Event}
 use Rattle.agent_events.specs.declared.event.EventKind.{EventKind}
-use Rattle.correction_effects.specs.Reached.{AreReached, LeavesUnreached, household_alone}
+use Rattle.correction_effects.specs.Reached.{AreReached, household_alone}
 use Rattle.event_laws.specs.EventReplays.{is_correction}
 use Rattle.register_laws.specs.CorrectionReach.{EventReach, LeavesPart, order_changed}
 use Rattle.register_laws.specs.Lawful.{book_behind}
@@ -34,14 +34,11 @@ module _ (journal : Journal) (event : Event) (households : List ℕ) (reach : Ev
       reach.order (account, ref_no) changed household
       (another-owner (household_of (accounts_of journal) account) household (subst (λ (hs : List ℕ). Contains hs household → ⊥) alone none))
 
-  by-kind : (kind : EventKind) → event.kind ≡ kind → is_correction kind ≡ true → AreReached journal kind households → Left
-  by-kind (EventKind.Enter form) at is reached = of-order form.order.account form.order.ref_no (ap order_changed at) reached
-  by-kind (EventKind.Replace form) at is reached = of-order form.order.account form.order.ref_no (ap order_changed at) reached
-  by-kind (EventKind.Void form) at is reached = of-order form.account form.ref_no (ap order_changed at) reached
-  by-kind (EventKind.FixPrice form) at is reached = reach.price form at household (reached.others household none)
-  by-kind (EventKind.FixRate form) at is reached = reach.rate form at household (reached.others household none)
-  by-kind _ at is reached = absurd (true≢false (sym is))
-
-pub leaves_unreached : (journal : Journal) (event : Event) (households : List ℕ) → LeavesUnreached journal event households
-leaves_unreached journal event households is reach reached household none =
-    by-kind journal event households reach household none event.kind refl is reached
+  -- by what the correction corrects
+  pub left_by_kind : (kind : EventKind) → event.kind ≡ kind → is_correction kind ≡ true → AreReached journal kind households → Left
+  left_by_kind (EventKind.Enter form) at is reached = of-order form.order.account form.order.ref_no (ap order_changed at) reached
+  left_by_kind (EventKind.Replace form) at is reached = of-order form.order.account form.order.ref_no (ap order_changed at) reached
+  left_by_kind (EventKind.Void form) at is reached = of-order form.account form.ref_no (ap order_changed at) reached
+  left_by_kind (EventKind.FixPrice form) at is reached = reach.price form at household (reached.others household none)
+  left_by_kind (EventKind.FixRate form) at is reached = reach.rate form at household (reached.others household none)
+  left_by_kind _ at is reached = absurd (true≢false (sym is))

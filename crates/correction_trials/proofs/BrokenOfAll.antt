@@ -15,7 +15,7 @@ use Rattle.agent_events.specs.declared.reply.Refusal.{Refusal}
 use Rattle.agent_events.specs.declared.trade.Trade.{Trade}
 use Rattle.agent_events.specs.declared.verdict.Caller.{Caller}
 use Rattle.correction_effects.proofs.FirstOfAll.{least_is_first, none_is_broken}
-use Rattle.correction_effects.proofs.UnreachedLeft.{leaves_unreached}
+use Rattle.correction_effects.proofs.UnreachedLeft.{left_by_kind}
 use Rattle.correction_effects.specs.FirstOfAll.{AreFirstOfParts, IsOwned}
 use Rattle.correction_effects.specs.Least.{IsLeastOf}
 use Rattle.desk_books.specs.waiting_laws.SettledOrders.{ReplacesNone}
@@ -132,8 +132,8 @@ any-of household households among = list_any-from_Contains nat_eq_equiv househol
 
 pub part-left : (books : DeskBooks) (event : Event) (known : Known) (households : List ℕ) (household : ℕ) → IsTriedOver books event known → AreReached books.book.journal event.kind households → list_any (nat_eq household) households ≡ false → LeavesPart (book_behind books.book.journal) (book_behind (with_event books.book.journal event)) household
 part-left books event known households household is reached none =
-    leaves_unreached books.book.journal event households is.corrects is.trial.reach reached household
-    (λ among. true≢false (sym (any-of household households among) ∙ none))
+    left_by_kind books.book.journal event households is.trial.reach household
+    (λ among. true≢false (sym (any-of household households among) ∙ none)) event.kind refl is.corrects reached
 
 unbroken : (books : DeskBooks) (event : Event) (known : Known) (households : List ℕ) (household : ℕ) → IsTriedOver books event known → AreReached books.book.journal event.kind households → All (λ row. 0 < row.order.ref_no) (orders_of books.book.journal) → list_any (nat_eq household) households ≡ false → broken_in books.book.journal event household ≡ None
 unbroken books event known households household is reached numbered none =
