@@ -7,7 +7,7 @@ use Rattle.register_machine.specs.journal.Journals.{Journal, last_moment}
 use Rattle.load_requests.specs.Days.{is_corrected, pricing_moment}
 use Rattle.load_requests.specs.Opening.{opening_moment}
 use Rattle.load_requests.specs.Requests.{account_sent, corrections_on, days_after, household_sent, numbers_from, order_sent, orders_from, requests_of, requests_on, sheet_sent}
-use Rattle.load_requests.specs.Runs.{LoadRun, NeverFall, answer_to, first_run, load_step, operator_at, run_over}
+use Rattle.load_requests.specs.Runs.{LoadRun, NeverFall, answer_to, load_step, operator_at}
 use Rattle.load_requests.specs.declared.load.Load.{Load}
 use Rattle.load_requests.specs.declared.load.Sent.{Sent}
 use Rattle.load_requests.proofs.PricingFacts.{days_apart}
@@ -56,13 +56,8 @@ step_ends_by : (run : LoadRun) (sent : Sent) → last_moment run.journal ≤ sen
 unfolding load_step
 step_ends_by run sent late = ends_by run.journal sent late
 
-run_ends_by : (run : LoadRun) (low : ℕ) (before : List Sent) (sent : Sent) (later : List Sent) → last_moment run.journal ≤ low → NeverFall low (before ++ sent ∷ later) → last_moment (fold load_step run before).journal ≤ sent.moment
+pub run_ends_by : (run : LoadRun) (low : ℕ) (before : List Sent) (sent : Sent) (later : List Sent) → last_moment run.journal ≤ low → NeverFall low (before ++ sent ∷ later) → last_moment (fold load_step run before).journal ≤ sent.moment
 run_ends_by run low [] sent later last falls = let first = falls.0 in omega (arith, last, first)
 run_ends_by run low (one ∷ before) sent later last falls =
     let first = falls.0 in
     run_ends_by (load_step run one) one.moment before sent later (step_ends_by run one (omega (arith, last, first))) falls.1
-
-pub in_time : (load : Load) (before : List Sent) (sent : Sent) (later : List Sent) → load.days ≤ 2000 → requests_of load ≡ before ++ sent ∷ later → last_moment (run_over before).journal ≤ sent.moment
-unfolding run_over
-in_time load before sent later short e =
-    run_ends_by first_run 0 before sent later (omega arith) (subst (NeverFall 0) e (never_fall load short))

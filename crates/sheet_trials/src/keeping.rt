@@ -15,7 +15,8 @@ use standing_orders::HouseholdOrders;
 use std::alloc::Global;
 
 /// Keeps what each of the households that are moved came to behind the last sheet, where the last state of it that is kept is old
-/// or missing: one allocation for each position of such a household. The books show what they showed before, after `NoMemory` too.
+/// or missing: one allocation for such a household, whose positions are shared with the ledger. The books show what they showed before,
+/// after `NoMemory` too.
 pub(crate) fn keep_moved(
     alloc: Global,
     books: &mut DeskBooks,
