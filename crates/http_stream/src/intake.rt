@@ -140,12 +140,22 @@ impl Intake {
             return self.whole_or_wait(head);
         }
         if self.scan.size == 0 {
-            // The lines of a short head that is there as a whole need no scan.
-            if let Parsed::Head(head) = parse_short_head(window_of(self.rest())) {
-                return self.whole_or_wait(head);
-            }
+            self.look_first()
+        } else {
+            self.look_by_lines()
         }
-        self.look_by_lines()
+    }
+
+    // The first look at a head: the lines of a short one that is there as a whole need no scan.
+    fn look_first(&mut self) -> Front
+        requires is_open { self.old.closed ≡ false }
+        ensures looks { LooksAs self.old result }
+        ensures same { self.new ≡ self.old }
+    {
+        match parse_short_head(window_of(self.rest())) {
+            Parsed::Head(head) => self.whole_or_wait(head),
+            _ => self.look_by_lines(),
+        }
     }
 
     // What the lines so far say of the next item; how far they were scanned is kept.
