@@ -21,9 +21,8 @@ use Rattle.register_machine.specs.journal.Journals.{Journal}
 use Rattle.register_machine.specs.journal.Kinds.{accounts_of, household_of}
 use Rattle.register_machine.specs.pricing.CorrectedOrders.{orders_of, stands}
 use Rattle.standing_orders.proofs.OwnPlaces.{got-within, last-shifted}
-use Rattle.standing_orders.specs.ClassHouseholds.{AreNoted, is_listed, listed_under}
+use Rattle.standing_orders.specs.ClassHouseholds.{AreNoted, ClassLists, is_listed, listed_under}
 use Rattle.standing_orders.specs.Rows.{AreOwners, is_owner}
-use Rattle.standing_orders.specs.declared.class_households.ClassHouseholds.{ClassHouseholds}
 
 -- ---- the last order of a household
 
@@ -233,7 +232,7 @@ among-named accounts household class (row ∷ rows) (owner ∷ owners) are =
 -- ---- the households that are left
 
 -- a household that names the class is listed under it
-naming-listed : (classes : ClassHouseholds) (class household : ℕ) (rows : List OrderRow) (owners : List ℕ) → AreNoted classes rows owners
+naming-listed : (classes : ClassLists) (class household : ℕ) (rows : List OrderRow) (owners : List ℕ) → AreNoted classes rows owners
     → is_naming class rows owners household ≡ true → is_listed classes class household ≡ true
 naming-listed classes class household [] owners noted naming = cc
 naming-listed classes class household (row ∷ rows) [] noted naming = cc
@@ -256,7 +255,7 @@ left-among : (test : ℕ → Bool) (listed : List ℕ) (household : ℕ) → is_
 left-among test listed household =
     is_member-filter nat_eq_equiv test household (λ other same. ap test (eqb-true household other same)) listed
 
-pub are-naming : (journal : Journal) (owners : List ℕ) (classes : ClassHouseholds) (class : ℕ) (left households : List ℕ)
+pub are-naming : (journal : Journal) (owners : List ℕ) (classes : ClassLists) (class : ℕ) (left households : List ℕ)
     → left ≡ filter (is_naming class (orders_of journal) owners) (listed_under classes class)
     → ((h : ℕ) → Contains left h → Contains households h) → ((h : ℕ) → Contains households h → Contains left h)
     → AreNaming journal owners classes class households
@@ -291,7 +290,7 @@ are-naming journal owners classes class left households is keeps adds_none are n
     by h none false at = refl
 
 -- those that are left are listed
-pub left-listed : (owners : List ℕ) (rows : List OrderRow) (classes : ClassHouseholds) (class : ℕ) (left : List ℕ)
+pub left-listed : (owners : List ℕ) (rows : List OrderRow) (classes : ClassLists) (class : ℕ) (left : List ℕ)
     → left ≡ filter (is_naming class rows owners) (listed_under classes class)
     → (h : ℕ) → Contains left h → is_listed classes class h ≡ true
 left-listed owners rows classes class left is h among =

@@ -10,9 +10,8 @@ use Rattle.register_machine.specs.journal.Journals.{Journal}
 use Rattle.register_machine.specs.journal.Kinds.{accounts_of}
 use Rattle.register_machine.specs.pricing.CorrectedBook.{Book}
 use Rattle.register_machine.specs.pricing.CorrectedOrders.{orders_of, stands}
-use Rattle.standing_orders.specs.ClassHouseholds.{AreNoted}
+use Rattle.standing_orders.specs.ClassHouseholds.{AreNoted, ClassLists}
 use Rattle.standing_orders.specs.Rows.{AreOwners, is_owner}
-use Rattle.standing_orders.specs.declared.class_households.ClassHouseholds.{ClassHouseholds}
 
 -- some order of the household stands and names the class
 abbrev pub names_somewhere : Book → ℕ → ℕ → Bool
@@ -25,7 +24,7 @@ pub record IsNaming (book : Book) (class : ℕ) (households : List ℕ) : Type 0
   pub others : (household : ℕ) → (Contains households household → ⊥) → NamesNowhere book household class
 
 -- So it is for the corrected book of the journal, where the households are those of the rows and listed under their classes.
-abbrev pub AreNaming : Journal → List ℕ → ClassHouseholds → ℕ → List ℕ → Type 0
+abbrev pub AreNaming : Journal → List ℕ → ClassLists → ℕ → List ℕ → Type 0
 AreNaming journal owners classes class households =
     AreOwners (accounts_of journal) (orders_of journal) owners → AreNoted classes (orders_of journal) owners
     → IsNaming (book_behind journal) class households

@@ -9,9 +9,8 @@ use Rattle.register_laws.specs.Lawful.{book_behind}
 use Rattle.register_machine.specs.journal.Journals.{Journal, with_event}
 use Rattle.register_machine.specs.journal.Kinds.{accounts_of, household_of}
 use Rattle.register_machine.specs.pricing.CorrectedOrders.{orders_of}
-use Rattle.standing_orders.specs.ClassHouseholds.{AreNoted}
+use Rattle.standing_orders.specs.ClassHouseholds.{AreNoted, ClassLists}
 use Rattle.standing_orders.specs.Rows.{AreOwners}
-use Rattle.standing_orders.specs.declared.class_households.ClassHouseholds.{ClassHouseholds}
 
 -- the household of an account, where it is known
 abbrev pub household_alone : Journal → ℕ → List ℕ
@@ -27,7 +26,7 @@ AreReached journal (EventKind.FixRate form) households = IsNaming (book_behind j
 AreReached journal _ households = households ≡ []
 
 -- So it is where the households of the rows are these, and listed under their classes.
-abbrev pub AreReachedBy : Journal → List ℕ → ClassHouseholds → EventKind → List ℕ → Type 0
+abbrev pub AreReachedBy : Journal → List ℕ → ClassLists → EventKind → List ℕ → Type 0
 AreReachedBy journal owners classes kind households =
     AreOwners (accounts_of journal) (orders_of journal) owners → AreNoted classes (orders_of journal) owners
     → AreReached journal kind households

@@ -26,8 +26,7 @@ use Rattle.register_laws.specs.OneEventMore.{corrected_table, corrected_table_by
 use Rattle.register_machine.specs.journal.Journals.{Journal, with_event}
 use Rattle.register_machine.specs.journal.Kinds.{calendar_in, calendars_of}
 use Rattle.register_machine.specs.pricing.CorrectedOrders.{orders_of}
-use Rattle.standing_orders.specs.ClassHouseholds.{AreNoted}
-use Rattle.standing_orders.specs.declared.class_households.ClassHouseholds.{ClassHouseholds}
+use Rattle.standing_orders.specs.ClassHouseholds.{AreNoted, ClassLists}
 use Rattle.statement_laws.specs.LawfulStatements.{IsTimely}
 use Rattle.kept_of_journals.specs.waiting_laws.IndexOfJournals.{IsIndexOf}
 
@@ -101,6 +100,6 @@ books_after books change after are ready applied = record {
 
     classes : AreNoted after.classes (orders_of behind) after.orders.owners
     classes =
-        subst (λ (noted : ClassHouseholds). AreNoted noted (orders_of behind) after.orders.owners) (sym applied.classes)
+        subst (λ (noted : ClassLists). AreNoted noted (orders_of behind) after.orders.owners) (sym applied.classes)
         (subst (AreNoted books.classes (orders_of behind)) (sym applied.owners)
         (noted_after books.classes journal change.event books.orders.owners ready.follows are.index.owned are.classes change.orders ready.orders ready.classes))

@@ -17,19 +17,18 @@ use Rattle.register_machine.specs.journal.Journals.{Journal, with_event}
 use Rattle.register_machine.specs.journal.Kinds.{accounts_of, household_of}
 use Rattle.register_machine.specs.journal.Lawful.{IsLawful}
 use Rattle.register_machine.specs.pricing.CorrectedOrders.{is_named, orders_of, replaces, row_as_sent}
-use Rattle.standing_orders.specs.ClassHouseholds.{AreNoted, IsNoted, is_listed}
+use Rattle.standing_orders.specs.ClassHouseholds.{AreNoted, ClassLists, IsNoted, is_listed}
 use Rattle.standing_orders.specs.Rows.{AreOwners}
-use Rattle.standing_orders.specs.declared.class_households.ClassHouseholds.{ClassHouseholds}
 
 -- what is listed leaves rows noted where more is listed
-pub noted_kept : (before after : ClassHouseholds) → ((class household : ℕ) → is_listed before class household ≡ true → is_listed after class household ≡ true)
+pub noted_kept : (before after : ClassLists) → ((class household : ℕ) → is_listed before class household ≡ true → is_listed after class household ≡ true)
     → (rows : List OrderRow) (owners : List ℕ) → AreNoted before rows owners → AreNoted after rows owners
 noted_kept before after kept [] owners noted = tt
 noted_kept before after kept (row ∷ rows) [] noted = tt
 noted_kept before after kept (row ∷ rows) (owner ∷ owners) noted =
     (λ class names. kept class owner (noted.0 class names), noted_kept before after kept rows owners noted.1)
 
-module _ (classes : ClassHouseholds) where
+module _ (classes : ClassLists) where
   -- an order behind the others
   noted-more : (rows : List OrderRow) (owners : List ℕ) (row : OrderRow) (owner : ℕ) → length rows ≡ length owners
       → AreNoted classes rows owners → IsNoted classes row owner → AreNoted classes (rows ++ row ∷ []) (owners ++ owner ∷ [])
@@ -72,7 +71,7 @@ module _ (classes : ClassHouseholds) where
           ∙ heads are)
       by false at = noted.0
 
-module _ (classes : ClassHouseholds) (journal : Journal) (event : Event) (owners : List ℕ) (lawful : IsLawful (with_event journal event)) (are : AreOwners (accounts_of journal) (orders_of journal) owners) (noted : AreNoted classes (orders_of journal) owners) where
+module _ (classes : ClassLists) (journal : Journal) (event : Event) (owners : List ℕ) (lawful : IsLawful (with_event journal event)) (are : AreOwners (accounts_of journal) (orders_of journal) owners) (noted : AreNoted classes (orders_of journal) owners) where
   as_many : length (orders_of journal) ≡ length owners
   as_many =
       sym (length-map (orders_of journal) (λ (row : OrderRow). household_of (accounts_of journal) row.order.account))

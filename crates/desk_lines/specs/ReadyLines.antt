@@ -7,10 +7,10 @@ use Rattle.desk_books.specs.NotedClasses.{IsOrderNoted}
 use Rattle.desk_books.specs.declared.books.DeskBooks.{DeskBooks}
 use Rattle.register_machine.specs.journal.Kinds.{accounts_of}
 use Rattle.register_machine.specs.journal.Lawful.{IsLawful}
-use Rattle.standing_orders.specs.declared.class_households.ClassHouseholds.{ClassHouseholds}
+use Rattle.standing_orders.specs.ClassHouseholds.{ClassLists}
 
 -- the household of each order's account is listed under the order's classes
-abbrev pub AreLinesNoted : ClassHouseholds → List AccountForm → List Placed → Type 0
+abbrev pub AreLinesNoted : ClassLists → List AccountForm → List Placed → Type 0
 AreLinesNoted classes accounts placed = All (λ line. IsOrderNoted classes accounts line.order) placed
 
 -- They follow the journal in turn, there is room for all of them, and their households are listed under their classes.

@@ -1,6 +1,7 @@
 //! The households that have named each class in an order.
-ghost use Rattle.std.specs.Prelude.{◌≡◌, ◌==◌, ◌&&◌, ◌||◌, ℕ, IfOk, OnOk, false, true};
+ghost use Rattle.std.specs.Prelude.{◌≡◌, ◌==◌, ◌&&◌, ◌||◌, ℕ, [], IfOk, OnOk, nat_eq, true};
 ghost use Rattle.std.specs.List.{list_any};
+ghost use Rattle.std.specs.Set.{is_member};
 ghost use Rattle.register_machine.specs.pricing.OrderClasses.{classes_in};
 ghost use Rattle.standing_orders.specs.ClassHouseholds.{is_listed, listed_under};
 
@@ -9,18 +10,69 @@ use agent_events::Body;
 use money_units::NoMemory;
 use std::alloc::Global;
 use std::collections::{HashMap, HashSet};
+use std::marker::Model;
+
+/// The households that have named one class, which contracts see as a list.
+#[derive(Drop)]
+pub struct NamingHouseholds {
+    set: HashSet<u32>,
+}
+
+impl Model for NamingHouseholds {
+    ghost use Rattle.std.specs.Prelude.{ℕ, List};
+
+    ghost Value = { List ℕ };
+
+    ghost view = { λ households. households.set.keys };
+}
+
+impl NamingHouseholds {
+    fn new(alloc: Global) -> NamingHouseholds
+        ensures { result ≡ [] }
+    {
+        NamingHouseholds {
+            set: HashSet::new(alloc),
+        }
+    }
+
+    // Lists a household; nothing changes where it is listed.
+    fn add(&mut self, household: u32) -> Result<(), NoMemory>
+        ensures added { OnOk result ((own : ℕ) → is_member nat_eq self.new own
+            ≡ (is_member nat_eq self.old own || household == own)) }
+        ensures kept { (own : ℕ) → is_member nat_eq self.old own ≡ true
+            → is_member nat_eq self.new own ≡ true }
+    {
+        self.set.insert(household)?;
+        Ok(())
+    }
+
+    fn listed(&self, alloc: Global) -> Result<Vec<u32>, NoMemory>
+        ensures { IfOk result (λ found. found.items ≡ self.now) }
+    {
+        let found = listed(alloc, &self.set)?;
+        Ok(found)
+    }
+}
 
 /// By class, the households that have named it in an order, be the order replaced or struck since. So a reader of one class's
-/// households needn't look at the others.
+/// households needn't look at the others. Contracts see each class with its households.
 #[derive(Drop)]
 pub struct ClassHouseholds {
-    pub by_class: HashMap<u32, HashSet<u32>>,
+    by_class: HashMap<u32, NamingHouseholds>,
+}
+
+impl Model for ClassHouseholds {
+    ghost use Rattle.std.specs.Prelude.{ℕ, List};
+
+    ghost Value = { List (ℕ × List ℕ) };
+
+    ghost view = { λ classes. classes.by_class.entries };
 }
 
 impl ClassHouseholds {
     /// No household has named a class; it takes no memory yet.
     pub fn new(alloc: Global) -> ClassHouseholds
-        ensures { (class household : ℕ) → is_listed result class household ≡ false }
+        ensures { result ≡ [] }
     {
         ClassHouseholds {
             by_class: HashMap::new(alloc),
@@ -33,7 +85,7 @@ impl ClassHouseholds {
     {
         match self.by_class.get(&class) {
             Some(households) => {
-                let found = listed(alloc, households)?;
+                let found = households.listed(alloc)?;
                 Ok(found)
             }
             None => Ok(Vec::new(alloc)),
@@ -49,9 +101,9 @@ impl ClassHouseholds {
         ensures kept { (class other : ℕ) → is_listed self.old class other ≡ true
             → is_listed self.new class other ≡ true }
     {
-        put(alloc, self, class_of(body), household)?;
+        put(alloc, &mut self.by_class, class_of(body), household)?;
         match target_of(body) {
-            Some(class) => put(alloc, self, class, household),
+            Some(class) => put(alloc, &mut self.by_class, class, household),
             None => Ok(()),
         }
     }
@@ -60,22 +112,22 @@ impl ClassHouseholds {
 // Lists a household under a class.
 fn put(
     alloc: Global,
-    classes: &mut ClassHouseholds,
+    by_class: &mut HashMap<u32, NamingHouseholds>,
     class: u32,
     household: u32,
 ) -> Result<(), NoMemory>
-    ensures put { OnOk result ((other own : ℕ) → is_listed classes.new other own
-        ≡ (is_listed classes.old other own || (class == other && household == own))) }
-    ensures kept { (other own : ℕ) → is_listed classes.old other own ≡ true
-        → is_listed classes.new other own ≡ true }
+    ensures put { OnOk result ((other own : ℕ) → is_listed by_class.new.entries other own
+        ≡ (is_listed by_class.old.entries other own || (class == other && household == own))) }
+    ensures kept { (other own : ℕ) → is_listed by_class.old.entries other own ≡ true
+        → is_listed by_class.new.entries other own ≡ true }
 {
-    if let Some(households) = classes.by_class.get_mut(&class) {
-        households.insert(household)?;
+    if let Some(households) = by_class.get_mut(&class) {
+        households.add(household)?;
         return Ok(());
     }
-    let mut households = HashSet::new(alloc);
-    households.insert(household)?;
-    classes.by_class.insert(class, households)?;
+    let mut households = NamingHouseholds::new(alloc);
+    households.add(household)?;
+    by_class.insert(class, households)?;
     Ok(())
 }
 
