@@ -12,7 +12,7 @@ returns-clause-reached c =
     (λ households. AreReachedBy c.orders-orders.result.now.journal books.orders.owners books.classes c.kind.result.now households.items)
     (λ households. AreReached books.book.journal c.args.event.now.kind households.items)
     (λ households reached.
-        subst (λ (kind : EventKind). AreReachedBy books.book.journal books.orders.owners books.classes kind households.items) c.kind.ensures.kind
-        (subst (λ (book : NotedJournal). AreReachedBy book.journal books.orders.owners books.classes c.kind.result.now households.items) c.orders-orders.ensures reached)
-        c.requires.index.owned c.requires.classes)
+    subst (λ (kind : EventKind). AreReachedBy books.book.journal books.orders.owners books.classes kind households.items) c.kind.ensures.kind
+    (subst (λ (book : NotedJournal). AreReachedBy book.journal books.orders.owners books.classes c.kind.result.now households.items) c.orders-orders.ensures reached)
+    c.requires.index.owned c.requires.classes)
     c.households_reached.ensures.reached
