@@ -87,7 +87,7 @@ fn outcome_at<K: Keeper, L: Ledger>(
     script: &[u8],
     steps: &mut Steps<L>,
 ) -> Result<(u8, Vec<u8>), Fail> {
-    let Some(morning) = Moment::from_seconds(1_719_838_800) else {
+    let Some(morning) = Moment::new(1_719_838_800) else {
         return Err(Fail::new("it is a moment"));
     };
     let mut clock = MemoryClock::new(alloc, &[morning])?;

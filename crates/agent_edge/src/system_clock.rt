@@ -51,8 +51,8 @@ fn seconds_since_1970<R: time::Clock>(system: &R) -> u64 {
 fn later_of(last: Moment, seconds: u64) -> Moment
     ensures { result ≡ max last (min seconds 7258118399) }
 {
-    match Moment::from_seconds(seconds.min(7_258_118_399)) {
-        Some(moment) if moment.number() > last.number() => moment,
+    match Moment::new(seconds.min(7_258_118_399)) {
+        Some(moment) if moment.seconds() > last.seconds() => moment,
         _ => last,
     }
 }

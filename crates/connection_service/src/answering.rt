@@ -103,7 +103,7 @@ fn answer_request<K: Keeper, L: StepLedger>(
 pub(crate) fn later(reading: Moment, last: Moment) -> Moment
     ensures { result ≡ max reading last }
 {
-    if reading.number() < last.number() {
+    if reading.seconds() < last.seconds() {
         last
     } else {
         reading

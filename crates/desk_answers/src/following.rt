@@ -25,7 +25,7 @@ fn moments_kept(kind: &EventKind) -> (u64, u64)
     ensures { result ≡ moments_kept kind.now }
 {
     match kind {
-        EventKind::Order(placed) => (placed.receipt.number(), placed.due.number()),
+        EventKind::Order(placed) => (placed.receipt.seconds(), placed.due.seconds()),
         _ => (0, 0),
     }
 }
@@ -64,7 +64,7 @@ fn change_to(change: Option<EventChange>, event: &Event) -> Option<EventChange>
 fn is_before(book: &Book, event: &Event) -> bool
     ensures { result ≡ nat_lt event.now.moment (last_moment book.now.journal) }
 {
-    event.moment().number() < book.last_moment().number()
+    event.moment().seconds() < book.last_moment().seconds()
 }
 
 /// The answer to an event's own request, asked again by its asker at its moment.

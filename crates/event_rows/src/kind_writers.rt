@@ -174,8 +174,8 @@ fn put_placed(row: &mut RowWriter, placed: &Placed) -> Result<(), NoMemory>
     row.u32(placed.order.account.number())?;
     row.u64(placed.order.ref_no.number())?;
     put_source(row, placed.source)?;
-    row.u64(placed.receipt.number())?;
-    row.u64(placed.due.number())?;
+    row.u64(placed.receipt.seconds())?;
+    row.u64(placed.due.seconds())?;
     put_body(row, &placed.order.body)?;
     Ok(())
 }
@@ -198,7 +198,7 @@ fn put_sheet(row: &mut RowWriter, form: &SheetForm) -> Result<(), NoMemory>
     ensures in_form { OnOk result (range.IsSheet form.now) }
 {
     row.u32(form.calendar.number())?;
-    row.u64(form.moment.number())?;
+    row.u64(form.moment.seconds())?;
     put_prices(row, form.prices.as_slice())?;
     Ok(())
 }
@@ -209,7 +209,7 @@ fn put_dividend(row: &mut RowWriter, form: &DividendForm) -> Result<(), NoMemory
     ensures in_form { OnOk result (range.IsDividend form.now) }
 {
     row.u32(form.class.number())?;
-    row.u64(form.moment.number())?;
+    row.u64(form.moment.seconds())?;
     row.u64(form.rate.millionths())?;
     Ok(())
 }
@@ -222,7 +222,7 @@ fn put_fix_price(row: &mut RowWriter, form: &FixPriceForm) -> Result<(), NoMemor
     row.u64(form.fix.number())?;
     row.bearer(form.bearer)?;
     row.u32(form.class.number())?;
-    row.u64(form.moment.number())?;
+    row.u64(form.moment.seconds())?;
     row.u64(form.nav.cents())?;
     Ok(())
 }
@@ -235,7 +235,7 @@ fn put_fix_rate(row: &mut RowWriter, form: &FixRateForm) -> Result<(), NoMemory>
     row.u64(form.fix.number())?;
     row.bearer(form.bearer)?;
     row.u32(form.class.number())?;
-    row.u64(form.moment.number())?;
+    row.u64(form.moment.seconds())?;
     row.u64(form.rate.millionths())?;
     Ok(())
 }
@@ -249,7 +249,7 @@ fn put_entry(row: &mut RowWriter, form: &EntryForm) -> Result<(), NoMemory>
     row.bearer(form.bearer)?;
     row.u32(form.order.account.number())?;
     row.u64(form.order.ref_no.number())?;
-    row.u64(form.receipt.number())?;
+    row.u64(form.receipt.seconds())?;
     put_body(row, &form.order.body)?;
     Ok(())
 }

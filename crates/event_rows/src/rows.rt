@@ -30,7 +30,7 @@ pub fn encode(alloc: Global, event: &Event) -> Result<Vec<u8>, NoMemory>
     let mut row = RowWriter::with_room(alloc, USUAL_ROW)?;
     row.byte(VERSION)?;
     row.byte(kind_number(event.kind()))?;
-    row.u64(event.moment().number())?;
+    row.u64(event.moment().seconds())?;
     put_fields(&mut row, event.kind())?;
     Ok(row.into_bytes())
 }

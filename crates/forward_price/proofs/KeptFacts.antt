@@ -1,6 +1,5 @@
 -- What keeps a price book orderly, and what leaves the sheet of a priced order as it is.
-use Rattle.std.proofs.Common.{nat_lt, ◌≡◌, ℕ, zero, suc, ◌-◌, ◌<◌, ℤ, ◌≤ℤ◌, int_lt, Bool, true, false, cond, not, ◌&&◌, ◌==◌, List, [], ◌∷◌, ◌++◌, length, take, Option, Some, None, option_map, All, Contains, ◌⊎◌, inl, inr, refl, sym, ap, subst, ◌∙◌, arith, length-append}
-use Rattle.std.proofs.lemmas.Int.{ints}
+use Rattle.std.proofs.Common.{nat_lt, ◌≡◌, ℕ, zero, suc, ◌-◌, ◌<◌, ◌≤◌, Bool, true, false, cond, not, ◌&&◌, ◌==◌, List, [], ◌∷◌, ◌++◌, length, take, Option, Some, None, option_map, All, Contains, ◌⊎◌, inl, inr, refl, sym, ap, subst, ◌∙◌, arith, length-append}
 use Rattle.std.proofs.lemmas.Bool.{and_parts, true≢false}
 use Rattle.std.proofs.lemmas.Bool.Decides.{Decides-eqb}
 use Rattle.std.proofs.lemmas.List.Sums.{fold-append}
@@ -42,7 +41,7 @@ right_then true false e = absurd (true≢false e)
 right_then false true e = absurd (true≢false e)
 right_then false false e = refl
 
-pub complete_all : (classes : List Opening) (calendar : ℕ) (moment : ℤ) (prices : List (ℕ × ℕ)) → wrong_class classes calendar moment prices ≡ None → (n : ℕ) → lists_class prices n ≡ must_list classes calendar moment n
+pub complete_all : (classes : List Opening) (calendar : ℕ) (moment : ℕ) (prices : List (ℕ × ℕ)) → wrong_class classes calendar moment prices ≡ None → (n : ℕ) → lists_class prices n ≡ must_list classes calendar moment n
 complete_all classes calendar moment prices e n = elim (tested (lists_class prices n)) [
   | inl lists ↦ right (Contains-append_right (class_numbers classes) (price_numbers prices) n (named prices n lists))
   | inr passes ↦ elim (tested (must_list classes calendar moment n)) [
@@ -54,10 +53,10 @@ complete_all classes calendar moment prices e n = elim (tested (lists_class pric
     right : Contains (class_numbers classes ++ price_numbers prices) n → lists_class prices n ≡ must_list classes calendar moment n
     right in' = right_then (lists_class prices n) (must_list classes calendar moment n) (All-contains (λ number. is_wrong classes calendar moment prices number ≡ false) (class_numbers classes ++ price_numbers prices) n (none_wrong classes calendar moment prices e) in')
 
-wrong_choice : (classes : List Opening) (calendar : ℕ) (moment : ℤ) (prices : List (ℕ × ℕ)) → IsChoice (is_wrong classes calendar moment prices) nat_lt (class_numbers classes ++ price_numbers prices) (wrong_class classes calendar moment prices)
+wrong_choice : (classes : List Opening) (calendar : ℕ) (moment : ℕ) (prices : List (ℕ × ℕ)) → IsChoice (is_wrong classes calendar moment prices) nat_lt (class_numbers classes ++ price_numbers prices) (wrong_class classes calendar moment prices)
 wrong_choice classes calendar moment prices = best-choice (is_wrong classes calendar moment prices) nat_lt less-order (class_numbers classes ++ price_numbers prices)
 
-pub least_wrong : (classes : List Opening) (calendar : ℕ) (moment : ℤ) (prices : List (ℕ × ℕ)) (class : ℕ) → wrong_class classes calendar moment prices ≡ Some class → IsBest (is_wrong classes calendar moment prices) nat_lt (class_numbers classes ++ price_numbers prices) class
+pub least_wrong : (classes : List Opening) (calendar : ℕ) (moment : ℕ) (prices : List (ℕ × ℕ)) (class : ℕ) → wrong_class classes calendar moment prices ≡ Some class → IsBest (is_wrong classes calendar moment prices) nat_lt (class_numbers classes ++ price_numbers prices) class
 least_wrong classes calendar moment prices class e =
     subst (IsChoice (is_wrong classes calendar moment prices) nat_lt (class_numbers classes ++ price_numbers prices)) e (wrong_choice classes calendar moment prices)
 
@@ -67,7 +66,7 @@ fine_then true false e f = true≢false e
 fine_then false true e f = true≢false (sym e)
 fine_then false false e f = true≢false (sym f)
 
-pub none_wrong_from : (classes : List Opening) (calendar : ℕ) (moment : ℤ) (prices : List (ℕ × ℕ)) → ((n : ℕ) → lists_class prices n ≡ must_list classes calendar moment n) → wrong_class classes calendar moment prices ≡ None
+pub none_wrong_from : (classes : List Opening) (calendar : ℕ) (moment : ℕ) (prices : List (ℕ × ℕ)) → ((n : ℕ) → lists_class prices n ≡ must_list classes calendar moment n) → wrong_class classes calendar moment prices ≡ None
 none_wrong_from classes calendar moment prices fine = go (wrong_class classes calendar moment prices) refl
   where
     go : (o : Option ℕ) → wrong_class classes calendar moment prices ≡ o → o ≡ None
@@ -75,7 +74,7 @@ none_wrong_from classes calendar moment prices fine = go (wrong_class classes ca
     go (Some n) e = absurd (fine_then (lists_class prices n) (must_list classes calendar moment n) (fine n) (least_wrong classes calendar moment prices n e).here)
 
 -- a later sheet leaves the sheet of a priced order as it is
-later_stays : (t : Table) (calendar : ℕ) (moment : ℤ) (prices : List (ℕ × ℕ)) (asked : List ℕ) (receipt : ℤ) (s : Sheet) → IsOrderly t → IsInTurn t calendar moment prices → 0 < length asked → NextPrice t.sheets asked receipt s → lists_all prices asked ≡ true → int_lt moment s.moment ≡ true → ⊥
+later_stays : (t : Table) (calendar : ℕ) (moment : ℕ) (prices : List (ℕ × ℕ)) (asked : List ℕ) (receipt : ℕ) (s : Sheet) → IsOrderly t → IsInTurn t calendar moment prices → 0 < length asked → NextPrice t.sheets asked receipt s → lists_all prices asked ≡ true → nat_lt moment s.moment ≡ true → ⊥
 later_stays t calendar moment prices asked receipt s orderly turn some next lists earlier =
     let a = first_asked asked some in
     let is = expected_best t (moment, calendar) turn.expected in
@@ -83,22 +82,22 @@ later_stays t calendar moment prices asked receipt s orderly turn some next list
     let y = must_opening t.classes calendar moment a.0 (sym (complete_all t.classes calendar moment prices turn.complete a.0) ∙ all_to (λ class. lists_class prices class) asked a.0 lists a.1) in
     let same = same_opening t.classes y.0 x.0 orderly.classes_differ y.1 x.1 (y.2 ∙ sym x.2) in
     let of : calendar ≡ s.calendar = sym y.3 ∙ ap (λ o. o.calendar) same ∙ x.3 in
-    let passed = All-contains (λ sheet. All (λ pair. pair.1 ≡ sheet.calendar → pair.0 ≤ℤ sheet.moment → is_awaited t.classes t.sheets pair ≡ false) (pricing_pairs t.calendars)) t.sheets s orderly.none_passed next.among in
-    let upto : moment ≤ℤ s.moment = (let less = lt_fact moment s.moment earlier in omega (arith, ints)) in
-    let not_awaited = All-contains (λ pair. pair.1 ≡ s.calendar → pair.0 ≤ℤ s.moment → is_awaited t.classes t.sheets pair ≡ false) (pricing_pairs t.calendars) (moment, calendar) passed is.among of upto in
+    let passed = All-contains (λ sheet. All (λ pair. pair.1 ≡ sheet.calendar → pair.0 ≤ sheet.moment → is_awaited t.classes t.sheets pair ≡ false) (pricing_pairs t.calendars)) t.sheets s orderly.none_passed next.among in
+    let upto : moment ≤ s.moment = (let less = lt_fact moment s.moment earlier in omega arith) in
+    let not_awaited = All-contains (λ pair. pair.1 ≡ s.calendar → pair.0 ≤ s.moment → is_awaited t.classes t.sheets pair ≡ false) (pricing_pairs t.calendars) (moment, calendar) passed is.among of upto in
     true≢false (sym is.here ∙ not_awaited)
 
-stays_by : (asked : List ℕ) (receipt : ℤ) (s p : Sheet) → (lists_all p.prices asked ≡ true → int_lt p.moment s.moment ≡ true → ⊥) → best_so_far (prices_order asked receipt) is_earlier (Some s) p ≡ Some s
+stays_by : (asked : List ℕ) (receipt : ℕ) (s p : Sheet) → (lists_all p.prices asked ≡ true → nat_lt p.moment s.moment ≡ true → ⊥) → best_so_far (prices_order asked receipt) is_earlier (Some s) p ≡ Some s
 stays_by asked receipt s p never = elim (tested (prices_order asked receipt p)) [
   | inl passes ↦ rw passes (
       elim (tested (is_earlier p s)) [
-        | inl earlier ↦ absurd (never (and_parts (int_lt receipt p.moment) (lists_all p.prices asked) passes).1 earlier)
+        | inl earlier ↦ absurd (never (and_parts (nat_lt receipt p.moment) (lists_all p.prices asked) passes).1 earlier)
         | inr later ↦ rw later refl
       ])
   | inr fails ↦ rw fails refl
 ]
 
-pub priced_stays : (t : Table) (calendar : ℕ) (moment : ℤ) (prices : List (ℕ × ℕ)) (asked : List ℕ) (receipt : ℤ) (s : Sheet) → IsOrderly t → IsInTurn t calendar moment prices → 0 < length asked → next_sheet t.sheets asked receipt ≡ Some s → next_sheet (with_published t calendar moment prices).sheets asked receipt ≡ Some s
+pub priced_stays : (t : Table) (calendar : ℕ) (moment : ℕ) (prices : List (ℕ × ℕ)) (asked : List ℕ) (receipt : ℕ) (s : Sheet) → IsOrderly t → IsInTurn t calendar moment prices → 0 < length asked → next_sheet t.sheets asked receipt ≡ Some s → next_sheet (with_published t calendar moment prices).sheets asked receipt ≡ Some s
 priced_stays t calendar moment prices asked receipt s orderly turn some e =
     let p = sheet_published t calendar moment prices in
     fold-append (best_so_far (prices_order asked receipt) is_earlier) None t.sheets (p ∷ [])
@@ -116,12 +115,12 @@ same_number : (class number nav : ℕ) (found : Option Sheet) → option_map (λ
 same_number class number nav None = refl
 same_number class number nav (Some s) = ap Some (number-kept class number nav s)
 
-pub corrected_stays : (class number nav : ℕ) (sheets : List Sheet) (asked : List ℕ) (receipt : ℤ) → option_map (λ sheet. sheet.number) (next_sheet (sheets_with_nav class number nav sheets) asked receipt) ≡ option_map (λ sheet. sheet.number) (next_sheet sheets asked receipt)
+pub corrected_stays : (class number nav : ℕ) (sheets : List Sheet) (asked : List ℕ) (receipt : ℕ) → option_map (λ sheet. sheet.number) (next_sheet (sheets_with_nav class number nav sheets) asked receipt) ≡ option_map (λ sheet. sheet.number) (next_sheet sheets asked receipt)
 corrected_stays class number nav sheets asked receipt =
     ap (option_map (λ sheet. sheet.number))
     (best-kept (corrected_sheet class number nav) (prices_order asked receipt) is_earlier
-    (λ s. ap (λ m. int_lt receipt m && lists_all (corrected_sheet class number nav s).prices asked) (moment-kept class number nav s) ∙ ap (λ b. int_lt receipt s.moment && b) (same_lists class number nav asked s))
-    (λ s u. ap (λ m. int_lt m (corrected_sheet class number nav u).moment) (moment-kept class number nav s) ∙ ap (λ m. int_lt s.moment m) (moment-kept class number nav u)) sheets)
+    (λ s. ap (λ m. nat_lt receipt m && lists_all (corrected_sheet class number nav s).prices asked) (moment-kept class number nav s) ∙ ap (λ b. nat_lt receipt s.moment && b) (same_lists class number nav asked s))
+    (λ s u. ap (λ m. nat_lt m (corrected_sheet class number nav u).moment) (moment-kept class number nav s) ∙ ap (λ m. nat_lt s.moment m) (moment-kept class number nav u)) sheets)
     ∙ same_number class number nav (next_sheet sheets asked receipt)
 
 -- the last sheet is taken back whole

@@ -1,10 +1,8 @@
 -- Each call of a price book keeps it orderly.
-use Rattle.std.proofs.Common.{◌≡◌, ◌≢◌, ℕ, zero, suc, ◌<◌, ℤ, ◌≤ℤ◌, ◌<ℤ◌, int_lt, Bool, true, false, not, ◌&&◌, ◌||◌, ◌==◌, List, [], ◌∷◌, ◌++◌, length, map, get_or, find, filter, None, All, AllPairs, Contains, ◌⊎◌, inl, inr, refl, sym, ap, subst, ◌∙◌, arith, append-nil, length-append}
-use Rattle.std.specs.Ordering.{int_eq}
+use Rattle.std.proofs.Common.{◌≡◌, ◌≢◌, ℕ, zero, suc, ◌<◌, ◌≤◌, nat_lt, Bool, true, false, not, ◌&&◌, ◌||◌, ◌==◌, List, [], ◌∷◌, ◌++◌, length, map, get_or, find, filter, None, All, AllPairs, Contains, ◌⊎◌, inl, inr, refl, sym, ap, subst, ◌∙◌, arith, append-nil, length-append}
 use Rattle.std.specs.List.{list_any}
-use Rattle.std.proofs.lemmas.Int.{ints, by_lt_z}
-use Rattle.std.proofs.lemmas.Bool.{and_parts, and_from, true≢false}
-use Rattle.std.proofs.lemmas.Bool.Decides.{Decides-eqb, Decides-int_eq}
+use Rattle.std.proofs.lemmas.Bool.{cases_lt, and_parts, and_from, true≢false}
+use Rattle.std.proofs.lemmas.Bool.Decides.{Decides-eqb}
 use Rattle.std.proofs.lemmas.Grind.{flat_map-append}
 use Rattle.std.proofs.lemmas.List.{length-map}
 use Rattle.std.proofs.lemmas.List.Quantifiers.{all_pairs_push}
@@ -86,9 +84,9 @@ orderly_calendar t c o new = record {
   rises = o.rises;
 }
   where
-    here : (s : Sheet) → Contains (pricing_pairs t.calendars) (s.moment, s.calendar) → All (λ pair. pair.1 ≡ s.calendar → pair.0 ≤ℤ s.moment → is_awaited t.classes t.sheets pair ≡ false) (pricing_pairs t.calendars) → All (λ pair. pair.1 ≡ s.calendar → pair.0 ≤ℤ s.moment → is_awaited t.classes t.sheets pair ≡ false) (pricing_pairs (t.calendars ++ c ∷ []))
+    here : (s : Sheet) → Contains (pricing_pairs t.calendars) (s.moment, s.calendar) → All (λ pair. pair.1 ≡ s.calendar → pair.0 ≤ s.moment → is_awaited t.classes t.sheets pair ≡ false) (pricing_pairs t.calendars) → All (λ pair. pair.1 ≡ s.calendar → pair.0 ≤ s.moment → is_awaited t.classes t.sheets pair ≡ false) (pricing_pairs (t.calendars ++ c ∷ []))
     here s on old =
-        let P = (λ (pair : ℤ × ℕ). pair.1 ≡ s.calendar → pair.0 ≤ℤ s.moment → is_awaited t.classes t.sheets pair ≡ false) in
+        let P = (λ (pair : ℕ × ℕ). pair.1 ≡ s.calendar → pair.0 ≤ s.moment → is_awaited t.classes t.sheets pair ≡ false) in
         let known = pair_calendar t.calendars (s.moment, s.calendar) o.calendars_differ on in
         subst (All P) (sym (one_more t.calendars c)) (All-append P (pricing_pairs t.calendars) (pairs_of c) old
         (All-map P (pricing_pair c.number) c.days (λ k d l same upto. absurd (none_numbered t.calendars c.number known.0 new known.2 (known.4 ∙ sym same)))))
@@ -101,14 +99,14 @@ any_more p xs x e = list_any-append p xs (x ∷ []) ∙ (rw e (or_none (list_any
     or_none true = refl
     or_none false = refl
 
-not_offered : (calendar : ℕ) (opened : ℤ) (n : ℕ) (s : Sheet) (pair : ℤ × ℕ) → (s.calendar ≡ calendar → s.moment ≤ℤ opened) → pair.1 ≡ s.calendar → pair.0 ≤ℤ s.moment → is_offered_at pair.1 pair.0 (record { class = n; calendar = calendar; opened = opened }) ≡ false
+not_offered : (calendar : ℕ) (opened : ℕ) (n : ℕ) (s : Sheet) (pair : ℕ × ℕ) → (s.calendar ≡ calendar → s.moment ≤ opened) → pair.1 ≡ s.calendar → pair.0 ≤ s.moment → is_offered_at pair.1 pair.0 (record { class = n; calendar = calendar; opened = opened }) ≡ false
 not_offered calendar opened n s pair after of upto = never (is_offered_at pair.1 pair.0 (record { class = n; calendar = calendar; opened = opened })) (λ e.
-    let parts = and_parts (calendar == pair.1) (int_lt opened pair.0) e in
+    let parts = and_parts (calendar == pair.1) (nat_lt opened pair.0) e in
     let later = after (sym of ∙ sym ((Decides-eqb calendar pair.1).0 parts.0)) in
-    let less : opened <ℤ pair.0 = lt_fact opened pair.0 parts.1 in
-    omega (arith, ints))
+    let less : opened < pair.0 = lt_fact opened pair.0 parts.1 in
+    omega arith)
 
-pub orderly_class : (t : Table) (n calendar : ℕ) (opened : ℤ) → IsOrderly t → class_opened t.classes n ≡ None → OpensAfter t.sheets calendar opened → IsOrderly (with_class t n calendar opened)
+pub orderly_class : (t : Table) (n calendar : ℕ) (opened : ℕ) → IsOrderly t → class_opened t.classes n ≡ None → OpensAfter t.sheets calendar opened → IsOrderly (with_class t n calendar opened)
 orderly_class t n calendar opened o new after = record {
   calendars_differ = o.calendars_differ;
   classes_differ = pairs_push (λ a b. a.class ≢ b.class) t.classes added o.classes_differ (λ k d l same. none_classed t.classes n (get_or t.classes k d) new (Contains-get_or t.classes k d l) same);
@@ -121,8 +119,8 @@ orderly_class t n calendar opened o new after = record {
     added : Opening
     added = record { class = n; calendar = calendar; opened = opened }
 
-    not_named : (s : Sheet) (number : ℕ) → (s.calendar ≡ calendar → s.moment ≤ℤ opened) → ((n == number) && is_offered_at s.calendar s.moment (record { class = n; calendar = calendar; opened = opened })) ≡ false
-    not_named s number later = rw (not_offered calendar opened n s (s.moment, s.calendar) later refl (omega (arith, ints))) (and_none (n == number))
+    not_named : (s : Sheet) (number : ℕ) → (s.calendar ≡ calendar → s.moment ≤ opened) → ((n == number) && is_offered_at s.calendar s.moment (record { class = n; calendar = calendar; opened = opened })) ≡ false
+    not_named s number later = rw (not_offered calendar opened n s (s.moment, s.calendar) later refl (omega arith)) (and_none (n == number))
       where
         and_none : (b : Bool) → (b && false) ≡ false
         and_none true = refl
@@ -132,7 +130,7 @@ orderly_class t n calendar opened o new after = record {
 closed_number : (calendar day : ℕ) (c : Listing) → (closed_in calendar day c).number ≡ c.number
 closed_number calendar day c = elim (tested (c.number == calendar)) [ inl here ↦ rw here refl | inr apart ↦ rw apart refl ]
 
-closed_pairs : (P : ℤ × ℕ → Type 0) (calendar day : ℕ) (calendars : List Listing) → All P (pricing_pairs calendars) → All P (pricing_pairs (map (closed_in calendar day) calendars))
+closed_pairs : (P : ℕ × ℕ → Type 0) (calendar day : ℕ) (calendars : List Listing) → All P (pricing_pairs calendars) → All P (pricing_pairs (map (closed_in calendar day) calendars))
 closed_pairs P calendar day [] all = all
 closed_pairs P calendar day (c ∷ cs) all =
     All-append P (pairs_of (closed_in calendar day c)) (pricing_pairs (map (closed_in calendar day) cs)) (one (All-left P (pairs_of c) (pricing_pairs cs) all)) (closed_pairs P calendar day cs (All-right P (pairs_of c) (pricing_pairs cs) all))
@@ -149,21 +147,21 @@ orderly_closure t calendar day o on = record {
   classes_differ = o.classes_differ;
   on_pricing_days = on;
   complete = o.complete;
-  none_passed = λ k d l. closed_pairs (λ pair. pair.1 ≡ (get_or t.sheets k d).calendar → pair.0 ≤ℤ (get_or t.sheets k d).moment → is_awaited t.classes t.sheets pair ≡ false) calendar day t.calendars (o.none_passed k d l);
+  none_passed = λ k d l. closed_pairs (λ pair. pair.1 ≡ (get_or t.sheets k d).calendar → pair.0 ≤ (get_or t.sheets k d).moment → is_awaited t.classes t.sheets pair ≡ false) calendar day t.calendars (o.none_passed k d l);
   rises = o.rises;
 }
 
 -- a sheet in its turn
-pub orderly_sheet : (t : Table) (calendar : ℕ) (moment : ℤ) (prices : List (ℕ × ℕ)) → IsOrderly t → IsInTurn t calendar moment prices → IsOrderly (with_published t calendar moment prices)
+pub orderly_sheet : (t : Table) (calendar : ℕ) (moment : ℕ) (prices : List (ℕ × ℕ)) → IsOrderly t → IsInTurn t calendar moment prices → IsOrderly (with_published t calendar moment prices)
 orderly_sheet t calendar moment prices o turn = record {
   calendars_differ = o.calendars_differ;
   classes_differ = o.classes_differ;
   on_pricing_days = All-push (λ s. Contains (pricing_pairs t.calendars) (s.moment, s.calendar)) t.sheets p o.on_pricing_days is.among;
   complete = All-push (λ s. (number : ℕ) → lists_class s.prices number ≡ must_list t.classes s.calendar s.moment number) t.sheets p o.complete (complete_all t.classes calendar moment prices turn.complete);
-  none_passed = All-push (λ s. All (λ pair. pair.1 ≡ s.calendar → pair.0 ≤ℤ s.moment → is_awaited t.classes (t.sheets ++ p ∷ []) pair ≡ false) (pricing_pairs t.calendars)) t.sheets p
+  none_passed = All-push (λ s. All (λ pair. pair.1 ≡ s.calendar → pair.0 ≤ s.moment → is_awaited t.classes (t.sheets ++ p ∷ []) pair ≡ false) (pricing_pairs t.calendars)) t.sheets p
       (λ k d l i e m of upto. never (is_awaited t.classes (t.sheets ++ p ∷ []) (get_or (pricing_pairs t.calendars) i e)) (λ now. true≢false (sym (awaited_before t.classes t.sheets p (get_or (pricing_pairs t.calendars) i e) now) ∙ o.none_passed k d l i e m of upto)))
       (λ i e m of upto. never (is_awaited t.classes (t.sheets ++ p ∷ []) (get_or (pricing_pairs t.calendars) i e)) (λ now. itself (get_or (pricing_pairs t.calendars) i e) of upto now (told (get_or (pricing_pairs t.calendars) i e) (moment, calendar) false (is.best i e m (awaited_before t.classes t.sheets p (get_or (pricing_pairs t.calendars) i e) now)))));
-  rises = pairs_push (λ a b. a.calendar ≡ b.calendar → a.moment <ℤ b.moment) t.sheets p o.rises (λ k d l of. by_lt_z (get_or t.sheets k d).moment moment (λ lt. lt) (λ ge. absurd (true≢false (sym is.here ∙ All-contains (λ pair. pair.1 ≡ (get_or t.sheets k d).calendar → pair.0 ≤ℤ (get_or t.sheets k d).moment → is_awaited t.classes t.sheets pair ≡ false) (pricing_pairs t.calendars) (moment, calendar) (o.none_passed k d l) is.among (sym of) ge))));
+  rises = pairs_push (λ a b. a.calendar ≡ b.calendar → a.moment < b.moment) t.sheets p o.rises (λ k d l of. elim (cases_lt (get_or t.sheets k d).moment moment) [ inl lt ↦ lt | inr ge ↦ absurd (true≢false (sym is.here ∙ All-contains (λ pair. pair.1 ≡ (get_or t.sheets k d).calendar → pair.0 ≤ (get_or t.sheets k d).moment → is_awaited t.classes t.sheets pair ≡ false) (pricing_pairs t.calendars) (moment, calendar) (o.none_passed k d l) is.among (sym of) ge)) ]);
 }
   where
     p : Sheet
@@ -172,11 +170,11 @@ orderly_sheet t calendar moment prices o turn = record {
     is : IsBest (is_awaited t.classes t.sheets) is_sooner (pricing_pairs t.calendars) (moment, calendar)
     is = expected_best t (moment, calendar) turn.expected
 
-    itself : (pair : ℤ × ℕ) → pair.1 ≡ calendar → pair.0 ≤ℤ moment → is_awaited t.classes (t.sheets ++ sheet_published t calendar moment prices ∷ []) pair ≡ true → Tells pair (moment, calendar) false → ⊥
-    itself pair of upto now (inl later) = omega (arith, ints)
+    itself : (pair : ℕ × ℕ) → pair.1 ≡ calendar → pair.0 ≤ moment → is_awaited t.classes (t.sheets ++ sheet_published t calendar moment prices ∷ []) pair ≡ true → Tells pair (moment, calendar) false → ⊥
+    itself pair of upto now (inl later) = omega arith
     itself pair of upto now (inr same) =
         let q = sheet_published t calendar moment prices in
-        let at : is_sheet_at pair.1 pair.0 q ≡ true = and_from (calendar == pair.1) (int_eq moment pair.0) ((Decides-eqb calendar pair.1).1 (sym of)) ((Decides-int_eq moment pair.0).1 (sym same.0)) in
+        let at : is_sheet_at pair.1 pair.0 q ≡ true = and_from (calendar == pair.1) ((moment == pair.0)) ((Decides-eqb calendar pair.1).1 (sym of)) ((Decides-eqb moment pair.0).1 (sym same.0)) in
         let there : list_any (is_sheet_at pair.1 pair.0) (t.sheets ++ q ∷ []) ≡ true = any_from (is_sheet_at pair.1 pair.0) (t.sheets ++ q ∷ []) q (Contains-push t.sheets q) at in
         let parts = and_parts (list_any (is_offered_at pair.1 pair.0) t.classes) (not (list_any (is_sheet_at pair.1 pair.0) (t.sheets ++ q ∷ []))) now in
         true≢false (sym parts.1 ∙ ap not there)
@@ -205,19 +203,19 @@ orderly_less calendars classes ys y o = record {
   on_pricing_days = All-left (λ s. Contains (pricing_pairs calendars) (s.moment, s.calendar)) ys (y ∷ []) o.on_pricing_days;
   complete = All-left (λ s. (number : ℕ) → lists_class s.prices number ≡ must_list classes s.calendar s.moment number) ys (y ∷ []) o.complete;
   none_passed = λ k d l i e m of upto. here (get_or ys k d) (get_or (pricing_pairs calendars) i e) of upto
-      (All-left (λ s. All (λ pair. pair.1 ≡ s.calendar → pair.0 ≤ℤ s.moment → is_awaited classes (ys ++ y ∷ []) pair ≡ false) (pricing_pairs calendars)) ys (y ∷ []) o.none_passed k d l i e m of upto)
-      (λ same. subst (λ s. s.moment <ℤ y.moment) (get_left ys y d k l) (subst (λ s. (get_or (ys ++ y ∷ []) k d).moment <ℤ s.moment) (get_last ys y d) (o.rises k (length ys) d l (omega (arith, length-append ys (y ∷ []))) (ap (λ s. s.calendar) (get_left ys y d k l) ∙ same ∙ ap (λ s. s.calendar) (sym (get_last ys y d))))));
-  rises = λ i j d lt l same. subst (λ s. s.moment <ℤ (get_or ys j d).moment) (get_left ys y d i (omega arith)) (subst (λ s. (get_or (ys ++ y ∷ []) i d).moment <ℤ s.moment) (get_left ys y d j l) (o.rises i j d lt (omega (arith, length-append ys (y ∷ []))) (ap (λ s. s.calendar) (get_left ys y d i (omega arith)) ∙ same ∙ ap (λ s. s.calendar) (sym (get_left ys y d j l)))));
+      (All-left (λ s. All (λ pair. pair.1 ≡ s.calendar → pair.0 ≤ s.moment → is_awaited classes (ys ++ y ∷ []) pair ≡ false) (pricing_pairs calendars)) ys (y ∷ []) o.none_passed k d l i e m of upto)
+      (λ same. subst (λ s. s.moment < y.moment) (get_left ys y d k l) (subst (λ s. (get_or (ys ++ y ∷ []) k d).moment < s.moment) (get_last ys y d) (o.rises k (length ys) d l (omega (arith, length-append ys (y ∷ []))) (ap (λ s. s.calendar) (get_left ys y d k l) ∙ same ∙ ap (λ s. s.calendar) (sym (get_last ys y d))))));
+  rises = λ i j d lt l same. subst (λ s. s.moment < (get_or ys j d).moment) (get_left ys y d i (omega arith)) (subst (λ s. (get_or (ys ++ y ∷ []) i d).moment < s.moment) (get_left ys y d j l) (o.rises i j d lt (omega (arith, length-append ys (y ∷ []))) (ap (λ s. s.calendar) (get_left ys y d i (omega arith)) ∙ same ∙ ap (λ s. s.calendar) (sym (get_left ys y d j l)))));
 }
   where
-    here : (s : Sheet) (pair : ℤ × ℕ) → pair.1 ≡ s.calendar → pair.0 ≤ℤ s.moment → is_awaited classes (ys ++ y ∷ []) pair ≡ false → (s.calendar ≡ y.calendar → s.moment <ℤ y.moment) → is_awaited classes ys pair ≡ false
+    here : (s : Sheet) (pair : ℕ × ℕ) → pair.1 ≡ s.calendar → pair.0 ≤ s.moment → is_awaited classes (ys ++ y ∷ []) pair ≡ false → (s.calendar ≡ y.calendar → s.moment < y.moment) → is_awaited classes ys pair ≡ false
     here s pair of upto passed later = never (is_awaited classes ys pair) (λ now. elim (tested (is_sheet_at pair.1 pair.0 y)) [
       | inl at ↦ (
-          let parts = and_parts (y.calendar == pair.1) (int_eq y.moment pair.0) at in
+          let parts = and_parts (y.calendar == pair.1) ((y.moment == pair.0)) at in
           let same : y.calendar ≡ pair.1 = (Decides-eqb y.calendar pair.1).0 parts.0 in
-          let moment : y.moment ≡ pair.0 = (Decides-int_eq y.moment pair.0).0 parts.1 in
+          let moment : y.moment ≡ pair.0 = (Decides-eqb y.moment pair.0).0 parts.1 in
           let less = later (sym of ∙ sym same) in
-          omega (arith, ints)
+          omega arith
           )
       | inr apart ↦ true≢false (sym now ∙ ap (λ b. list_any (is_offered_at pair.1 pair.0) classes && not b) (sym (any_more (is_sheet_at pair.1 pair.0) ys y apart)) ∙ passed)
     ])
@@ -235,8 +233,8 @@ orderly_correction t class number nav o = record {
   classes_differ = o.classes_differ;
   on_pricing_days = All-map (λ s. Contains (pricing_pairs t.calendars) (s.moment, s.calendar)) f t.sheets (λ k d l. rw (moment-kept class number nav (get_or t.sheets k d), calendar-kept class number nav (get_or t.sheets k d)) (o.on_pricing_days k d l));
   complete = All-map (λ s. (n : ℕ) → lists_class s.prices n ≡ must_list t.classes s.calendar s.moment n) f t.sheets (λ k d l n. rw (moment-kept class number nav (get_or t.sheets k d), calendar-kept class number nav (get_or t.sheets k d)) (lists-kept class number nav n (get_or t.sheets k d) ∙ o.complete k d l n));
-  none_passed = All-map (λ s. All (λ pair. pair.1 ≡ s.calendar → pair.0 ≤ℤ s.moment → is_awaited t.classes (sheets_with_nav class number nav t.sheets) pair ≡ false) (pricing_pairs t.calendars)) f t.sheets (λ k d l i e m of upto. awaited-kept class number nav t.classes t.sheets (get_or (pricing_pairs t.calendars) i e) ∙ o.none_passed k d l i e m (of ∙ calendar-kept class number nav (get_or t.sheets k d)) (subst (λ z. (get_or (pricing_pairs t.calendars) i e).0 ≤ℤ z) (moment-kept class number nav (get_or t.sheets k d)) upto));
-  rises = pairs_map (λ a b. a.calendar ≡ b.calendar → a.moment <ℤ b.moment) f t.sheets (λ i j d lt l same. rw (moment-kept class number nav (get_or t.sheets i d), moment-kept class number nav (get_or t.sheets j d)) (o.rises i j d lt l (sym (calendar-kept class number nav (get_or t.sheets i d)) ∙ same ∙ calendar-kept class number nav (get_or t.sheets j d))));
+  none_passed = All-map (λ s. All (λ pair. pair.1 ≡ s.calendar → pair.0 ≤ s.moment → is_awaited t.classes (sheets_with_nav class number nav t.sheets) pair ≡ false) (pricing_pairs t.calendars)) f t.sheets (λ k d l i e m of upto. awaited-kept class number nav t.classes t.sheets (get_or (pricing_pairs t.calendars) i e) ∙ o.none_passed k d l i e m (of ∙ calendar-kept class number nav (get_or t.sheets k d)) (subst (λ z. (get_or (pricing_pairs t.calendars) i e).0 ≤ z) (moment-kept class number nav (get_or t.sheets k d)) upto));
+  rises = pairs_map (λ a b. a.calendar ≡ b.calendar → a.moment < b.moment) f t.sheets (λ i j d lt l same. rw (moment-kept class number nav (get_or t.sheets i d), moment-kept class number nav (get_or t.sheets j d)) (o.rises i j d lt l (sym (calendar-kept class number nav (get_or t.sheets i d)) ∙ same ∙ calendar-kept class number nav (get_or t.sheets j d))));
 }
   where
     f : Sheet → Sheet

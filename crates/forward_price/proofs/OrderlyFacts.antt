@@ -1,10 +1,8 @@
 -- In an orderly price book the sheet of a priced order is that of its due moment.
-use Rattle.std.proofs.Common.{◌≡◌, ◌≢◌, ℕ, zero, suc, ◌<◌, ℤ, ◌≤ℤ◌, ◌<ℤ◌, int_lt, Bool, true, false, not, ◌&&◌, ◌||◌, ◌==◌, List, [], ◌∷◌, length, map, get_or, find, Some, option_and_then, All, AllPairs, Contains, ◌⊎◌, inl, inr, refl, sym, ap, subst, ◌∙◌, arith}
-use Rattle.std.specs.Ordering.{int_eq}
+use Rattle.std.proofs.Common.{◌≡◌, ◌≢◌, ℕ, zero, suc, ◌<◌, ◌≤◌, nat_lt, Bool, true, false, not, ◌&&◌, ◌||◌, ◌==◌, List, [], ◌∷◌, length, map, get_or, find, Some, option_and_then, All, AllPairs, Contains, ◌⊎◌, inl, inr, refl, sym, ap, subst, ◌∙◌, arith}
 use Rattle.std.specs.List.{list_any, list_all}
-use Rattle.std.proofs.lemmas.Int.{ints}
 use Rattle.std.proofs.lemmas.Bool.{and_parts, and_from, true≢false}
-use Rattle.std.proofs.lemmas.Bool.Decides.{Decides-eqb, Decides-int_eq}
+use Rattle.std.proofs.lemmas.Bool.Decides.{Decides-eqb}
 use Rattle.std.proofs.lemmas.List.Elements.{All-contains, Contains-append_left, Contains-append_right, Contains-append_cases, Contains-get_or}
 use Rattle.fund_calendar.specs.declared.pricing_day.PricingDay.{PricingDay}
 use Rattle.fund_calendar.specs.PricingDays.{Listing}
@@ -13,10 +11,10 @@ use Rattle.forward_price.specs.declared.price_sheet.Sheet.{Sheet}
 use Rattle.forward_price.specs.Sheets.{lists_class, lists_all}
 use Rattle.forward_price.specs.Choices.{IsBest}
 use Rattle.forward_price.specs.PriceTables.{Table, calendar_numbered, is_sheet_at, next_sheet, NextPrice}
-use Rattle.forward_price.specs.Turns.{asks_for, opened_by, is_due, calendar_in, due_on, due_of, moment_at, moments_of, pricing_pair, pairs_of, pricing_pairs, is_offered_at, is_awaited, must_list}
+use Rattle.forward_price.specs.Turns.{asks_for, opened_by, is_due, calendar_in, due_on, due_of, moments_of, pricing_pair, pairs_of, pricing_pairs, is_offered_at, is_awaited, must_list}
 use Rattle.forward_price.specs.Orderly.{IsOrderly}
 use Rattle.forward_price.proofs.ChoiceFacts.{best-choice, same_choice}
-use Rattle.forward_price.proofs.TurnFacts.{int-order, int_same}
+use Rattle.forward_price.proofs.TurnFacts.{less-order, nat_same}
 use Rattle.forward_price.proofs.PricingFacts.{next_sheet-next, lt_fact, lt_test}
 
 tested : (b : Bool) → (b ≡ true) ⊎ (b ≡ false)
@@ -88,18 +86,18 @@ same_opening classes x y differ (i, li, ei) (j, lj, ej) same =
     ]
 
 -- the opening of a class that must be listed
-pub must_opening : (classes : List Opening) (calendar : ℕ) (moment : ℤ) (n : ℕ) → must_list classes calendar moment n ≡ true → (x : Opening) × (Contains classes x) × (x.class ≡ n) × (x.calendar ≡ calendar) × (int_lt x.opened moment ≡ true)
+pub must_opening : (classes : List Opening) (calendar : ℕ) (moment : ℕ) (n : ℕ) → must_list classes calendar moment n ≡ true → (x : Opening) × (Contains classes x) × (x.class ≡ n) × (x.calendar ≡ calendar) × (nat_lt x.opened moment ≡ true)
 must_opening classes calendar moment n e =
     let found = found_in (λ (class : Opening). (class.class == n) && is_offered_at calendar moment class) classes e in
     let x = found.0 in
     let parts = and_parts (x.class == n) (is_offered_at calendar moment x) found.2 in
-    let more = and_parts (x.calendar == calendar) (int_lt x.opened moment) parts.1 in
+    let more = and_parts (x.calendar == calendar) (nat_lt x.opened moment) parts.1 in
     (x, found.1, (Decides-eqb x.class n).0 parts.0, (Decides-eqb x.calendar calendar).0 more.0, more.1)
 
-pub must_from : (classes : List Opening) (calendar : ℕ) (moment : ℤ) (n : ℕ) (x : Opening) → Contains classes x → x.class ≡ n → x.calendar ≡ calendar → int_lt x.opened moment ≡ true → must_list classes calendar moment n ≡ true
+pub must_from : (classes : List Opening) (calendar : ℕ) (moment : ℕ) (n : ℕ) (x : Opening) → Contains classes x → x.class ≡ n → x.calendar ≡ calendar → nat_lt x.opened moment ≡ true → must_list classes calendar moment n ≡ true
 must_from classes calendar moment n x in' class of opened =
     any_from (λ (c : Opening). (c.class == n) && is_offered_at calendar moment c) classes x in'
-    (and_from (x.class == n) (is_offered_at calendar moment x) ((Decides-eqb x.class n).1 class) (and_from (x.calendar == calendar) (int_lt x.opened moment) ((Decides-eqb x.calendar calendar).1 of) opened))
+    (and_from (x.class == n) (is_offered_at calendar moment x) ((Decides-eqb x.class n).1 class) (and_from (x.calendar == calendar) (nat_lt x.opened moment) ((Decides-eqb x.calendar calendar).1 of) opened))
 
 -- a number of the list is asked for
 asked_number : (asked : List ℕ) (class : Opening) → asks_for asked class ≡ true → Contains asked class.class
@@ -111,18 +109,18 @@ number_asked : (asked : List ℕ) (class : Opening) (n : ℕ) → Contains asked
 number_asked asked class n in' e = any_from (λ m. m == class.class) asked n in' ((Decides-eqb n class.class).1 e)
 
 -- the calendar of a pricing pair
-pairs_number : (c : Listing) (pair : ℤ × ℕ) → Contains (pairs_of c) pair → (Contains (moments_of c) pair.0) × (c.number ≡ pair.1)
+pairs_number : (c : Listing) (pair : ℕ × ℕ) → Contains (pairs_of c) pair → (Contains (moments_of c) pair.0) × (c.number ≡ pair.1)
 pairs_number c pair in' = go c.days pair in'
   where
-    go : (days : List PricingDay) (pair : ℤ × ℕ) → Contains (map (pricing_pair c.number) days) pair → (Contains (map moment_at days) pair.0) × (c.number ≡ pair.1)
+    go : (days : List PricingDay) (pair : ℕ × ℕ) → Contains (map (pricing_pair c.number) days) pair → (Contains (map (λ (e : PricingDay). e.moment) days) pair.0) × (c.number ≡ pair.1)
     go [] pair (k, l, e) = absurd (omega arith)
     go (d ∷ ds) pair (zero, l, e) = ((0, omega arith, ap (λ p. p.0) e), ap (λ p. p.1) e)
     go (d ∷ ds) pair (suc k, l, e) = (let rest = go ds pair (k, omega arith, e) in ((suc rest.0.0, omega (arith, rest.0.1), rest.0.2), rest.1))
 
-moment_pair : (c : Listing) (m : ℤ) → Contains (moments_of c) m → Contains (pairs_of c) (m, c.number)
+moment_pair : (c : Listing) (m : ℕ) → Contains (moments_of c) m → Contains (pairs_of c) (m, c.number)
 moment_pair c m in' = go c.days m in'
   where
-    go : (days : List PricingDay) (m : ℤ) → Contains (map moment_at days) m → Contains (map (pricing_pair c.number) days) (m, c.number)
+    go : (days : List PricingDay) (m : ℕ) → Contains (map (λ (e : PricingDay). e.moment) days) m → Contains (map (pricing_pair c.number) days) (m, c.number)
     go [] m (k, l, e) = absurd (omega arith)
     go (d ∷ ds) m (zero, l, e) = (0, omega arith, ap (λ z. (z, c.number)) e)
     go (d ∷ ds) m (suc k, l, e) = (let rest = go ds m (k, omega arith, e) in (suc rest.0, omega (arith, rest.1), rest.2))
@@ -131,7 +129,7 @@ pub differ_rest : (x : Listing) (xs : List Listing) → AllPairs (λ a b. a.numb
 differ_rest x xs differ i j d lt l = differ (suc i) (suc j) d (omega arith) (omega arith)
 
 -- a pricing pair is one of the calendar of its number
-pub pair_calendar : (calendars : List Listing) (pair : ℤ × ℕ) → AllPairs (λ a b. a.number ≢ b.number) calendars → Contains (pricing_pairs calendars) pair → (c : Listing) × (calendar_numbered calendars pair.1 ≡ Some c) × (Contains calendars c) × (Contains (moments_of c) pair.0) × (c.number ≡ pair.1)
+pub pair_calendar : (calendars : List Listing) (pair : ℕ × ℕ) → AllPairs (λ a b. a.number ≢ b.number) calendars → Contains (pricing_pairs calendars) pair → (c : Listing) × (calendar_numbered calendars pair.1 ≡ Some c) × (Contains calendars c) × (Contains (moments_of c) pair.0) × (c.number ≡ pair.1)
 pair_calendar [] pair differ (k, l, e) = absurd (omega arith)
 pair_calendar (x ∷ xs) pair differ in' = elim (Contains-append_cases (pairs_of x) (pricing_pairs xs) pair in') [
   | inl here ↦ (let is = pairs_number x pair here in (x, rw ((Decides-eqb x.number pair.1).1 is.1) refl, (0, omega arith, refl), is.0, is.1))
@@ -145,7 +143,7 @@ pair_calendar (x ∷ xs) pair differ in' = elim (Contains-append_cases (pairs_of
       )
 ]
 
-pub calendar_pair : (calendars : List Listing) (n : ℕ) (c : Listing) (m : ℤ) → calendar_numbered calendars n ≡ Some c → Contains (moments_of c) m → Contains (pricing_pairs calendars) (m, n)
+pub calendar_pair : (calendars : List Listing) (n : ℕ) (c : Listing) (m : ℕ) → calendar_numbered calendars n ≡ Some c → Contains (moments_of c) m → Contains (pricing_pairs calendars) (m, n)
 calendar_pair [] n c m e in' = cc
 calendar_pair (x ∷ xs) n c m e in' = elim (tested (x.number == n)) [
   | inl here ↦ (
@@ -157,24 +155,24 @@ calendar_pair (x ∷ xs) n c m e in' = elim (tested (x.number == n)) [
 ]
 
 -- what a sheet lists was opened before it on its calendar
-pub listed_opening : (t : Table) (s : Sheet) (n : ℕ) → IsOrderly t → Contains t.sheets s → lists_class s.prices n ≡ true → (x : Opening) × (Contains t.classes x) × (x.class ≡ n) × (x.calendar ≡ s.calendar) × (int_lt x.opened s.moment ≡ true)
+pub listed_opening : (t : Table) (s : Sheet) (n : ℕ) → IsOrderly t → Contains t.sheets s → lists_class s.prices n ≡ true → (x : Opening) × (Contains t.classes x) × (x.class ≡ n) × (x.calendar ≡ s.calendar) × (nat_lt x.opened s.moment ≡ true)
 listed_opening t s n orderly in' lists =
     must_opening t.classes s.calendar s.moment n
     (sym (All-contains (λ sheet. (number : ℕ) → lists_class sheet.prices number ≡ must_list t.classes sheet.calendar sheet.moment number) t.sheets s orderly.complete in' n) ∙ lists)
 
 -- the opening of a class asked for is that of the sheet's calendar, before its moment
-pub asked_opening : (t : Table) (s : Sheet) (asked : List ℕ) (y : Opening) → IsOrderly t → Contains t.sheets s → lists_all s.prices asked ≡ true → Contains t.classes y → asks_for asked y ≡ true → (y.calendar ≡ s.calendar) × (int_lt y.opened s.moment ≡ true)
+pub asked_opening : (t : Table) (s : Sheet) (asked : List ℕ) (y : Opening) → IsOrderly t → Contains t.sheets s → lists_all s.prices asked ≡ true → Contains t.classes y → asks_for asked y ≡ true → (y.calendar ≡ s.calendar) × (nat_lt y.opened s.moment ≡ true)
 asked_opening t s asked y orderly in' lists iny asks =
     let x = listed_opening t s y.class orderly in' (all_to (λ class. lists_class s.prices class) asked y.class lists (asked_number asked y asks)) in
     let same = same_opening t.classes x.0 y orderly.classes_differ x.1 iny x.2 in
-    (subst (λ o. o.calendar ≡ s.calendar) same x.3, subst (λ o. int_lt o.opened s.moment ≡ true) same x.4)
+    (subst (λ o. o.calendar ≡ s.calendar) same x.3, subst (λ o. nat_lt o.opened s.moment ≡ true) same x.4)
 
 -- the due moment of a priced order is that of its sheet
-due_best : (t : Table) (s : Sheet) (asked : List ℕ) (receipt : ℤ) (a : ℕ) (c : Listing) → IsOrderly t → NextPrice t.sheets asked receipt s → Contains asked a → calendar_numbered t.calendars s.calendar ≡ Some c → Contains (moments_of c) s.moment → IsBest (is_due t.classes asked receipt) int_lt (moments_of c) s.moment
+due_best : (t : Table) (s : Sheet) (asked : List ℕ) (receipt : ℕ) (a : ℕ) (c : Listing) → IsOrderly t → NextPrice t.sheets asked receipt s → Contains asked a → calendar_numbered t.calendars s.calendar ≡ Some c → Contains (moments_of c) s.moment → IsBest (is_due t.classes asked receipt) nat_lt (moments_of c) s.moment
 due_best t s asked receipt a c orderly next ina of among = record {
   among = among;
-  here = and_from (int_lt receipt s.moment) (list_all (opened_by asked s.moment) t.classes) (lt_test receipt s.moment next.after) (all_from (opened_by asked s.moment) t.classes opened_here);
-  best = λ k d short due. elim (tested (int_lt (get_or (moments_of c) k d) s.moment)) [
+  here = and_from (nat_lt receipt s.moment) (list_all (opened_by asked s.moment) t.classes) (lt_test receipt s.moment next.after) (all_from (opened_by asked s.moment) t.classes opened_here);
+  best = λ k d short due. elim (tested (nat_lt (get_or (moments_of c) k d) s.moment)) [
     | inl earlier ↦ absurd (not_passed (get_or (moments_of c) k d) (Contains-get_or (moments_of c) k d short) due earlier)
     | inr later ↦ later
   ];
@@ -186,30 +184,30 @@ due_best t s asked receipt a c orderly next ina of among = record {
       | inr passes ↦ rw passes refl
     ]
 
-    not_passed : (m : ℤ) → Contains (moments_of c) m → is_due t.classes asked receipt m ≡ true → int_lt m s.moment ≡ true → ⊥
+    not_passed : (m : ℕ) → Contains (moments_of c) m → is_due t.classes asked receipt m ≡ true → nat_lt m s.moment ≡ true → ⊥
     not_passed m inm due earlier =
-        let parts = and_parts (int_lt receipt m) (list_all (opened_by asked m) t.classes) due in
+        let parts = and_parts (nat_lt receipt m) (list_all (opened_by asked m) t.classes) due in
         let inpairs = calendar_pair t.calendars s.calendar c m of inm in
-        let passed = All-contains (λ sheet. All (λ pair. pair.1 ≡ sheet.calendar → pair.0 ≤ℤ sheet.moment → is_awaited t.classes t.sheets pair ≡ false) (pricing_pairs t.calendars)) t.sheets s orderly.none_passed next.among in
-        let upto : m ≤ℤ s.moment = (let less = lt_fact m s.moment earlier in omega (arith, ints)) in
-        let not_awaited = All-contains (λ pair. pair.1 ≡ s.calendar → pair.0 ≤ℤ s.moment → is_awaited t.classes t.sheets pair ≡ false) (pricing_pairs t.calendars) (m, s.calendar) passed inpairs refl upto in
+        let passed = All-contains (λ sheet. All (λ pair. pair.1 ≡ sheet.calendar → pair.0 ≤ sheet.moment → is_awaited t.classes t.sheets pair ≡ false) (pricing_pairs t.calendars)) t.sheets s orderly.none_passed next.among in
+        let upto : m ≤ s.moment = (let less = lt_fact m s.moment earlier in omega arith) in
+        let not_awaited = All-contains (λ pair. pair.1 ≡ s.calendar → pair.0 ≤ s.moment → is_awaited t.classes t.sheets pair ≡ false) (pricing_pairs t.calendars) (m, s.calendar) passed inpairs refl upto in
         let x = listed_opening t s a orderly next.among (all_to (λ class. lists_class s.prices class) asked a next.lists ina) in
-        let offered : list_any (is_offered_at s.calendar m) t.classes ≡ true = any_from (is_offered_at s.calendar m) t.classes x.0 x.1 (and_from (x.0.calendar == s.calendar) (int_lt x.0.opened m) ((Decides-eqb x.0.calendar s.calendar).1 x.3) (opened_at m parts.1 x.0 x.1 (number_asked asked x.0 a ina (sym x.2)))) in
+        let offered : list_any (is_offered_at s.calendar m) t.classes ≡ true = any_from (is_offered_at s.calendar m) t.classes x.0 x.1 (and_from (x.0.calendar == s.calendar) (nat_lt x.0.opened m) ((Decides-eqb x.0.calendar s.calendar).1 x.3) (opened_at m parts.1 x.0 x.1 (number_asked asked x.0 a ina (sym x.2)))) in
         let published = published_then (list_any (is_offered_at s.calendar m) t.classes) (list_any (is_sheet_at s.calendar m) t.sheets) offered not_awaited in
         let other = found_in (is_sheet_at s.calendar m) t.sheets published in
-        let at = and_parts (other.0.calendar == s.calendar) (int_eq other.0.moment m) other.2 in
+        let at = and_parts (other.0.calendar == s.calendar) ((other.0.moment == m)) other.2 in
         let same_calendar : other.0.calendar ≡ s.calendar = (Decides-eqb other.0.calendar s.calendar).0 at.0 in
-        let same_moment : other.0.moment ≡ m = (Decides-int_eq other.0.moment m).0 at.1 in
+        let same_moment : other.0.moment ≡ m = (Decides-eqb other.0.moment m).0 at.1 in
         let lists : lists_all other.0.prices asked ≡ true = all_from (λ class. lists_class other.0.prices class) asked (λ n inn.
         let y = listed_opening t s n orderly next.among (all_to (λ class. lists_class s.prices class) asked n next.lists inn) in
         All-contains (λ sheet. (number : ℕ) → lists_class sheet.prices number ≡ must_list t.classes sheet.calendar sheet.moment number) t.sheets other.0 orderly.complete other.1 n
-        ∙ must_from t.classes other.0.calendar other.0.moment n y.0 y.1 y.2 (y.3 ∙ sym same_calendar) (subst (λ z. int_lt y.0.opened z ≡ true) (sym same_moment) (opened_at m parts.1 y.0 y.1 (number_asked asked y.0 n inn (sym y.2))))) in
-        let after : receipt <ℤ other.0.moment = subst (λ z. receipt <ℤ z) (sym same_moment) (lt_fact receipt m parts.0) in
-        let no_later : s.moment ≤ℤ other.0.moment = All-contains (λ o. lists_all o.prices asked ≡ true → receipt <ℤ o.moment → s.moment ≤ℤ o.moment) t.sheets other.0 next.next other.1 lists after in
+        ∙ must_from t.classes other.0.calendar other.0.moment n y.0 y.1 y.2 (y.3 ∙ sym same_calendar) (subst (λ z. nat_lt y.0.opened z ≡ true) (sym same_moment) (opened_at m parts.1 y.0 y.1 (number_asked asked y.0 n inn (sym y.2))))) in
+        let after : receipt < other.0.moment = subst (λ z. receipt < z) (sym same_moment) (lt_fact receipt m parts.0) in
+        let no_later : s.moment ≤ other.0.moment = All-contains (λ o. lists_all o.prices asked ≡ true → receipt < o.moment → s.moment ≤ o.moment) t.sheets other.0 next.next other.1 lists after in
         let less = lt_fact m s.moment earlier in
-        omega (arith, ints)
+        omega arith
       where
-        opened_at : (m : ℤ) → list_all (opened_by asked m) t.classes ≡ true → (y : Opening) → Contains t.classes y → asks_for asked y ≡ true → int_lt y.opened m ≡ true
+        opened_at : (m : ℕ) → list_all (opened_by asked m) t.classes ≡ true → (y : Opening) → Contains t.classes y → asks_for asked y ≡ true → nat_lt y.opened m ≡ true
         opened_at m all y iny asks = rw asks at (all_to (opened_by asked m) t.classes y all iny)
 
         published_then : (offered there : Bool) → offered ≡ true → (offered && not there) ≡ false → there ≡ true
@@ -229,7 +227,7 @@ find_passes p (x ∷ xs) e = elim (tested (p x)) [
   | inr apart ↦ (let rest = find_passes p xs (rw apart at e) in (rest.0, rw apart rest.1, (suc rest.2.0, omega (arith, rest.2.1), rest.2.2), rest.3))
 ]
 
-pub priced_when_due : (t : Table) (asked : List ℕ) (receipt : ℤ) (s : Sheet) → IsOrderly t → 0 < length asked → next_sheet t.sheets asked receipt ≡ Some s → due_of t asked receipt ≡ Some s.moment
+pub priced_when_due : (t : Table) (asked : List ℕ) (receipt : ℕ) (s : Sheet) → IsOrderly t → 0 < length asked → next_sheet t.sheets asked receipt ≡ Some s → due_of t asked receipt ≡ Some s.moment
 priced_when_due t asked receipt s orderly some e =
     let next = next_sheet-next t.sheets asked receipt s e in
     let a = first_asked asked some in
@@ -242,4 +240,4 @@ priced_when_due t asked receipt s orderly some e =
     ap (option_and_then (λ class. calendar_numbered t.calendars class.calendar)) y.1 ∙ ap (calendar_numbered t.calendars) of.0 ∙ c.1 in
     let is = due_best t s asked receipt a.0 c.0 orderly next a.1 c.1 c.3 in
     ap (option_and_then (due_on t.classes asked receipt)) calendar
-    ∙ same_choice (is_due t.classes asked receipt) int_lt int_same (moments_of c.0) (due_on t.classes asked receipt c.0) (Some s.moment) (best-choice (is_due t.classes asked receipt) int_lt int-order (moments_of c.0)) is
+    ∙ same_choice (is_due t.classes asked receipt) nat_lt nat_same (moments_of c.0) (due_on t.classes asked receipt c.0) (Some s.moment) (best-choice (is_due t.classes asked receipt) nat_lt less-order (moments_of c.0)) is

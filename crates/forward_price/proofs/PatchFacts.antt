@@ -1,7 +1,6 @@
 -- A correction on trial is read for its class and sheet alone.
-use Rattle.std.proofs.Common.{◌≡◌, ℕ, ℤ, int_lt, ◌<ℤ◌, Bool, true, false, cond, not, ◌&&◌, ◌||◌, ◌==◌, List, [], ◌∷◌, map, fold, find, Option, Some, None, option_map, option_and_then, refl, sym, ap, ◌∙◌, inl, inr, ◌⊎◌, length}
+use Rattle.std.proofs.Common.{◌≡◌, ℕ, nat_lt, ◌<◌, Bool, true, false, cond, not, ◌&&◌, ◌||◌, ◌==◌, List, [], ◌∷◌, map, fold, find, Option, Some, None, option_map, option_and_then, refl, sym, ap, ◌∙◌, inl, inr, ◌⊎◌, length}
 use Rattle.std.specs.List.{list_any}
-use Rattle.std.specs.Ordering.{int_eq}
 use Rattle.std.proofs.lemmas.List.Elements.{All-weaker}
 use Rattle.fund_calendar.specs.PricingDays.{Listing}
 use Rattle.forward_price.specs.declared.price_sheet.Opening.{Opening}
@@ -113,17 +112,17 @@ pub numbered-corrected : (class number nav asked : ℕ) (sheets : List Sheet) �
 numbered-corrected class number nav asked sheets =
     find-kept (corrected_sheet class number nav) (λ s. s.number == asked) (λ s. ap (λ n. n == asked) (number-kept class number nav s)) sheets
 
-before-kept : (class number nav asked : ℕ) (moment : ℤ) (s : Sheet) → is_before asked moment (corrected_sheet class number nav s) ≡ is_before asked moment s
+before-kept : (class number nav asked : ℕ) (moment : ℕ) (s : Sheet) → is_before asked moment (corrected_sheet class number nav s) ≡ is_before asked moment s
 before-kept class number nav asked moment s =
-    ap (λ m. int_lt m moment && lists_class (corrected_sheet class number nav s).prices asked) (moment-kept class number nav s)
-    ∙ ap (λ b. int_lt s.moment moment && b) (lists-kept class number nav asked s)
+    ap (λ m. nat_lt m moment && lists_class (corrected_sheet class number nav s).prices asked) (moment-kept class number nav s)
+    ∙ ap (λ b. nat_lt s.moment moment && b) (lists-kept class number nav asked s)
 
 later-kept : (class number nav : ℕ) (s t : Sheet) → is_later (corrected_sheet class number nav s) (corrected_sheet class number nav t) ≡ is_later s t
 later-kept class number nav s t =
-    ap (λ m. int_lt (corrected_sheet class number nav t).moment m) (moment-kept class number nav s)
-    ∙ ap (λ m. int_lt m s.moment) (moment-kept class number nav t)
+    ap (λ m. nat_lt (corrected_sheet class number nav t).moment m) (moment-kept class number nav s)
+    ∙ ap (λ m. nat_lt m s.moment) (moment-kept class number nav t)
 
-pub before-corrected : (class number nav asked : ℕ) (moment : ℤ) (sheets : List Sheet) → sheet_before (sheets_with_nav class number nav sheets) asked moment ≡ option_map (corrected_sheet class number nav) (sheet_before sheets asked moment)
+pub before-corrected : (class number nav asked : ℕ) (moment : ℕ) (sheets : List Sheet) → sheet_before (sheets_with_nav class number nav sheets) asked moment ≡ option_map (corrected_sheet class number nav) (sheet_before sheets asked moment)
 before-corrected class number nav asked moment sheets =
     best-kept (corrected_sheet class number nav) (is_before asked moment) is_later (before-kept class number nav asked moment) (later-kept class number nav) sheets
 
@@ -146,28 +145,28 @@ price-patched (Some patch) sheets number class =
     ap (option_and_then (λ s. nav_on s.prices class)) (numbered-corrected patch.class patch.sheet patch.nav number sheets)
     ∙ read_patched patch class (sheet_numbered sheets number)
 
-pub before-patched : (patch : Option Patch) (sheets : List Sheet) (class : ℕ) (moment : ℤ) → price_before (sheets_on_trial patch sheets) class moment ≡ option_and_then (λ s. patched_nav patch s class) (sheet_before sheets class moment)
+pub before-patched : (patch : Option Patch) (sheets : List Sheet) (class : ℕ) (moment : ℕ) → price_before (sheets_on_trial patch sheets) class moment ≡ option_and_then (λ s. patched_nav patch s class) (sheet_before sheets class moment)
 before-patched None sheets class moment = read_plain class (sheet_before sheets class moment)
 before-patched (Some patch) sheets class moment =
     ap (option_and_then (λ s. nav_on s.prices class)) (before-corrected patch.class patch.sheet patch.nav class moment sheets)
     ∙ read_patched patch class (sheet_before sheets class moment)
 
-at-kept : (class number nav calendar : ℕ) (moment : ℤ) (s : Sheet) → is_sheet_at calendar moment (corrected_sheet class number nav s) ≡ is_sheet_at calendar moment s
+at-kept : (class number nav calendar : ℕ) (moment : ℕ) (s : Sheet) → is_sheet_at calendar moment (corrected_sheet class number nav s) ≡ is_sheet_at calendar moment s
 at-kept class number nav calendar moment s =
-    ap (λ c. (c == calendar) && int_eq (corrected_sheet class number nav s).moment moment) (calendar-kept class number nav s)
-    ∙ ap (λ m. (s.calendar == calendar) && int_eq m moment) (moment-kept class number nav s)
+    ap (λ c. (c == calendar) && ((corrected_sheet class number nav s).moment == moment)) (calendar-kept class number nav s)
+    ∙ ap (λ m. (s.calendar == calendar) && (m == moment)) (moment-kept class number nav s)
 
-published-kept : (class number nav calendar : ℕ) (moment : ℤ) (sheets : List Sheet) → list_any (is_sheet_at calendar moment) (sheets_with_nav class number nav sheets) ≡ list_any (is_sheet_at calendar moment) sheets
+published-kept : (class number nav calendar : ℕ) (moment : ℕ) (sheets : List Sheet) → list_any (is_sheet_at calendar moment) (sheets_with_nav class number nav sheets) ≡ list_any (is_sheet_at calendar moment) sheets
 published-kept class number nav calendar moment [] = refl
 published-kept class number nav calendar moment (s ∷ ss) =
     ap (λ b. b || list_any (is_sheet_at calendar moment) (sheets_with_nav class number nav ss)) (at-kept class number nav calendar moment s)
     ∙ ap (λ b. is_sheet_at calendar moment s || b) (published-kept class number nav calendar moment ss)
 
-pub awaited-kept : (class number nav : ℕ) (classes : List Opening) (sheets : List Sheet) (pair : ℤ × ℕ) → is_awaited classes (sheets_with_nav class number nav sheets) pair ≡ is_awaited classes sheets pair
+pub awaited-kept : (class number nav : ℕ) (classes : List Opening) (sheets : List Sheet) (pair : ℕ × ℕ) → is_awaited classes (sheets_with_nav class number nav sheets) pair ≡ is_awaited classes sheets pair
 awaited-kept class number nav classes sheets pair =
     ap (λ b. list_any (is_offered_at pair.1 pair.0) classes && not b) (published-kept class number nav pair.1 pair.0 sheets)
 
-pub none_awaited-kept : (class number nav : ℕ) (calendars : List Listing) (classes : List Opening) (sheets : List Sheet) (passed : ℤ) → NoneAwaitedTo calendars classes sheets passed → NoneAwaitedTo calendars classes (sheets_with_nav class number nav sheets) passed
+pub none_awaited-kept : (class number nav : ℕ) (calendars : List Listing) (classes : List Opening) (sheets : List Sheet) (passed : ℕ) → NoneAwaitedTo calendars classes sheets passed → NoneAwaitedTo calendars classes (sheets_with_nav class number nav sheets) passed
 none_awaited-kept class number nav calendars classes sheets passed none = record {
-  later = All-weaker (λ pair. is_awaited classes sheets pair ≡ true → passed <ℤ pair.0) (λ pair. is_awaited classes (sheets_with_nav class number nav sheets) pair ≡ true → passed <ℤ pair.0) (λ pair h now. h (sym (awaited-kept class number nav classes sheets pair) ∙ now)) (pricing_pairs calendars) none.later;
+  later = All-weaker (λ pair. is_awaited classes sheets pair ≡ true → passed < pair.0) (λ pair. is_awaited classes (sheets_with_nav class number nav sheets) pair ≡ true → passed < pair.0) (λ pair h now. h (sym (awaited-kept class number nav classes sheets pair) ∙ now)) (pricing_pairs calendars) none.later;
 }

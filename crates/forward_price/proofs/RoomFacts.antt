@@ -1,5 +1,5 @@
 -- The room of a price book: what a published list took is given back when its sheet is withdrawn.
-use Rattle.std.proofs.Common.{◌≡◌, ℕ, ◌-◌, ◌<◌, ℤ, List, [], ◌∷◌, ◌++◌, length, get_or, Option, Some, max, refl, sym, ap, ◌∙◌, arith}
+use Rattle.std.proofs.Common.{◌≡◌, ℕ, ◌-◌, ◌<◌, List, [], ◌∷◌, ◌++◌, length, get_or, Option, Some, max, refl, sym, ap, ◌∙◌, arith}
 use Rattle.std.specs.Prelude.{slice_get}
 use Rattle.std.specs.Option.{option_map_or}
 use Rattle.std.proofs.lemmas.List.{length-append}
@@ -29,7 +29,7 @@ abbrev book_of : Table → ℕ → ℕ → Book
 book_of t spare list = record { table = t; spare = spare; list = list }
 
 -- a sheet that is published and withdrawn leaves the book as it was, where its list takes the room
-pub room_back : (book : Book) (calendar : ℕ) (moment : ℤ) (prices : List (ℕ × ℕ)) → book.list ≡ length prices → withdrawn_book (published_book book calendar moment prices) ≡ book
+pub room_back : (book : Book) (calendar : ℕ) (moment : ℕ) (prices : List (ℕ × ℕ)) → book.list ≡ length prices → withdrawn_book (published_book book calendar moment prices) ≡ book
 room_back book calendar moment prices takes =
     let sheet : Sheet = sheet_published book.table calendar moment prices in
     let table : without_last (with_published book.table calendar moment prices) ≡ book.table = ap (with_sheets book.table) (published_back book.table.sheets sheet) in

@@ -1,5 +1,5 @@
 -- Orderly price books: no pricing moment is passed over, so that the sheet of a priced order is that of its due moment.
-use Rattle.std.specs.Prelude.{◌≡◌, ◌≢◌, ℕ, ℤ, ◌<ℤ◌, ◌≤ℤ◌, false, List, Some, None, All, AllPairs, Contains}
+use Rattle.std.specs.Prelude.{◌≡◌, ◌≢◌, ℕ, ◌<◌, ◌≤◌, false, List, Some, None, All, AllPairs, Contains}
 use Rattle.fund_calendar.specs.PricingDays.{Listing}
 use Rattle.forward_price.specs.declared.price_sheet.Opening.{Opening}
 use Rattle.forward_price.specs.declared.price_sheet.Sheet.{Sheet}
@@ -21,7 +21,7 @@ AreComplete classes sheets =
 -- no pricing moment of a calendar up to one of its sheets is awaited
 abbrev pub NonePassedOver : List Listing → List Opening → List Sheet → Type 0
 NonePassedOver calendars classes sheets =
-    All (λ sheet. All (λ pair. pair.1 ≡ sheet.calendar → pair.0 ≤ℤ sheet.moment
+    All (λ sheet. All (λ pair. pair.1 ≡ sheet.calendar → pair.0 ≤ sheet.moment
     → is_awaited classes sheets pair ≡ false) (pricing_pairs calendars)) sheets
 
 pub record IsOrderly (t : Table) : Type 0 where
@@ -30,14 +30,14 @@ pub record IsOrderly (t : Table) : Type 0 where
   pub on_pricing_days : AreOnPricingDays t.calendars t.sheets
   pub complete : AreComplete t.classes t.sheets
   pub none_passed : NonePassedOver t.calendars t.classes t.sheets
-  pub rises : AllPairs (λ a b. a.calendar ≡ b.calendar → a.moment <ℤ b.moment) t.sheets
+  pub rises : AllPairs (λ a b. a.calendar ≡ b.calendar → a.moment < b.moment) t.sheets
 
 -- a class is opened no earlier than the sheets of its calendar
-abbrev pub OpensAfter : List Sheet → ℕ → ℤ → Type 0
+abbrev pub OpensAfter : List Sheet → ℕ → ℕ → Type 0
 OpensAfter sheets calendar opened = All (λ sheet. sheet.calendar ≡ calendar
-    → sheet.moment ≤ℤ opened) sheets
+    → sheet.moment ≤ opened) sheets
 
 -- the sheet is expected, and its list complete
-pub record IsInTurn (t : Table) (calendar : ℕ) (moment : ℤ) (prices : List (ℕ × ℕ)) : Type 0 where
+pub record IsInTurn (t : Table) (calendar moment : ℕ) (prices : List (ℕ × ℕ)) : Type 0 where
   pub expected : expected_of t ≡ Some (moment, calendar)
   pub complete : wrong_class t.classes calendar moment prices ≡ None

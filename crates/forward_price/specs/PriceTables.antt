@@ -1,10 +1,9 @@
 -- The price table: the calendars of the funds, the openings of their classes, and the published sheets in order. An
 -- order is executed only at a price based on the net asset value next computed after its receipt (17 CFR 270.22c-1(a)).
-use Rattle.std.specs.Prelude.{◌<◌, slice_index_or, ◌≡◌, ℕ, ℤ, ◌<ℤ◌, ◌≤ℤ◌, int_lt, Bool, true, ◌&&◌, ◌==◌, if◌then◌else◌, List, [], ◌∷◌, ◌++◌, length, ◌+◌, ◌-◌, take, map, max, slice_get, Option, Some, None, All, AllPairs, Contains, find, option_map, option_and_then, unwrap_or}
+use Rattle.std.specs.Prelude.{◌<◌, slice_index_or, ◌≡◌, ℕ, ◌≤◌, nat_lt, Bool, true, ◌&&◌, ◌==◌, if◌then◌else◌, List, [], ◌∷◌, ◌++◌, length, ◌+◌, ◌-◌, take, map, max, slice_get, Option, Some, None, All, AllPairs, Contains, find, option_map, option_and_then, unwrap_or}
 use Rattle.fund_calendar.specs.PricingDays.{Listing, date_at, without_day, lists_day}
 use Rattle.std.specs.List.{list_any}
 use Rattle.std.specs.Option.{option_map_or}
-use Rattle.std.specs.Ordering.{int_eq}
 use Rattle.forward_price.specs.declared.price_sheet.Opening.{Opening}
 use Rattle.forward_price.specs.declared.price_sheet.Sheet.{Sheet}
 use Rattle.forward_price.specs.declared.price_sheet.Patch.{Patch}
@@ -24,53 +23,53 @@ pub record Book : Type 0 where
   pub list : ℕ
 
 -- the sheet lists all the classes, and its moment is greater than the receipt
-abbrev pub prices_order : List ℕ → ℤ → Sheet → Bool
-prices_order asked receipt sheet = int_lt receipt sheet.moment && lists_all sheet.prices asked
+abbrev pub prices_order : List ℕ → ℕ → Sheet → Bool
+prices_order asked receipt sheet = nat_lt receipt sheet.moment && lists_all sheet.prices asked
 
 abbrev pub is_earlier : Sheet → Sheet → Bool
-is_earlier sheet other = int_lt sheet.moment other.moment
+is_earlier sheet other = nat_lt sheet.moment other.moment
 
 abbrev pub is_later : Sheet → Sheet → Bool
-is_later sheet other = int_lt other.moment sheet.moment
+is_later sheet other = nat_lt other.moment sheet.moment
 
 -- The next price: the sheet lists all the classes, its moment is greater than the receipt, and no sheet that lists them
 -- all lies between the two.
-pub record NextPrice (sheets : List Sheet) (asked : List ℕ) (receipt : ℤ)
+pub record NextPrice (sheets : List Sheet) (asked : List ℕ) (receipt : ℕ)
     (sheet : Sheet) : Type 0 where
   pub among : Contains sheets sheet
   pub lists : lists_all sheet.prices asked ≡ true
-  pub after : receipt <ℤ sheet.moment
-  pub next : All (λ other. lists_all other.prices asked ≡ true → receipt <ℤ other.moment
-      → sheet.moment ≤ℤ other.moment) sheets
+  pub after : receipt < sheet.moment
+  pub next : All (λ other. lists_all other.prices asked ≡ true → receipt < other.moment
+      → sheet.moment ≤ other.moment) sheets
 
 -- the sheet of this number has the next price
-abbrev pub IsPricedBy : List Sheet → List ℕ → ℤ → ℕ → Type 0
+abbrev pub IsPricedBy : List Sheet → List ℕ → ℕ → ℕ → Type 0
 IsPricedBy sheets asked receipt number = (sheet : Sheet) × (sheet.number ≡ number)
     × NextPrice sheets asked receipt sheet
 
 -- no sheet has the next price yet: none that lists all the classes is after the receipt
-abbrev pub IsPending : List Sheet → List ℕ → ℤ → Type 0
+abbrev pub IsPending : List Sheet → List ℕ → ℕ → Type 0
 IsPending sheets asked receipt = All (λ sheet. lists_all sheet.prices asked ≡ true
-    → receipt <ℤ sheet.moment → ⊥) sheets
+    → receipt < sheet.moment → ⊥) sheets
 
 -- the sheet of the next price, computed
-abbrev pub next_sheet : List Sheet → List ℕ → ℤ → Option Sheet
+abbrev pub next_sheet : List Sheet → List ℕ → ℕ → Option Sheet
 next_sheet sheets asked receipt = best (prices_order asked receipt) is_earlier sheets
 
 -- the sheet lists the class, and its moment is smaller
-abbrev pub is_before : ℕ → ℤ → Sheet → Bool
-is_before class moment sheet = int_lt sheet.moment moment && lists_class sheet.prices class
+abbrev pub is_before : ℕ → ℕ → Sheet → Bool
+is_before class moment sheet = nat_lt sheet.moment moment && lists_class sheet.prices class
 
 -- The last sheet before a moment: it lists the class, and no sheet that lists it lies between the two.
-pub record LastPrice (sheets : List Sheet) (class : ℕ) (moment : ℤ) (sheet : Sheet) : Type 0 where
+pub record LastPrice (sheets : List Sheet) (class moment : ℕ) (sheet : Sheet) : Type 0 where
   pub among : Contains sheets sheet
   pub lists : lists_class sheet.prices class ≡ true
-  pub before : sheet.moment <ℤ moment
-  pub last : All (λ other. lists_class other.prices class ≡ true → other.moment <ℤ moment
-      → other.moment ≤ℤ sheet.moment) sheets
+  pub before : sheet.moment < moment
+  pub last : All (λ other. lists_class other.prices class ≡ true → other.moment < moment
+      → other.moment ≤ sheet.moment) sheets
 
 -- the last sheet before a moment, computed
-abbrev pub sheet_before : List Sheet → ℕ → ℤ → Option Sheet
+abbrev pub sheet_before : List Sheet → ℕ → ℕ → Option Sheet
 sheet_before sheets class moment = best (is_before class moment) is_later sheets
 
 -- the sheets are numbered 1, 2, 3 in order of publication
@@ -80,17 +79,17 @@ pub record AreNumbered (sheets : List Sheet) : Type 0 where
 
 -- no sheet's moment is before that of a sheet published earlier
 abbrev pub NeverFall : List Sheet → Type 0
-NeverFall sheets = AllPairs (λ a b. a.moment ≤ℤ b.moment) sheets
+NeverFall sheets = AllPairs (λ a b. a.moment ≤ b.moment) sheets
 
 abbrev pub sheet_numbered : List Sheet → ℕ → Option Sheet
 sheet_numbered sheets number = find (λ sheet. sheet.number == number) sheets
 
 -- the sheet is that of a calendar's pricing moment
-abbrev pub is_sheet_at : ℕ → ℤ → Sheet → Bool
-is_sheet_at calendar moment sheet = sheet.calendar == calendar && int_eq sheet.moment moment
+abbrev pub is_sheet_at : ℕ → ℕ → Sheet → Bool
+is_sheet_at calendar moment sheet = sheet.calendar == calendar && sheet.moment == moment
 
 -- the number of the sheet of a pricing moment
-abbrev pub number_at : List Sheet → ℕ → ℤ → Option ℕ
+abbrev pub number_at : List Sheet → ℕ → ℕ → Option ℕ
 number_at sheets calendar moment = option_map (λ sheet. sheet.number)
     (find (is_sheet_at calendar moment) sheets)
 
@@ -100,7 +99,7 @@ price_on sheets number class = option_and_then
     (λ sheet. nav_on sheet.prices class) (sheet_numbered sheets number)
 
 -- the net asset value of a class on its last sheet before a moment
-abbrev pub price_before : List Sheet → ℕ → ℤ → Option ℕ
+abbrev pub price_before : List Sheet → ℕ → ℕ → Option ℕ
 price_before sheets class moment = option_and_then
     (λ sheet. nav_on sheet.prices class) (sheet_before sheets class moment)
 
@@ -149,12 +148,12 @@ abbrev pub class_opened : List Opening → ℕ → Option Opening
 class_opened classes number = find (λ class. class.class == number) classes
 
 -- the date that a calendar prices at a moment, and 0 where it prices none then
-abbrev pub date_priced : List Listing → ℕ → ℤ → ℕ
+abbrev pub date_priced : List Listing → ℕ → ℕ → ℕ
 date_priced calendars calendar moment =
     unwrap_or (option_and_then (λ c. date_at c moment) (calendar_numbered calendars calendar)) 0
 
 -- a sheet as it is published, numbered in order of publication
-abbrev pub sheet_published : Table → ℕ → ℤ → List (ℕ × ℕ) → Sheet
+abbrev pub sheet_published : Table → ℕ → ℕ → List (ℕ × ℕ) → Sheet
 sheet_published t calendar moment prices = record {
   number = length t.sheets + 1;
   calendar = calendar;
@@ -190,7 +189,7 @@ abbrev pub with_calendar : Table → Listing → Table
 with_calendar t calendar = with_calendars t (t.calendars ++ calendar ∷ [])
 
 -- the table with one more class
-abbrev pub with_class : Table → ℕ → ℕ → ℤ → Table
+abbrev pub with_class : Table → ℕ → ℕ → ℕ → Table
 with_class t class calendar opened = record {
   calendars = t.calendars;
   classes = t.classes ++ record { class = class; calendar = calendar; opened = opened } ∷ [];
@@ -202,7 +201,7 @@ abbrev pub without_day_of : Table → ℕ → ℕ → Table
 without_day_of t calendar day = with_calendars t (map (closed_in calendar day) t.calendars)
 
 -- the table with one more sheet
-abbrev pub with_published : Table → ℕ → ℤ → List (ℕ × ℕ) → Table
+abbrev pub with_published : Table → ℕ → ℕ → List (ℕ × ℕ) → Table
 with_published t calendar moment prices = with_sheets t
     (t.sheets ++ sheet_published t calendar moment prices ∷ [])
 
@@ -228,7 +227,7 @@ last_length sheets = option_map_or (λ sheet. length sheet.prices)
     (slice_get sheets (length sheets - 1)) 0
 
 -- the book with one more sheet, for whose list the room was taken
-abbrev pub published_book : Book → ℕ → ℤ → List (ℕ × ℕ) → Book
+abbrev pub published_book : Book → ℕ → ℕ → List (ℕ × ℕ) → Book
 published_book book calendar moment prices = record {
   table = with_published book.table calendar moment prices;
   spare = book.spare;

@@ -1,17 +1,17 @@
 //! Whose turn it is: due moments, the expected sheet, and what a sheet must list.
-ghost use Rattle.std.specs.Prelude.{◌≡◌, ℤ, ◌<ℤ◌, true, All, IfSome, int_lt, ◌&&◌, ◌==◌, find, option_and_then, nat_lt, fold};
+ghost use Rattle.std.specs.Prelude.{◌≡◌, ℕ, ◌<◌, true, All, IfSome, nat_lt, ◌&&◌, ◌==◌, find, option_and_then, fold};
 ghost use Rattle.std.specs.Option.{option_copied};
 ghost use Rattle.std.specs.List.{list_any};
-ghost use Rattle.fund_calendar.specs.PricingDays.{IsMoment, date_at};
+ghost use Rattle.fund_calendar.specs.PricingDays.{date_at};
 ghost use Rattle.forward_price.specs.Choices.{IsChoice, found_or_better, best_so_far, better_of};
 ghost use Rattle.forward_price.specs.PriceTables.{calendar_numbered, is_sheet_at, date_priced};
-ghost use Rattle.forward_price.specs.Turns.{asks_for, opened_by, is_due, calendar_in, due_on, due_in, is_offered_at, is_awaited, is_sooner, pairs_of, pricing_pairs, IsMomentOf, NamesMoment, NoneAwaitedTo, expected_in, must_list, is_wrong, class_numbers, price_numbers, wrong_class, is_pair, list_fault, fault_of};
+ghost use Rattle.forward_price.specs.Turns.{asks_for, opened_by, is_due, calendar_in, due_on, due_in, is_offered_at, is_awaited, is_sooner, pairs_of, pricing_pairs, NoneAwaitedTo, expected_in, must_list, is_wrong, class_numbers, price_numbers, wrong_class, is_pair, list_fault, fault_of};
 
 use crate::lookups::lists_class;
 use crate::next_price::is_sheet_at;
 use crate::price_sheet::{Opening, PublishFault, Sheet};
 use fund_calendar::{Calendar, Day};
-use money_units::Nav;
+use money_units::{Moment, Nav};
 
 fn asks_for(asked: &[u32], class: &Opening) -> bool
     ensures { result ≡ asks_for asked.now class.now }
@@ -20,8 +20,8 @@ fn asks_for(asked: &[u32], class: &Opening) -> bool
 }
 
 // The later of a moment and the opening of a class, where it is asked for.
-fn later_opening(asked: &[u32], class: &Opening, latest: i64) -> i64
-    ensures { (m : ℤ) → int_lt result m ≡ (int_lt latest m && opened_by asked.now m class.now) }
+fn later_opening(asked: &[u32], class: &Opening, latest: Moment) -> Moment
+    ensures { (m : ℕ) → nat_lt result m ≡ (nat_lt latest m && opened_by asked.now m class.now) }
 {
     if asks_for(asked, class) && latest < class.opened {
         class.opened
@@ -31,8 +31,8 @@ fn later_opening(asked: &[u32], class: &Opening, latest: i64) -> i64
 }
 
 // The last of the receipt and the openings of the classes asked for.
-fn last_opening(classes: &[Opening], asked: &[u32], receipt: i64) -> i64
-    ensures { (m : ℤ) → int_lt result m ≡ is_due classes.now asked.now receipt m }
+fn last_opening(classes: &[Opening], asked: &[u32], receipt: Moment) -> Moment
+    ensures { (m : ℕ) → nat_lt result m ≡ is_due classes.now asked.now receipt m }
 {
     let mut latest = receipt;
     for class in classes {
@@ -68,30 +68,28 @@ fn calendar_asked<'a>(
 }
 
 // The first pricing moment of a calendar that is due.
-fn due_on(calendar: &Calendar, classes: &[Opening], asked: &[u32], receipt: i64) -> Option<i64>
-    ensures value { result ≡ due_on classes.now asked.now receipt calendar.now }
-    ensures within { IfSome result IsMoment }
+fn due_on(calendar: &Calendar, classes: &[Opening], asked: &[u32], receipt: Moment) -> Option<Moment>
+    ensures { result ≡ due_on classes.now asked.now receipt calendar.now }
 {
     let after = last_opening(classes, asked, receipt);
     calendar.next_after(after)
 }
 
 /// The due moment of an order.
-pub fn due(calendars: &[Calendar], classes: &[Opening], asked: &[u32], receipt: i64) -> Option<i64>
-    ensures value { result ≡ due_in calendars.now classes.now asked.now receipt }
-    ensures within { IfSome result IsMoment }
+pub fn due(calendars: &[Calendar], classes: &[Opening], asked: &[u32], receipt: Moment) -> Option<Moment>
+    ensures { result ≡ due_in calendars.now classes.now asked.now receipt }
 {
     let calendar = calendar_asked(calendars, classes, asked)?;
     due_on(calendar, classes, asked, receipt)
 }
 
-fn is_offered_at(calendar: u32, moment: i64, class: &Opening) -> bool
+fn is_offered_at(calendar: u32, moment: Moment, class: &Opening) -> bool
     ensures { result ≡ is_offered_at calendar moment class.now }
 {
     class.calendar == calendar && class.opened < moment
 }
 
-fn is_offered(classes: &[Opening], calendar: u32, moment: i64) -> bool
+fn is_offered(classes: &[Opening], calendar: u32, moment: Moment) -> bool
     ensures { result ≡ list_any (is_offered_at calendar moment) classes.now }
 {
     classes
@@ -99,7 +97,7 @@ fn is_offered(classes: &[Opening], calendar: u32, moment: i64) -> bool
         .any(|class| is_offered_at(calendar, moment, class))
 }
 
-fn is_published(sheets: &[Sheet], calendar: u32, moment: i64) -> bool
+fn is_published(sheets: &[Sheet], calendar: u32, moment: Moment) -> bool
     ensures { result ≡ list_any (is_sheet_at calendar moment) sheets.now }
 {
     sheets
@@ -107,7 +105,7 @@ fn is_published(sheets: &[Sheet], calendar: u32, moment: i64) -> bool
         .any(|sheet| is_sheet_at(calendar, moment, sheet))
 }
 
-fn is_awaited(classes: &[Opening], sheets: &[Sheet], moment: i64, calendar: u32) -> bool
+fn is_awaited(classes: &[Opening], sheets: &[Sheet], moment: Moment, calendar: u32) -> bool
     ensures { result ≡ is_awaited classes.now sheets.now (moment, calendar) }
 {
     is_offered(classes, calendar, moment) && !is_published(sheets, calendar, moment)
@@ -118,13 +116,12 @@ fn first_awaited(
     calendar: &Calendar,
     classes: &[Opening],
     sheets: &[Sheet],
-    passed: i64,
-) -> Option<(i64, u32)>
+    passed: Moment,
+) -> Option<(Moment, u32)>
     requires { All (λ pair. is_awaited classes.now sheets.now pair ≡ true
-        → passed <ℤ pair.0) (pairs_of calendar.now) }
-    ensures choice { IsChoice (is_awaited classes.now sheets.now) is_sooner
+        → passed < pair.0) (pairs_of calendar.now) }
+    ensures { IsChoice (is_awaited classes.now sheets.now) is_sooner
         (pairs_of calendar.now) result }
-    ensures within { IfSome result IsMomentOf }
 {
     let number = calendar.number();
     let mut at = passed;
@@ -137,14 +134,14 @@ fn first_awaited(
     None
 }
 
-fn is_sooner(pair: (i64, u32), other: (i64, u32)) -> bool
+fn is_sooner(pair: (Moment, u32), other: (Moment, u32)) -> bool
     ensures { result ≡ is_sooner pair other }
 {
     pair.0 < other.0 || (pair.0 == other.0 && pair.1 < other.1)
 }
 
 // The sooner of the pair found so far and one more.
-fn sooner(found: Option<(i64, u32)>, pair: (i64, u32)) -> Option<(i64, u32)>
+fn sooner(found: Option<(Moment, u32)>, pair: (Moment, u32)) -> Option<(Moment, u32)>
     ensures { result ≡ found_or_better is_sooner found pair }
 {
     match found {
@@ -159,7 +156,7 @@ fn sooner(found: Option<(i64, u32)>, pair: (i64, u32)) -> Option<(i64, u32)>
     }
 }
 
-fn sooner_of(found: Option<(i64, u32)>, other: Option<(i64, u32)>) -> Option<(i64, u32)>
+fn sooner_of(found: Option<(Moment, u32)>, other: Option<(Moment, u32)>) -> Option<(Moment, u32)>
     ensures { result ≡ better_of is_sooner found other }
 {
     match other {
@@ -173,11 +170,10 @@ pub fn expected(
     calendars: &[Calendar],
     classes: &[Opening],
     sheets: &[Sheet],
-    passed: i64,
-) -> Option<(i64, u32)>
+    passed: Moment,
+) -> Option<(Moment, u32)>
     requires { NoneAwaitedTo calendars.now classes.now sheets.now passed }
-    ensures value { result ≡ expected_in calendars.now classes.now sheets.now }
-    ensures within { IfSome result IsMomentOf }
+    ensures { result ≡ expected_in calendars.now classes.now sheets.now }
 {
     let mut found = None;
     for calendar in calendars {
@@ -186,13 +182,13 @@ pub fn expected(
     found
 }
 
-fn is_named(class: &Opening, number: u32, calendar: u32, moment: i64) -> bool
+fn is_named(class: &Opening, number: u32, calendar: u32, moment: Moment) -> bool
     ensures { result ≡ (class.now.class == number && is_offered_at calendar moment class.now) }
 {
     class.class == number && is_offered_at(calendar, moment, class)
 }
 
-fn must_list(classes: &[Opening], calendar: u32, moment: i64, number: u32) -> bool
+fn must_list(classes: &[Opening], calendar: u32, moment: Moment, number: u32) -> bool
     ensures { result ≡ must_list classes.now calendar moment number }
 {
     classes
@@ -203,7 +199,7 @@ fn must_list(classes: &[Opening], calendar: u32, moment: i64, number: u32) -> bo
 fn is_wrong(
     classes: &[Opening],
     calendar: u32,
-    moment: i64,
+    moment: Moment,
     prices: &[(u32, Nav)],
     number: u32,
 ) -> bool
@@ -236,7 +232,7 @@ fn lesser(found: Option<u32>, number: u32) -> Option<u32>
 fn least_missing(
     classes: &[Opening],
     calendar: u32,
-    moment: i64,
+    moment: Moment,
     prices: &[(u32, Nav)],
 ) -> Option<u32>
     ensures { result ≡ fold
@@ -256,7 +252,7 @@ fn least_missing(
 pub fn wrong_class(
     classes: &[Opening],
     calendar: u32,
-    moment: i64,
+    moment: Moment,
     prices: &[(u32, Nav)],
 ) -> Option<u32>
     ensures { result ≡ wrong_class classes.now calendar moment prices.now }
@@ -270,13 +266,13 @@ pub fn wrong_class(
     found
 }
 
-fn is_pair(calendar: u32, moment: i64, pair: (i64, u32)) -> bool
+fn is_pair(calendar: u32, moment: Moment, pair: (Moment, u32)) -> bool
     ensures { result ≡ is_pair calendar moment pair }
 {
     pair.0 == moment && pair.1 == calendar
 }
 
-fn list_fault(wrong: Option<u32>, moment: i64, now: i64) -> Option<PublishFault>
+fn list_fault(wrong: Option<u32>, moment: Moment, now: Moment) -> Option<PublishFault>
     ensures { result ≡ list_fault wrong moment now }
 {
     match wrong {
@@ -293,17 +289,16 @@ fn list_fault(wrong: Option<u32>, moment: i64, now: i64) -> Option<PublishFault>
 
 /// Why a sheet can't be published, given the expected one and the least class that is missing or too many.
 pub fn fault_of(
-    expected: Option<(i64, u32)>,
+    expected: Option<(Moment, u32)>,
     wrong: Option<u32>,
     calendar: u32,
-    moment: i64,
-    now: i64,
+    moment: Moment,
+    now: Moment,
 ) -> Option<PublishFault>
-    ensures value { result ≡ fault_of expected wrong calendar moment now }
-    ensures within { IfSome expected IsMomentOf → IfSome result NamesMoment }
+    ensures { result ≡ fault_of expected wrong calendar moment now }
 {
     match expected {
-        None => Some(PublishFault::SheetOutOfTurn(0, 0)),
+        None => Some(PublishFault::SheetOutOfTurn(Moment::start(), 0)),
         Some(pair) => {
             if is_pair(calendar, moment, pair) {
                 list_fault(wrong, moment, now)
@@ -314,7 +309,7 @@ pub fn fault_of(
     }
 }
 
-fn date_at(calendars: &[Calendar], number: u32, moment: i64) -> Option<Day>
+fn date_at(calendars: &[Calendar], number: u32, moment: Moment) -> Option<Day>
     ensures { result ≡ option_and_then (λ c. date_at c moment)
         (calendar_numbered calendars.now number) }
 {
@@ -323,7 +318,7 @@ fn date_at(calendars: &[Calendar], number: u32, moment: i64) -> Option<Day>
 }
 
 /// The date that a calendar prices at a moment, and 1970-01-01 where it prices none then.
-pub fn date_priced(calendars: &[Calendar], number: u32, moment: i64) -> Day
+pub fn date_priced(calendars: &[Calendar], number: u32, moment: Moment) -> Day
     ensures { result ≡ date_priced calendars.now number moment }
 {
     match date_at(calendars, number, moment) {

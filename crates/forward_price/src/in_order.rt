@@ -1,6 +1,6 @@
 //! The look-ups of prices over sheets whose moments never fall: each costs the logarithm of their number, and the sheets
 //! nearest to the moment that don't list what is asked for.
-ghost use Rattle.std.specs.Prelude.{◌≡◌, ◌≤◌, ◌<ℤ◌, ◌≤ℤ◌, true, false, length, All, Contains, IfNone, IfSome};
+ghost use Rattle.std.specs.Prelude.{◌≡◌, ◌≤◌, ◌<◌, true, false, length, All, Contains, IfNone, IfSome};
 ghost use Rattle.std.specs.List.Sorted.{IsPartitionPoint};
 ghost use Rattle.std.specs.Option.{option_copied};
 ghost use Rattle.forward_price.specs.PriceTables.{NeverFall, next_sheet, sheet_before};
@@ -9,28 +9,29 @@ ghost use Rattle.forward_price.specs.Sheets.{lists_all, lists_class};
 use crate::lookups::{lists_all, lists_class};
 use crate::next_price::{last_among, next_among};
 use crate::price_sheet::Sheet;
+use money_units::Moment;
 
 // The place of the first sheet that isn't before a moment.
-fn place_from(sheets: &[Sheet], moment: i64) -> usize
+fn place_from(sheets: &[Sheet], moment: Moment) -> usize
     requires { NeverFall sheets.now }
     ensures point { IsPartitionPoint
-        (λ s. s.moment <ℤ moment) (λ s. moment ≤ℤ s.moment) sheets.now result }
+        (λ s. s.moment < moment) (λ s. moment ≤ s.moment) sheets.now result }
     ensures bound { result ≤ length sheets.now }
 {
     sheets.partition_point(|sheet| sheet.moment < moment)
 }
 
 // The place of the first sheet after a moment.
-fn place_after(sheets: &[Sheet], moment: i64) -> usize
+fn place_after(sheets: &[Sheet], moment: Moment) -> usize
     requires { NeverFall sheets.now }
     ensures point { IsPartitionPoint
-        (λ s. s.moment ≤ℤ moment) (λ s. moment <ℤ s.moment) sheets.now result }
+        (λ s. s.moment ≤ moment) (λ s. moment < s.moment) sheets.now result }
     ensures bound { result ≤ length sheets.now }
 {
     sheets.partition_point(|sheet| sheet.moment <= moment)
 }
 
-fn moment_of(sheet: &Sheet) -> i64
+fn moment_of(sheet: &Sheet) -> Moment
     ensures { result ≡ sheet.now.moment }
 {
     sheet.moment
@@ -60,9 +61,9 @@ fn last_with(sheets: &[Sheet], class: u32) -> Option<&Sheet>
 }
 
 // The sheet of the next price among sheets after the receipt: no later than the first that lists all the classes.
-fn next_behind<'a>(sheets: &'a [Sheet], asked: &[u32], receipt: i64) -> Option<&'a Sheet>
+fn next_behind<'a>(sheets: &'a [Sheet], asked: &[u32], receipt: Moment) -> Option<&'a Sheet>
     requires rise { NeverFall sheets.now }
-    requires after { All (λ s. receipt <ℤ s.moment) sheets.now }
+    requires after { All (λ s. receipt < s.moment) sheets.now }
     ensures { option_copied result ≡ next_sheet sheets.now asked.now receipt }
 {
     let first = first_with_all(sheets, asked)?;
@@ -71,7 +72,7 @@ fn next_behind<'a>(sheets: &'a [Sheet], asked: &[u32], receipt: i64) -> Option<&
 }
 
 /// The sheet of the next price.
-pub fn next_sheet<'a>(sheets: &'a [Sheet], asked: &[u32], receipt: i64) -> Option<&'a Sheet>
+pub fn next_sheet<'a>(sheets: &'a [Sheet], asked: &[u32], receipt: Moment) -> Option<&'a Sheet>
     requires { NeverFall sheets.now }
     ensures { option_copied result ≡ next_sheet sheets.now asked.now receipt }
 {
@@ -80,9 +81,9 @@ pub fn next_sheet<'a>(sheets: &'a [Sheet], asked: &[u32], receipt: i64) -> Optio
 }
 
 // The last sheet that lists a class among sheets before the moment: no earlier than the last in order of publication.
-fn last_of(sheets: &[Sheet], class: u32, moment: i64) -> Option<&Sheet>
+fn last_of(sheets: &[Sheet], class: u32, moment: Moment) -> Option<&Sheet>
     requires rise { NeverFall sheets.now }
-    requires before { All (λ s. s.moment <ℤ moment) sheets.now }
+    requires before { All (λ s. s.moment < moment) sheets.now }
     ensures { option_copied result ≡ sheet_before sheets.now class moment }
 {
     let last = last_with(sheets, class)?;
@@ -91,7 +92,7 @@ fn last_of(sheets: &[Sheet], class: u32, moment: i64) -> Option<&Sheet>
 }
 
 /// The last sheet before a moment that lists a class.
-pub fn sheet_before(sheets: &[Sheet], class: u32, moment: i64) -> Option<&Sheet>
+pub fn sheet_before(sheets: &[Sheet], class: u32, moment: Moment) -> Option<&Sheet>
     requires { NeverFall sheets.now }
     ensures { option_copied result ≡ sheet_before sheets.now class moment }
 {

@@ -1,5 +1,5 @@
 //! Laws of the price book in the trade's words. Each function is empty: its clauses hold of the definitions.
-ghost use Rattle.std.specs.Prelude.{◌≡◌, ◌<◌, ℕ, ℤ, List, [], ◌++◌, length, nat_lt, Some, None, option_map};
+ghost use Rattle.std.specs.Prelude.{◌≡◌, ◌<◌, ℕ, List, [], ◌++◌, length, nat_lt, Some, None, option_map};
 ghost use Rattle.fund_calendar.specs.PricingDays.{Listing};
 ghost use Rattle.forward_price.specs.declared.price_sheet.Opening.{Opening};
 ghost use Rattle.forward_price.specs.declared.price_sheet.Sheet.{Sheet};
@@ -12,7 +12,7 @@ ghost use Rattle.forward_price.specs.Orderly.{IsOrderly, IsInTurn, OpensAfter, A
 /// Where an order has its sheet, that sheet's moment is its due moment: no pricing moment between was passed over.
 #[tactic(auto, using(crate::proofs::OrderlyFacts::priced_when_due))]
 pub fn orders_are_priced_when_due()
-    ensures { (t : Table) (asked : List ℕ) (receipt : ℤ) (sheet : Sheet) → IsOrderly t
+    ensures { (t : Table) (asked : List ℕ) (receipt : ℕ) (sheet : Sheet) → IsOrderly t
         → 0 < length asked → next_sheet t.sheets asked receipt ≡ Some sheet
         → due_of t asked receipt ≡ Some sheet.moment }
 {}
@@ -20,20 +20,20 @@ pub fn orders_are_priced_when_due()
 /// A later sheet, calendar, class or closure never changes the sheet of a priced order, and a corrected net asset value
 /// changes no order's sheet.
 pub fn priced_orders_stay()
-    ensures sheet { (t : Table) (calendar : ℕ) (moment : ℤ) (prices : List (ℕ × ℕ)) (asked : List ℕ)
-        (receipt : ℤ) (sheet : Sheet) → IsOrderly t → IsInTurn t calendar moment prices
+    ensures sheet { (t : Table) (calendar moment : ℕ) (prices : List (ℕ × ℕ)) (asked : List ℕ)
+        (receipt : ℕ) (sheet : Sheet) → IsOrderly t → IsInTurn t calendar moment prices
         → 0 < length asked → next_sheet t.sheets asked receipt ≡ Some sheet
         → next_sheet (with_published t calendar moment prices).sheets asked receipt ≡ Some sheet }
-    ensures calendar { (t : Table) (added : Listing) (asked : List ℕ) (receipt : ℤ)
+    ensures calendar { (t : Table) (added : Listing) (asked : List ℕ) (receipt : ℕ)
         → next_sheet (with_calendar t added).sheets asked receipt
         ≡ next_sheet t.sheets asked receipt }
-    ensures class { (t : Table) (class calendar : ℕ) (opened : ℤ) (asked : List ℕ) (receipt : ℤ)
+    ensures class { (t : Table) (class calendar opened : ℕ) (asked : List ℕ) (receipt : ℕ)
         → next_sheet (with_class t class calendar opened).sheets asked receipt
         ≡ next_sheet t.sheets asked receipt }
-    ensures closure { (t : Table) (calendar day : ℕ) (asked : List ℕ) (receipt : ℤ)
+    ensures closure { (t : Table) (calendar day : ℕ) (asked : List ℕ) (receipt : ℕ)
         → next_sheet (without_day_of t calendar day).sheets asked receipt
         ≡ next_sheet t.sheets asked receipt }
-    ensures correction { (t : Table) (class number nav : ℕ) (asked : List ℕ) (receipt : ℤ)
+    ensures correction { (t : Table) (class number nav : ℕ) (asked : List ℕ) (receipt : ℕ)
         → option_map (λ sheet. sheet.number)
         (next_sheet (with_correction t class number nav).sheets asked receipt)
         ≡ option_map (λ sheet. sheet.number) (next_sheet t.sheets asked receipt) }
@@ -42,22 +42,22 @@ pub fn priced_orders_stay()
 /// What was published last is taken back whole, and the book is as it was where its list takes the room: the room that
 /// the list doesn't need stays, and the room of the list is given back.
 pub fn withdrawn_as_before()
-    ensures table { (t : Table) (calendar : ℕ) (moment : ℤ) (prices : List (ℕ × ℕ))
+    ensures table { (t : Table) (calendar moment : ℕ) (prices : List (ℕ × ℕ))
         → without_last (with_published t calendar moment prices) ≡ t }
-    ensures room { (book : Book) (calendar : ℕ) (moment : ℤ) (prices : List (ℕ × ℕ))
+    ensures room { (book : Book) (calendar moment : ℕ) (prices : List (ℕ × ℕ))
         → book.list ≡ length prices
         → withdrawn_book (published_book book calendar moment prices) ≡ book }
 {}
 
 /// A list is complete exactly where no class is missing or too many; else the class that is named is the least of those.
 pub fn complete_lists_have_no_wrong_class()
-    ensures complete { (classes : List Opening) (calendar : ℕ) (moment : ℤ) (prices : List (ℕ × ℕ))
+    ensures complete { (classes : List Opening) (calendar moment : ℕ) (prices : List (ℕ × ℕ))
         → IsRising prices → wrong_class classes calendar moment prices ≡ None
         → IsComplete classes calendar moment prices }
-    ensures none_wrong { (classes : List Opening) (calendar : ℕ) (moment : ℤ)
+    ensures none_wrong { (classes : List Opening) (calendar moment : ℕ)
         (prices : List (ℕ × ℕ)) → IsComplete classes calendar moment prices
         → wrong_class classes calendar moment prices ≡ None }
-    ensures least { (classes : List Opening) (calendar : ℕ) (moment : ℤ) (prices : List (ℕ × ℕ))
+    ensures least { (classes : List Opening) (calendar moment : ℕ) (prices : List (ℕ × ℕ))
         (class : ℕ) → wrong_class classes calendar moment prices ≡ Some class
         → IsBest (is_wrong classes calendar moment prices) nat_lt
         (class_numbers classes ++ price_numbers prices) class }
@@ -78,7 +78,7 @@ pub fn trial_is_read_alone()
 
 /// The last price is that of the latest sheet before a moment that lists the class.
 pub fn last_price_is_the_latest()
-    ensures { (sheets : List Sheet) (class : ℕ) (moment : ℤ) (sheet : Sheet)
+    ensures { (sheets : List Sheet) (class moment : ℕ) (sheet : Sheet)
         → sheet_before sheets class moment ≡ Some sheet → LastPrice sheets class moment sheet }
 {}
 
@@ -89,13 +89,13 @@ pub fn books_stay_orderly()
     ensures empty { IsOrderly (record { calendars = []; classes = []; sheets = [] }) }
     ensures calendar { (t : Table) (added : Listing) → IsOrderly t
         → calendar_numbered t.calendars added.number ≡ None → IsOrderly (with_calendar t added) }
-    ensures class { (t : Table) (class calendar : ℕ) (opened : ℤ) → IsOrderly t
+    ensures class { (t : Table) (class calendar opened : ℕ) → IsOrderly t
         → class_opened t.classes class ≡ None → OpensAfter t.sheets calendar opened
         → IsOrderly (with_class t class calendar opened) }
     ensures closure { (t : Table) (calendar day : ℕ) → IsOrderly t
         → AreOnPricingDays (without_day_of t calendar day).calendars t.sheets
         → IsOrderly (without_day_of t calendar day) }
-    ensures sheet { (t : Table) (calendar : ℕ) (moment : ℤ) (prices : List (ℕ × ℕ)) → IsOrderly t
+    ensures sheet { (t : Table) (calendar moment : ℕ) (prices : List (ℕ × ℕ)) → IsOrderly t
         → IsInTurn t calendar moment prices → IsOrderly (with_published t calendar moment prices) }
     ensures withdrawal { (t : Table) → IsOrderly t → IsOrderly (without_last t) }
     ensures correction { (t : Table) (class number nav : ℕ) → IsOrderly t

@@ -1,5 +1,5 @@
 //! The look-ups of prices over the published sheets.
-ghost use Rattle.std.specs.Prelude.{◌≡◌, true, ◌∷◌, ◌==◌, ◌&&◌, int_le, int_lt, slice_get, find, fold, option_map, option_and_then, map, All, ◌≤ℤ◌};
+ghost use Rattle.std.specs.Prelude.{◌≡◌, true, ◌∷◌, ◌==◌, ◌&&◌, nat_le, nat_lt, slice_get, find, fold, option_map, option_and_then, map, All, ◌≤◌};
 ghost use Rattle.std.specs.Option.{option_copied};
 ghost use Rattle.forward_price.specs.Choices.{found_or_better};
 ghost use Rattle.forward_price.specs.PriceTables.{AreNumbered, NeverFall, prices_order, is_earlier, is_later, next_sheet, is_before, sheet_before, sheet_numbered, is_sheet_at, number_at, corrected_price, corrected_sheet, sheets_with_nav, sheets_on_trial, price_on, price_before, with_prices, patched_nav};
@@ -8,9 +8,9 @@ ghost use Rattle.forward_price.specs.Sheets.{nav_on};
 use crate::in_order;
 use crate::lookups::{lists_all, lists_class, nav_on};
 use crate::price_sheet::{Patch, Sheet};
-use money_units::Nav;
+use money_units::{Moment, Nav};
 
-fn prices_order(asked: &[u32], receipt: i64, sheet: &Sheet) -> bool
+fn prices_order(asked: &[u32], receipt: Moment, sheet: &Sheet) -> bool
     ensures { result ≡ prices_order asked.now receipt sheet.now }
 {
     receipt < sheet.moment && lists_all(sheet.prices.as_slice(), asked)
@@ -34,7 +34,7 @@ fn earlier<'a>(found: Option<&'a Sheet>, sheet: &'a Sheet) -> Option<&'a Sheet>
 }
 
 /// The sheet of the next price, by a walk over all sheets.
-pub fn next_among<'a>(sheets: &'a [Sheet], asked: &[u32], receipt: i64) -> Option<&'a Sheet>
+pub fn next_among<'a>(sheets: &'a [Sheet], asked: &[u32], receipt: Moment) -> Option<&'a Sheet>
     ensures { option_copied result ≡ next_sheet sheets.now asked.now receipt }
 {
     let mut found: Option<&Sheet> = None;
@@ -46,7 +46,7 @@ pub fn next_among<'a>(sheets: &'a [Sheet], asked: &[u32], receipt: i64) -> Optio
     found
 }
 
-fn is_before(class: u32, moment: i64, sheet: &Sheet) -> bool
+fn is_before(class: u32, moment: Moment, sheet: &Sheet) -> bool
     ensures { result ≡ is_before class moment sheet.now }
 {
     sheet.moment < moment && lists_class(sheet.prices.as_slice(), class)
@@ -70,7 +70,7 @@ fn later<'a>(found: Option<&'a Sheet>, sheet: &'a Sheet) -> Option<&'a Sheet>
 }
 
 /// The last sheet before a moment that lists a class, by a walk over all sheets.
-pub fn last_among(sheets: &[Sheet], class: u32, moment: i64) -> Option<&Sheet>
+pub fn last_among(sheets: &[Sheet], class: u32, moment: Moment) -> Option<&Sheet>
     ensures { option_copied result ≡ sheet_before sheets.now class moment }
 {
     let mut found: Option<&Sheet> = None;
@@ -100,13 +100,13 @@ pub fn sheet_numbered(sheets: &[Sheet], number: u32) -> Option<&Sheet>
 }
 
 /// Whether the sheet is that of a calendar's pricing moment.
-pub fn is_sheet_at(calendar: u32, moment: i64, sheet: &Sheet) -> bool
+pub fn is_sheet_at(calendar: u32, moment: Moment, sheet: &Sheet) -> bool
     ensures { result ≡ is_sheet_at calendar moment sheet.now }
 {
     sheet.calendar == calendar && sheet.moment == moment
 }
 
-fn sheet_of(sheets: &[Sheet], calendar: u32, moment: i64) -> Option<&Sheet>
+fn sheet_of(sheets: &[Sheet], calendar: u32, moment: Moment) -> Option<&Sheet>
     ensures { option_copied result ≡ find (is_sheet_at calendar moment) sheets.now }
 {
     sheets
@@ -115,7 +115,7 @@ fn sheet_of(sheets: &[Sheet], calendar: u32, moment: i64) -> Option<&Sheet>
 }
 
 /// The number of the sheet of a pricing moment.
-pub fn number_at(sheets: &[Sheet], calendar: u32, moment: i64) -> Option<u32>
+pub fn number_at(sheets: &[Sheet], calendar: u32, moment: Moment) -> Option<u32>
     ensures { result ≡ number_at sheets.now calendar moment }
 {
     sheet_of(sheets, calendar, moment).map(|sheet| sheet.number)
@@ -159,7 +159,7 @@ pub fn next_sheet<'a>(
     sheets: &'a [Sheet],
     in_order: bool,
     asked: &[u32],
-    receipt: i64,
+    receipt: Moment,
 ) -> Option<&'a Sheet>
     requires { in_order ≡ true → NeverFall sheets.now }
     ensures { option_copied result ≡ next_sheet sheets.now asked.now receipt }
@@ -173,7 +173,7 @@ pub fn next_sheet<'a>(
 
 /// The last sheet before a moment that lists a class. It costs a search where no moment falls, and otherwise a walk over
 /// all sheets.
-pub fn sheet_before(sheets: &[Sheet], in_order: bool, class: u32, moment: i64) -> Option<&Sheet>
+pub fn sheet_before(sheets: &[Sheet], in_order: bool, class: u32, moment: Moment) -> Option<&Sheet>
     requires { in_order ≡ true → NeverFall sheets.now }
     ensures { option_copied result ≡ sheet_before sheets.now class moment }
 {
@@ -190,7 +190,7 @@ pub fn last_before(
     sheets: &[Sheet],
     in_order: bool,
     class: u32,
-    moment: i64,
+    moment: Moment,
 ) -> Option<Nav>
     requires { in_order ≡ true → NeverFall sheets.now }
     ensures { result ≡ option_and_then (λ sheet. patched_nav patch sheet class)
@@ -202,17 +202,17 @@ pub fn last_before(
     }
 }
 
-fn is_up_to(moment: i64, sheet: &Sheet) -> bool
-    ensures { result ≡ int_le sheet.now.moment moment }
+fn is_up_to(moment: Moment, sheet: &Sheet) -> bool
+    ensures { result ≡ nat_le sheet.now.moment moment }
 {
     sheet.moment <= moment
 }
 
-fn follows(sheets: &[Sheet], moment: i64) -> bool
+fn follows(sheets: &[Sheet], moment: Moment) -> bool
     ensures rising { result ≡ true
         → NeverFall sheets.now
-        → All (λ s. s.moment ≤ℤ moment) sheets.now }
-    ensures any { All (λ s. s.moment ≤ℤ moment) sheets.now → result ≡ true }
+        → All (λ s. s.moment ≤ moment) sheets.now }
+    ensures any { All (λ s. s.moment ≤ moment) sheets.now → result ≡ true }
 {
     match sheets.last() {
         Some(last) => is_up_to(moment, last),
@@ -222,11 +222,11 @@ fn follows(sheets: &[Sheet], moment: i64) -> bool
 
 /// Whether the moments of sheets never fall with a sheet of this moment behind them, where it is known whether they do
 /// without it: yes for each moment that isn't before any of theirs.
-pub fn stays_in_order(in_order: bool, sheets: &[Sheet], moment: i64) -> bool
+pub fn stays_in_order(in_order: bool, sheets: &[Sheet], moment: Moment) -> bool
     requires { in_order ≡ true → NeverFall sheets.now }
     ensures before { result ≡ true → NeverFall sheets.now }
-    ensures last { result ≡ true → All (λ s. s.moment ≤ℤ moment) sheets.now }
-    ensures any { in_order ≡ true → All (λ s. s.moment ≤ℤ moment) sheets.now → result ≡ true }
+    ensures last { result ≡ true → All (λ s. s.moment ≤ moment) sheets.now }
+    ensures any { in_order ≡ true → All (λ s. s.moment ≤ moment) sheets.now → result ≡ true }
 {
     in_order && follows(sheets, moment)
 }

@@ -1,15 +1,15 @@
 //! The price book: calendars, openings of classes and published sheets, with room for more.
-ghost use Rattle.std.specs.Prelude.{◌≡◌, ◌↔◌, ℕ, ◌+◌, ◌<◌, ◌≤◌, nat_lt, length, is_some, true, [], ◌∷◌, Some, None, option_map, pos, OnOk, OnErr, IfOk, IfErr, IfSome, IfNone};
+ghost use Rattle.std.specs.Prelude.{◌≡◌, ◌↔◌, ℕ, ◌+◌, ◌<◌, ◌≤◌, nat_lt, length, is_some, true, [], ◌∷◌, Some, None, option_map, OnOk, OnErr, IfOk, IfErr, IfSome, IfNone};
 ghost use Rattle.std.specs.Option.{option_copied};
 ghost use Rattle.std.specs.Bool.{OnFalse};
-ghost use Rattle.fund_calendar.specs.PricingDays.{Listing, IsMoment};
+ghost use Rattle.fund_calendar.specs.PricingDays.{Listing};
 ghost use Rattle.forward_price.specs.PriceTables.{AreNumbered, Table, Book, next_sheet, IsPricedBy, IsPending, sheet_numbered, number_at, price_on, price_before, sheets_on_trial, calendar_numbered, class_opened, with_calendar, with_class, with_published, with_correction, without_day_of, is_priced, empty_book, with_table, published_book, withdrawn_book};
-ghost use Rattle.forward_price.specs.Turns.{due_of, IsDue, NoneDue, expected_of, wrong_class, publish_fault, IsExpected, NoneExpected, IsMomentOf, NamesMoment, IsRising};
+ghost use Rattle.forward_price.specs.Turns.{due_of, IsDue, NoneDue, expected_of, wrong_class, publish_fault, IsExpected, NoneExpected, IsRising};
 
 use crate::price_sheet::{NoSheet, Opening, Patch, PublishFault, Sheet};
 use crate::{correcting, expecting, next_price, room};
 use fund_calendar::{Calendar, Day};
-use money_units::{Nav, NoMemory};
+use money_units::{Moment, Nav, NoMemory};
 use std::alloc::Global;
 use std::marker::Model;
 
@@ -27,13 +27,10 @@ pub struct PriceBook {
     list: usize,
     spare: usize,
     // No pricing moment up to this one is awaited.
-    passed: i64,
+    passed: Moment,
     // Where it is set, no sheet's moment is before that of a sheet published earlier, so that prices are found by search.
     in_order: bool,
 }
-
-// The moment before all others.
-const NONE_PASSED: i64 = -1;
 
 impl Model for PriceBook {
     ghost use Rattle.forward_price.specs.PriceTables.{Book};
@@ -68,42 +65,39 @@ impl PriceBook {
             room: Vec::new(alloc),
             list: 0,
             spare: 0,
-            passed: NONE_PASSED,
+            passed: Moment::start(),
             in_order: true,
         })
     }
 
     /// The due moment of an order of these classes, which are of one calendar, with this receipt: the first pricing
-    /// moment greater than the receipt and than the opening of each of the classes, in seconds since 1970-01-01 00:00
-    /// UTC and before the year 2200. `None` exactly where the calendar has no such moment.
-    pub fn due(&self, classes: &[u32], receipt: i64) -> Option<i64>
+    /// moment greater than the receipt and than the opening of each of the classes; `None` exactly where the
+    /// calendar has no such moment.
+    pub fn due(&self, classes: &[u32], receipt: Moment) -> Option<Moment>
         ensures computed { result ≡ due_of self.now.table classes.now receipt }
         ensures least { IfSome result (IsDue self.now.table classes.now receipt) }
         ensures none { IfNone result (NoneDue self.now.table classes.now receipt) }
-        ensures within { IfSome result IsMoment }
     {
         expecting::due(&self.calendars, &self.classes, classes, receipt)
     }
 
-    /// The pricing moment and the calendar of the expected sheet. The moment lies from 1970 to 2199. `None` exactly where
-    /// none is expected.
-    pub fn expected(&self) -> Option<(i64, u32)>
+    /// The pricing moment and the calendar of the expected sheet; `None` exactly where none is expected.
+    pub fn expected(&self) -> Option<(Moment, u32)>
         ensures computed { result ≡ expected_of self.now.table }
         ensures least { IfSome result (λ pair. IsExpected self.now.table pair) }
         ensures none { IfNone result (NoneExpected self.now.table) }
-        ensures within { IfSome result IsMomentOf }
     {
         expecting::expected(&self.calendars, &self.classes, &self.sheets, self.passed)
     }
 
     /// Whether a sheet may be published now: it is the expected one, its list is complete, and its moment isn't to come.
-    /// The faults are tried in the order of their list, and a moment that a fault names lies from 1970 to 2199.
+    /// The faults are tried in the order of their list.
     pub fn test(
         &self,
         calendar: u32,
-        moment: i64,
+        moment: Moment,
         prices: &[(u32, Nav)],
-        now: i64,
+        now: Moment,
     ) -> Result<(), PublishFault>
         ensures ok { IfOk result (λ _. publish_fault self.now.table calendar moment prices.now now
             ≡ None) }
@@ -112,7 +106,6 @@ impl PriceBook {
             (λ _. wrong_class self.now.table.classes calendar moment prices.now ≡ None) }
         ensures refused { IfErr result
             (λ fault. publish_fault self.now.table calendar moment prices.now now ≡ Some fault) }
-        ensures within { IfErr result NamesMoment }
     {
         let expected = self.expected();
         let wrong = expecting::wrong_class(&self.classes, calendar, moment, prices);
@@ -130,7 +123,7 @@ impl PriceBook {
     }
 
     /// The number of the sheet of a pricing moment; `None` exactly where there is no such sheet.
-    pub fn sheet_at(&self, calendar: u32, moment: i64) -> Option<u32>
+    pub fn sheet_at(&self, calendar: u32, moment: Moment) -> Option<u32>
         ensures { result ≡ number_at self.now.table.sheets calendar moment }
     {
         next_price::number_at(&self.sheets, calendar, moment)
@@ -160,7 +153,7 @@ impl PriceBook {
 
     /// The number of the sheet that prices an order of these classes with this receipt; `None` exactly while it is
     /// pending.
-    pub fn first_after(&self, receipt: i64, classes: &[u32]) -> Option<u32>
+    pub fn first_after(&self, receipt: Moment, classes: &[u32]) -> Option<u32>
         ensures computed { result ≡ option_map
             (λ sheet. sheet.number) (next_sheet self.now.table.sheets classes.now receipt) }
         ensures next { IfSome result (IsPricedBy self.now.table.sheets classes.now receipt) }
@@ -182,7 +175,7 @@ impl PriceBook {
 
     /// The last net asset value of a class on a sheet with a smaller moment, under a correction on trial; `None` exactly
     /// where no such sheet lists the class.
-    pub fn last_before(&self, patch: Option<Patch>, class: u32, moment: i64) -> Option<Nav>
+    pub fn last_before(&self, patch: Option<Patch>, class: u32, moment: Moment) -> Option<Nav>
         ensures { result ≡ price_before (sheets_on_trial patch self.now.table.sheets) class moment }
     {
         next_price::last_before(patch, &self.sheets, self.in_order, class, moment)
@@ -220,12 +213,12 @@ impl PriceBook {
     {
         self.calendars.push_reserved(calendar);
         self.spare -= 1;
-        self.passed = NONE_PASSED;
+        self.passed = Moment::start();
     }
 
     /// Adds a class of a calendar, opened at this moment. Its number is new and the calendar is known. It takes no memory
     /// and 1 of the spare room.
-    pub fn add_class(&mut self, class: u32, calendar: u32, opened: i64)
+    pub fn add_class(&mut self, class: u32, calendar: u32, opened: Moment)
         requires new { class_opened self.old.table.classes class ≡ None }
         requires calendar { is_some (calendar_numbered self.old.table.calendars calendar) ≡ true }
         requires room { 1 ≤ self.old.spare }
@@ -239,7 +232,7 @@ impl PriceBook {
             opened,
         });
         self.spare -= 1;
-        self.passed = NONE_PASSED;
+        self.passed = Moment::start();
     }
 
     /// Takes a pricing day of a calendar away. False, and nothing changed, exactly where the day isn't listed.
@@ -249,13 +242,13 @@ impl PriceBook {
             (without_day_of self.old.table calendar day) }
         ensures unchanged { OnFalse result (self.new ≡ self.old) }
     {
-        self.passed = NONE_PASSED;
+        self.passed = Moment::start();
         correcting::close_day(&mut self.calendars, calendar, day)
     }
 
     /// Publishes the expected sheet with a complete list, and answers its number. It takes no memory but the room for
     /// the list; what is spare for calendars and classes stays.
-    pub fn publish(&mut self, calendar: u32, moment: i64, prices: &[(u32, Nav)]) -> u32
+    pub fn publish(&mut self, calendar: u32, moment: Moment, prices: &[(u32, Nav)]) -> u32
         requires expected { expected_of self.old.table ≡ Some (moment, calendar) }
         requires complete { wrong_class self.old.table.classes calendar moment prices.now ≡ None }
         requires rises { IsRising prices.now }
@@ -278,7 +271,7 @@ impl PriceBook {
         });
         self.list = 0;
         self.in_order = in_order;
-        self.passed = moment - 1;
+        self.passed = moment.second_before();
         number
     }
 
@@ -289,7 +282,7 @@ impl PriceBook {
         ensures withdrawn { self.new ≡ withdrawn_book self.old }
         ensures unchanged { OnFalse result (self.new ≡ self.old) }
     {
-        self.passed = NONE_PASSED;
+        self.passed = Moment::start();
         match self.sheets.pop() {
             Some(sheet) => {
                 self.list = room::given_back(&mut self.room, self.list, sheet.prices);

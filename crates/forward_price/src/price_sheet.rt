@@ -3,18 +3,17 @@ ghost use Rattle.std.specs.Prelude.{◌≡◌};
 
 use crate::sheet::Prices;
 use fund_calendar::Day;
-use money_units::Nav;
+use money_units::{Moment, Nav};
 use std::error::Error;
 use std::fmt;
 
-/// A published sheet: its number from 1 in order of publication, its calendar, its pricing moment in seconds since
-/// 1970-01-01 00:00 UTC, the day that it prices, and the net asset value of every class of the calendar that was opened
+/// A published sheet: its number from 1 in order of publication, its calendar, its pricing moment, the day that it prices, and the net asset value of every class of the calendar that was opened
 /// before the moment, by rising class number.
 #[derive(Debug, Drop)]
 pub struct Sheet {
     pub number: u32,
     pub calendar: u32,
-    pub moment: i64,
+    pub moment: Moment,
     pub day: Day,
     pub prices: Prices,
 }
@@ -32,18 +31,18 @@ pub struct Patch {
 pub struct Opening {
     pub class: u32,
     pub calendar: u32,
-    pub opened: i64,
+    pub opened: Moment,
 }
 
 /// Why a sheet can't be published. The causes are tried in the order of this list.
 #[derive(Clone, Copy, Debug, PartialEq, Eq)]
 pub enum PublishFault {
-    /// The sheet isn't the expected one, whose moment and calendar are the values; both are 0 where none is expected.
-    SheetOutOfTurn(i64, u32),
+    /// The sheet isn't the expected one, whose moment and calendar are the values; both are the first where none is expected.
+    SheetOutOfTurn(Moment, u32),
     /// The least class that is missing or too many.
     SheetIncomplete(u32),
     /// The moment of the sheet, which is to come.
-    TooSoon(i64),
+    TooSoon(Moment),
 }
 
 impl fmt::Display for PublishFault {
@@ -52,13 +51,16 @@ impl fmt::Display for PublishFault {
             PublishFault::SheetOutOfTurn(moment, calendar) => {
                 write!(
                     f,
-                    "the sheet of calendar {calendar} at {moment} is expected"
+                    "the sheet of calendar {calendar} at {} is expected",
+                    moment.seconds()
                 )
             }
             PublishFault::SheetIncomplete(class) => {
                 write!(f, "class {class} is missing or too many")
             }
-            PublishFault::TooSoon(moment) => write!(f, "the moment {moment} is to come"),
+            PublishFault::TooSoon(moment) => {
+                write!(f, "the moment {} is to come", moment.seconds())
+            }
         }
     }
 }

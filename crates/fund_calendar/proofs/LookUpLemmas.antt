@@ -1,15 +1,14 @@
 -- What a search in rising days finds.
-use Rattle.std.proofs.Common.{◌≡◌, ℕ, zero, suc, ◌<◌, ◌≤◌, ◌==◌, Bool, true, false, cond, not, nat_le, ltb, is_lt, nat_cmp, List, [], ◌∷◌, length, get_or, find, filter, slice_get, ◌||◌, Option, Some, None, is_some, refl, sym, ap, ◌∙◌, inl, inr, arith, ℤ, pos, negsuc, ◌<ℤ◌, ◌≤ℤ◌, option_map}
+use Rattle.std.proofs.Common.{◌≡◌, ℕ, zero, suc, ◌<◌, ◌≤◌, ◌==◌, Bool, true, false, cond, not, nat_le, ltb, is_lt, nat_cmp, List, [], ◌∷◌, length, get_or, find, filter, slice_get, ◌||◌, Option, Some, None, is_some, refl, sym, ap, ◌∙◌, inl, inr, arith, ◌+◌, nat_lt, option_map}
 use Rattle.std.specs.Prelude.{All, AllPairs, IfSome, IfNone, remove}
 use Rattle.std.specs.List.{list_any}
 use Rattle.std.specs.List.Sorted.{IsNonDecreasingBy, IsPartitionPoint}
 use Rattle.std.proofs.lemmas.Bool.{cases_lt}
 use Rattle.std.proofs.lemmas.Bool.Decides.{leb_tells, eqb_tells, nat_tests, Decides-eqb, Decides-ltb}
-use Rattle.std.proofs.lemmas.List.Elements.{All-cons, All-filter, All-head, All-tail}
+use Rattle.std.proofs.lemmas.List.Elements.{All-cons}
 use Rattle.std.proofs.lemmas.List.Kept.{AllPairs-filter}
 use Rattle.fund_calendar.specs.declared.pricing_day.PricingDay.{PricingDay}
-use Rattle.jiff_core.proofs.SignedLemmas.{signed_arith}
-use Rattle.fund_calendar.specs.PricingDays.{IsListing, IsMoment, last_moment, above, first_above, IsLeastAbove, HasNoneAbove}
+use Rattle.fund_calendar.specs.PricingDays.{IsListing, first_above, IsLeastAbove, HasNoneAbove}
 
 -- pairs that rise don't fall
 pub non_decreasing : {X : Type 0} (n : X → ℕ) (xs : List X) → AllPairs (λ a b. n a < n b) xs → IsNonDecreasingBy n xs
@@ -139,12 +138,11 @@ remove_day days day i rise h found =
     here : (d : PricingDay) → (get_or days i d).day ≡ day
     here d = (Decides-eqb _ _).0 (find_passes (λ e. e.day == day) days (get_or days i d) (sym found ∙ get_within days i d h))
 
--- what stays rises, and is in range
+-- what stays rises
 pub IsListing-without : (p : PricingDay → Bool) (days : List PricingDay) → IsListing days → IsListing (filter p days)
 IsListing-without p days is = record {
   days_rise = AllPairs-filter (λ a b. a.day < b.day) p days is.days_rise;
   moments_rise = AllPairs-filter (λ a b. a.moment < b.moment) p days is.moments_rise;
-  within = All-filter p (λ e. e.moment ≤ last_moment) days is.within;
 }
 
 -- the day that is priced at a moment stands where the moments reach it
@@ -189,58 +187,40 @@ find_none_from (x ∷ xs) least e = elim (leb_tells least x.moment) [
   | inr (t, gt) ↦ All-cons (λ y. y.moment < least) x xs gt (find_none_from xs least (rw t at e))
 ]
 
-above_is : (z : ℤ) (n : ℕ) → above z ≤ n → z <ℤ pos n
-above_is (pos m) n h = omega (arith, signed_arith)
-above_is (negsuc m) n h = omega (arith, signed_arith)
+-- the least number above another
+lt_as_le : (m n : ℕ) → nat_lt m n ≡ nat_le (m + 1) n
+lt_as_le m n = grind (arith, nat_tests)
 
-above_from : (z : ℤ) (n : ℕ) → z <ℤ pos n → above z ≤ n
-above_from (pos m) n h = omega (arith, signed_arith)
-above_from (negsuc m) n h = omega arith
+pub find_above : (days : List PricingDay) (moment : ℕ) → find (λ e. nat_lt moment e.moment) days ≡ find (λ e. nat_le (moment + 1) e.moment) days
+find_above [] moment = refl
+find_above (x ∷ xs) moment = rw (lt_as_le moment x.moment) (ap (cond (nat_le (moment + 1) x.moment) (Some x)) (find_above xs moment))
 
-not_above : (z : ℤ) (n : ℕ) → n < above z → pos n ≤ℤ z
-not_above (pos m) n h = omega (arith, signed_arith)
-not_above (negsuc m) n h = absurd (omega arith)
-
-least_by : (days : List PricingDay) (z n : ℤ) (o : Option PricingDay) → AllPairs (λ a b. a.moment < b.moment) days → find (λ e. nat_le (above z) e.moment) days ≡ o → option_map (λ e. pos e.moment) o ≡ Some n → IsLeastAbove days z n
-least_by days z n None rise found is = cc
-least_by days z n (Some e) rise found is =
-    let same : pos e.moment ≡ n = cc in
-    let least = find_least days (above z) e rise found in
+least_by : (days : List PricingDay) (moment next : ℕ) (o : Option PricingDay) → AllPairs (λ a b. a.moment < b.moment) days → find (λ e. nat_le (moment + 1) e.moment) days ≡ o → option_map (λ e. e.moment) o ≡ Some next → IsLeastAbove days moment next
+least_by days moment next None rise found is = cc
+least_by days moment next (Some e) rise found is =
+    let same : e.moment ≡ next = cc in
+    let least = find_least days (moment + 1) e rise found in
     rw (← same) (record {
-      above_it = above_is z e.moment least.0;
-      least = λ k d short h. let le = least.1 k d short (above_from z (get_or days k d).moment h) in omega (arith, signed_arith);
+      above_it = omega (arith, least.0);
+      least = λ k d short h. least.1 k d short (omega (arith, h));
     })
 
-pub IsLeastAbove-first_above : (days : List PricingDay) (z n : ℤ) → AllPairs (λ a b. a.moment < b.moment) days → first_above days z ≡ Some n → IsLeastAbove days z n
-IsLeastAbove-first_above days z n rise is = least_by days z n (find (λ e. nat_le (above z) e.moment) days) rise refl is
+pub IsLeastAbove-first_above : (days : List PricingDay) (moment next : ℕ) → AllPairs (λ a b. a.moment < b.moment) days → first_above days moment ≡ Some next → IsLeastAbove days moment next
+IsLeastAbove-first_above days moment next rise is =
+    least_by days moment next (find (λ e. nat_le (moment + 1) e.moment) days) rise refl (ap (option_map (λ (e : PricingDay). e.moment)) (sym (find_above days moment)) ∙ is)
 
-none_by : (days : List PricingDay) (z : ℤ) (o : Option PricingDay) → find (λ e. nat_le (above z) e.moment) days ≡ o → option_map (λ (e : PricingDay). pos e.moment) o ≡ None → HasNoneAbove days z
-none_by days z None found is = λ k d short. not_above z (get_or days k d).moment (find_none_from days (above z) found k d short)
-none_by days z (Some e) found is = cc
+none_by : (days : List PricingDay) (moment : ℕ) (o : Option PricingDay) → find (λ e. nat_le (moment + 1) e.moment) days ≡ o → option_map (λ (e : PricingDay). e.moment) o ≡ None → HasNoneAbove days moment
+none_by days moment None found is = λ k d short. (let below = find_none_from days (moment + 1) found k d short in omega arith)
+none_by days moment (Some e) found is = cc
 
-pub HasNoneAbove-first_above : (days : List PricingDay) (z : ℤ) → first_above days z ≡ None → HasNoneAbove days z
-HasNoneAbove-first_above days z is = none_by days z (find (λ e. nat_le (above z) e.moment) days) refl is
+pub HasNoneAbove-first_above : (days : List PricingDay) (moment : ℕ) → first_above days moment ≡ None → HasNoneAbove days moment
+HasNoneAbove-first_above days moment is =
+    none_by days moment (find (λ e. nat_le (moment + 1) e.moment) days) refl (ap (option_map (λ (e : PricingDay). e.moment)) (sym (find_above days moment)) ∙ is)
 
-pub least_if_some : (days : List PricingDay) (z : ℤ) (r : Option ℤ) → AllPairs (λ a b. a.moment < b.moment) days → r ≡ first_above days z → IfSome r (IsLeastAbove days z)
-least_if_some days z None rise e = tt
-least_if_some days z (Some n) rise e = IsLeastAbove-first_above days z n rise (sym e)
+pub least_if_some : (days : List PricingDay) (moment : ℕ) (r : Option ℕ) → AllPairs (λ a b. a.moment < b.moment) days → r ≡ first_above days moment → IfSome r (IsLeastAbove days moment)
+least_if_some days moment None rise e = tt
+least_if_some days moment (Some next) rise e = IsLeastAbove-first_above days moment next rise (sym e)
 
-pub none_above_if_none : (days : List PricingDay) (z : ℤ) (r : Option ℤ) → r ≡ first_above days z → IfNone r (HasNoneAbove days z)
-none_above_if_none days z None e = HasNoneAbove-first_above days z (sym e)
-none_above_if_none days z (Some n) e = tt
-
--- what is found is in range where all are
-found_within : (days : List PricingDay) (z n : ℤ) → All (λ e. e.moment ≤ last_moment) days → first_above days z ≡ Some n → IsMoment n
-found_within [] z n all e = cc
-found_within (x ∷ xs) z n all e = elim (leb_tells (above z) x.moment) [
-  | inl (t, le) ↦
-      let here = rw t at e in
-      let same : pos x.moment ≡ n = cc in
-      let within = All-head (λ d. d.moment ≤ last_moment) x xs all in
-      rw (← same) (omega (arith, signed_arith), omega (arith, signed_arith))
-  | inr (t, gt) ↦ found_within xs z n (All-tail (λ d. d.moment ≤ last_moment) x xs all) (rw t at e)
-]
-
-pub within_if_some : (days : List PricingDay) (z : ℤ) (r : Option ℤ) → All (λ e. e.moment ≤ last_moment) days → r ≡ first_above days z → IfSome r IsMoment
-within_if_some days z None all e = tt
-within_if_some days z (Some n) all e = found_within days z n all (sym e)
+pub none_above_if_none : (days : List PricingDay) (moment : ℕ) (r : Option ℕ) → r ≡ first_above days moment → IfNone r (HasNoneAbove days moment)
+none_above_if_none days moment None e = HasNoneAbove-first_above days moment (sym e)
+none_above_if_none days moment (Some next) e = tt

@@ -120,24 +120,23 @@ pub listed_more : (f : ℕ → Option ℕ) (dates : List ℕ) (listed new : List
 listed_more f dates listed new i day least moment h is e so added =
     added ∙ sym (map_more (priced_at f) dates i day h ∙ rw (← is, ← so) (ap (λ entry. listed ++ entry ∷ []) (rw (risen least (f day) moment e) refl)))
 
--- rising instants make a listing: the moments are at least `least`, they rise, and they are in range
+-- rising instants make a listing: the moments are at least `least`, and they rise
 record Rises (least : ℕ) (days : List PricingDay) : Type 0 where
   above : All (λ e. least ≤ e.moment) days
   rise : AllPairs (λ a b. a.moment < b.moment) days
-  within : All (λ e. e.moment ≤ last_moment) days
 
-bounded : (least n m : ℕ) → cond (nat_le least n && nat_le n last_moment) (Some n) None ≡ Some m → (least ≤ m) × (m ≤ last_moment)
-bounded least n m e = elim (leb_tells least n) [
+at_least : (least n m : ℕ) → cond (nat_le least n && nat_le n last_moment) (Some n) None ≡ Some m → least ≤ m
+at_least least n m e = elim (leb_tells least n) [
   | inr (t, _) ↦ absurd (let none = rw t at e in cc)
   | inl (t, low) ↦ elim (leb_tells n last_moment) [
     | inr (s, _) ↦ absurd (let none = rw (t, s) at e in cc)
-    | inl (s, high) ↦ let some = rw (t, s) at e in let same : n ≡ m = cc in rw (← same) (low, high)
+    | inl (s, high) ↦ let some = rw (t, s) at e in let same : n ≡ m = cc in rw (← same) low
   ]
 ]
 
-risen_bounds : (least : ℕ) (o : Option ℕ) (moment : ℕ) → rising least o ≡ Some moment → (least ≤ moment) × (moment ≤ last_moment)
-risen_bounds least None moment e = cc
-risen_bounds least (Some n) moment e = bounded least n moment e
+risen_at_least : (least : ℕ) (o : Option ℕ) (moment : ℕ) → rising least o ≡ Some moment → least ≤ moment
+risen_at_least least None moment e = cc
+risen_at_least least (Some n) moment e = at_least least n moment e
 
 no_later : (o : Option ℕ) → option_map (λ place. place + 1) o ≡ None → o ≡ None
 no_later None e = refl
@@ -147,17 +146,16 @@ rises_step : (f : ℕ → Option ℕ) (day : ℕ) (dates : List ℕ) (least : �
 rises_step f day dates least None is later e = cc
 rises_step f day dates least (Some moment) is later e =
     let rest = later moment (no_later _ e) in
-    let bounds = risen_bounds least (f day) moment is in
+    let bound = risen_at_least least (f day) moment is in
     let here : (priced_at f day).moment ≡ moment = rw (risen least (f day) moment is) refl in
     record {
-      above = All-cons (λ e. least ≤ e.moment) (priced_at f day) (map (priced_at f) dates) (rw here bounds.0) (λ k d short. let next = rest.above k d short in omega arith);
+      above = All-cons (λ e. least ≤ e.moment) (priced_at f day) (map (priced_at f) dates) (rw here bound) (λ k d short. let next = rest.above k d short in omega arith);
       rise = AllPairs-cons (λ a b. a.moment < b.moment) (priced_at f day) (map (priced_at f) dates) (λ k d short. let next = rest.above k d short in omega arith) rest.rise;
-      within = All-cons (λ e. e.moment ≤ last_moment) (priced_at f day) (map (priced_at f) dates) (rw here bounds.1) rest.within;
     }
 
 rises : (f : ℕ → Option ℕ) (dates : List ℕ) (least : ℕ) → first_not_rising least (map f dates) ≡ None → Rises least (map (priced_at f) dates)
 unfolding first_not_rising
-rises f [] least e = record { above = λ k d lt. absurd (omega arith); rise = λ i j d lt short. absurd (omega arith); within = λ k d lt. absurd (omega arith) }
+rises f [] least e = record { above = λ k d lt. absurd (omega arith); rise = λ i j d lt short. absurd (omega arith) }
 rises f (day ∷ dates) least e = rises_step f day dates least (rising least (f day)) refl (λ moment. rises f dates (moment + 1)) e
 
 map-rise : (f : ℕ → Option ℕ) (dates : List ℕ) → AllPairs (λ a b. a < b) dates → AllPairs (λ a b. a.day < b.day) (map (priced_at f) dates)
@@ -172,7 +170,7 @@ listed_by : (f : ℕ → Option ℕ) (dates : List ℕ) (days : List PricingDay)
 listed_by f dates days None e rise is =
     let same : days ≡ map (priced_at f) dates = cc in
     let moments = rises f dates 0 e in
-    rw same (record { days_rise = map-rise f dates rise; moments_rise = moments.rise; within = moments.within })
+    rw same (record { days_rise = map-rise f dates rise; moments_rise = moments.rise })
 listed_by f dates days (Some place) e rise is = cc
 
 pub IsListing-days_on : (f : ℕ → Option ℕ) (dates : List ℕ) (days : List PricingDay) → AllPairs (λ a b. a < b) dates → Ok days ≡ days_on f dates → IsListing days

@@ -1,6 +1,6 @@
 -- The pricing days of a calendar (17 CFR 270.22c-1(b)(1)): Monday to Friday, without the holidays
 -- that the prospectus lists, each priced at the instant of the calendar's time of day in its zone.
-use Rattle.std.specs.Prelude.{ℕ, zero, suc, ◌+◌, ◌-◌, ◌*◌, ◌<◌, ◌≤◌, Bool, not, ◌&&◌, ◌||◌, ◌==◌, nat_lt, nat_le, if◌then◌else◌, ℤ, pos, negsuc, ◌<ℤ◌, ◌≤ℤ◌, List, [], ◌∷◌, map, filter, find, All, AllPairs, Option, Some, None, option_map, unwrap_or, Result, Ok, Err}
+use Rattle.std.specs.Prelude.{ℕ, zero, suc, ◌+◌, ◌-◌, ◌*◌, ◌<◌, ◌≤◌, Bool, not, ◌&&◌, ◌||◌, ◌==◌, nat_lt, nat_le, if◌then◌else◌, List, [], ◌∷◌, map, filter, find, All, AllPairs, Option, Some, None, option_map, unwrap_or, Result, Ok, Err}
 use Rattle.std.specs.List.{list_any}
 use Rattle.std.specs.Option.{option_map_or}
 use Rattle.fund_calendar.specs.declared.pricing_day.PricingDay.{PricingDay}
@@ -12,9 +12,6 @@ use Rattle.fund_calendar.specs.ZoneRules.{instant}
 -- moments are seconds from 1970-01-01 00:00 UTC up to 2199-12-31 23:59:59
 abbrev pub last_moment : ℕ
 last_moment = 7258118399
-
-abbrev pub IsMoment : ℤ → Type 0
-IsMoment moment = (pos 0 ≤ℤ moment) × (moment ≤ℤ pos last_moment)
 
 -- the most days from a calendar's first date to its last
 abbrev pub longest_span : ℕ
@@ -42,11 +39,10 @@ pub record Listing : Type 0 where
   pub number : ℕ
   pub days : List PricingDay
 
--- the days and their moments rise, and the moments are in range
+-- the days and their moments rise
 pub record IsListing (days : List PricingDay) : Type 0 where
   pub days_rise : AllPairs (λ a b. a.day < b.day) days
   pub moments_rise : AllPairs (λ a b. a.moment < b.moment) days
-  pub within : All (λ e. e.moment ≤ last_moment) days
 
 -- so many days from the first on
 unfoldable pub days_from : ℕ → ℕ → List ℕ
@@ -124,42 +120,26 @@ lists_day c day = list_any (λ e. e.day == day) c.days
 abbrev pub without_day : Listing → ℕ → Listing
 without_day c day = record { number = c.number; days = filter (λ e. not (e.day == day)) c.days }
 
--- the least moment above
-abbrev pub above : ℤ → ℕ
-above (pos n) = n + 1
-above (negsuc n) = 0
-
 -- the first listed moment above
-abbrev pub first_above : List PricingDay → ℤ → Option ℤ
-first_above days moment =
-    option_map (λ e. pos e.moment) (find (λ e. nat_le (above moment) e.moment) days)
+abbrev pub first_above : List PricingDay → ℕ → Option ℕ
+first_above days moment = option_map (λ e. e.moment) (find (λ e. nat_lt moment e.moment) days)
 
-abbrev pub next_after : Listing → ℤ → Option ℤ
+abbrev pub next_after : Listing → ℕ → Option ℕ
 next_after c moment = first_above c.days moment
 
 -- it is the least one above, since the moments rise
-pub record IsLeastAbove (days : List PricingDay) (moment next : ℤ) : Type 0 where
-  pub above_it : moment <ℤ next
-  pub least : All (λ e. moment <ℤ pos e.moment → next ≤ℤ pos e.moment) days
+pub record IsLeastAbove (days : List PricingDay) (moment next : ℕ) : Type 0 where
+  pub above_it : moment < next
+  pub least : All (λ e. moment < e.moment → next ≤ e.moment) days
 
 -- no listed moment is above
-abbrev pub HasNoneAbove : List PricingDay → ℤ → Type 0
-HasNoneAbove days moment = All (λ e. pos e.moment ≤ℤ moment) days
-
--- the number of a moment, where it isn't before 1970
-abbrev pub moment_number : ℤ → Option ℕ
-moment_number (pos n) = Some n
-moment_number (negsuc n) = None
-
--- the listed day of a moment, where the moment isn't before 1970
-abbrev pub day_at : List PricingDay → Option ℕ → Option ℕ
-day_at days None = None
-day_at days (Some moment) = option_map (λ e. e.day) (find (λ e. e.moment == moment) days)
+abbrev pub HasNoneAbove : List PricingDay → ℕ → Type 0
+HasNoneAbove days moment = All (λ e. e.moment ≤ moment) days
 
 -- the day that is priced at a moment
-abbrev pub date_at : Listing → ℤ → Option ℕ
-date_at c moment = day_at c.days (moment_number moment)
+abbrev pub date_at : Listing → ℕ → Option ℕ
+date_at c moment = option_map (λ e. e.day) (find (λ e. e.moment == moment) c.days)
 
 -- the moment of a day
-abbrev pub moment_on : Listing → ℕ → Option ℤ
-moment_on c day = option_map (λ e. pos e.moment) (find (λ e. e.day == day) c.days)
+abbrev pub moment_on : Listing → ℕ → Option ℕ
+moment_on c day = option_map (λ e. e.moment) (find (λ e. e.day == day) c.days)

@@ -4,10 +4,11 @@ ghost use Rattle.std.specs.Bool.{OnFalse};
 ghost use Rattle.fund_calendar.specs.declared.calendar.CalendarFault.TheVariants.{NoMemory};
 
 use crate::Day;
-use crate::look_up::{entry_at, entry_of_moment, moment_number, next_moment, place_of_day};
+use crate::look_up::{entry_at, entry_of_moment, next_moment, place_of_day};
 use crate::pricing_day::PricingDay;
 use crate::schedule::{is_bad_span, listed_between};
 use crate::zone_text::read_zone;
+use money_units::Moment;
 use std::alloc::{AllocError, AllocFailed, Global};
 use std::error::Error;
 use std::fmt;
@@ -58,7 +59,7 @@ impl<T: Drop> From<AllocFailed<T>> for CalendarFault {
     }
 }
 
-/// The pricing days of a fund, each with its moment, in seconds since 1970-01-01 00:00 UTC.
+/// The pricing days of a fund, each with the moment at which it is priced.
 #[derive(Drop)]
 pub struct Calendar {
     number: u32,
@@ -142,32 +143,29 @@ impl Calendar {
         }
     }
 
-    /// The least moment above, or `None` exactly without one. It lies from 1970 to 2199.
-    pub fn next_after(&self, moment: i64) -> Option<i64>
+    /// The least moment above, or `None` exactly without one.
+    pub fn next_after(&self, moment: Moment) -> Option<Moment>
         ensures first { result ≡ spec.next_after self.now moment }
         ensures least { IfSome result (spec.IsLeastAbove self.now.days moment) }
         ensures none { IfNone result (spec.HasNoneAbove self.now.days moment) }
-        ensures within { IfSome result spec.IsMoment }
     {
         next_moment(&self.listed, moment)
     }
 
     /// The day that is priced at a moment, or `None` exactly where the moment isn't listed.
-    pub fn date_of(&self, moment: i64) -> Option<Day>
+    pub fn date_of(&self, moment: Moment) -> Option<Day>
         ensures { result ≡ spec.date_at self.now moment }
     {
-        let number = moment_number(moment)?;
-        let found = entry_of_moment(&self.listed, number)?;
+        let found = entry_of_moment(&self.listed, moment)?;
         Some(found.day)
     }
 
-    /// The moment of a day, or `None` exactly where the day isn't listed. It lies from 1970 to 2199.
-    pub fn moment_of(&self, day: Day) -> Option<i64>
-        ensures listed { result ≡ spec.moment_on self.now day }
-        ensures within { IfSome result spec.IsMoment }
+    /// The moment of a day, or `None` exactly where the day isn't listed.
+    pub fn moment_of(&self, day: Day) -> Option<Moment>
+        ensures { result ≡ spec.moment_on self.now day }
     {
         let place = place_of_day(&self.listed, day)?;
         let found = entry_at(&self.listed, place)?;
-        Some(found.moment as i64)
+        Some(found.moment)
     }
 }

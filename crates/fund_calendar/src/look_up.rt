@@ -1,46 +1,29 @@
 //! Look-ups among pricing days, which rise by day and by moment.
-ghost use Rattle.std.specs.Prelude.{◌≡◌, ◌≤◌, ◌<◌, length, nat_le, ◌==◌, slice_get, find, option_and_then, IfSome};
+ghost use Rattle.std.specs.Prelude.{◌≡◌, ◌+◌, ◌≤◌, ◌<◌, length, nat_le, ◌==◌, slice_get, find, option_and_then, IfSome};
 ghost use Rattle.std.specs.List.Sorted.{IsPartitionPoint};
 ghost use Rattle.fund_calendar.specs.PricingDays as spec;
 
 use crate::Day;
 use crate::pricing_day::PricingDay;
+use money_units::Moment;
 
 /// The first moment above one.
-pub(crate) fn next_moment(listed: &[PricingDay], moment: i64) -> Option<i64>
+pub(crate) fn next_moment(listed: &[PricingDay], moment: Moment) -> Option<Moment>
     requires { spec.IsListing listed.now }
     ensures { result ≡ spec.first_above listed.now moment }
 {
-    let place = first_place_from(listed, least_above(moment));
+    let place = first_place_from(listed, moment.seconds() + 1);
     let next = entry_at(listed, place)?;
-    Some(next.moment as i64)
+    Some(next.moment)
 }
 
-/// The least moment above one, where moments begin with 0.
-fn least_above(moment: i64) -> u64
-    ensures { result ≡ spec.above moment }
-{
-    if moment < 0 { 0 } else { moment as u64 + 1 }
-}
-
-/// The number of a moment, where it isn't before 1970.
-pub(crate) fn moment_number(moment: i64) -> Option<u64>
-    ensures { result ≡ spec.moment_number moment }
-{
-    if moment < 0 {
-        None
-    } else {
-        Some(moment as u64)
-    }
-}
-
-/// The place of the first day whose moment is at least `least`, or the number of days without one.
+/// The place of the first day whose moment is at least so many seconds, or the number of days without one.
 fn first_place_from(listed: &[PricingDay], least: u64) -> usize
     requires { spec.IsListing listed.now }
     ensures value { slice_get listed.now result ≡ find (λ e. nat_le least e.moment) listed.now }
     ensures bound { result ≤ length listed.now }
 {
-    listed.partition_point(|entry| entry.moment < least)
+    listed.partition_point(|entry| entry.moment.seconds() < least)
 }
 
 /// The place of a day.
@@ -58,11 +41,11 @@ pub(crate) fn place_of_day(listed: &[PricingDay], day: Day) -> Option<usize>
 }
 
 /// The pricing day that is priced at a moment.
-pub(crate) fn entry_of_moment(listed: &[PricingDay], moment: u64) -> Option<PricingDay>
+pub(crate) fn entry_of_moment(listed: &[PricingDay], moment: Moment) -> Option<PricingDay>
     requires { spec.IsListing listed.now }
     ensures { result ≡ find (λ e. e.moment == moment) listed.now }
 {
-    let place = first_place_from(listed, moment);
+    let place = first_place_from(listed, moment.seconds());
     match entry_at(listed, place) {
         Some(entry) => {
             if entry.moment == moment {

@@ -1,9 +1,10 @@
 //! A pricing day with its moment.
 use crate::Day;
+use money_units::Moment;
 
-/// A pricing day and its moment, in seconds since 1970-01-01 00:00 UTC.
+/// A pricing day and the moment at which it is priced.
 #[derive(Clone, Copy, Debug, PartialEq, Eq)]
 pub struct PricingDay {
     pub day: Day,
-    pub moment: u64,
+    pub moment: Moment,
 }

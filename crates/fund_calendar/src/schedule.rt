@@ -9,10 +9,8 @@ use crate::calendar::CalendarFault;
 use crate::instant::instant;
 use crate::pricing_day::PricingDay;
 use crate::zone::ZoneRule;
+use money_units::Moment;
 use std::alloc::{AllocError, Global};
-
-/// The last moment, 2199-12-31 23:59:59 UTC.
-const LAST_MOMENT: u64 = 7_258_118_399;
 
 /// The most days from a calendar's first date to its last.
 const LONGEST_SPAN: u32 = 3660;
@@ -99,7 +97,7 @@ pub(crate) fn listed_days(
         match rising(instant(rule, *day, minute), least) {
             Some(moment) => {
                 listed.push(PricingDay { day: *day, moment })?;
-                least = moment + 1;
+                least = moment.seconds() + 1;
             }
             None => return Err(CalendarFault::NotRising(listed.len() as u32)),
         }
@@ -108,13 +106,12 @@ pub(crate) fn listed_days(
 }
 
 /// The instant, where it is a moment and not before the least one that may come.
-fn rising(instant: Option<u64>, least: u64) -> Option<u64>
-    ensures value { result ≡ spec.rising least instant }
-    ensures bound { IfSome result (λ moment. moment ≤ spec.last_moment) }
+fn rising(instant: Option<u64>, least: u64) -> Option<Moment>
+    ensures { result ≡ spec.rising least instant }
 {
-    let moment = instant?;
-    if least <= moment && moment <= LAST_MOMENT {
-        Some(moment)
+    let seconds = instant?;
+    if least <= seconds {
+        Moment::new(seconds)
     } else {
         None
     }

@@ -1,5 +1,5 @@
 //! Worked examples of the dates, the zone rules and the pricing days, as laws: the checker computes each.
-ghost use Rattle.std.specs.Prelude.{◌≡◌, ◌+◌, ◌*◌, [], ◌∷◌, Some, None, Ok, Err, true, false, pos, codes};
+ghost use Rattle.std.specs.Prelude.{◌≡◌, ◌+◌, ◌*◌, [], ◌∷◌, Some, None, Ok, Err, true, false, codes};
 ghost use Rattle.std.specs.Option.{option_and_then};
 ghost use Rattle.fund_calendar.specs.Dates.{add_months, anniversaries, date_of, weekday_of};
 ghost use Rattle.fund_calendar.specs.DayText.{read_day};
@@ -94,7 +94,7 @@ pub fn calendar_examples()
 /// A purchase is due at the first pricing moment after it: at 1719863999 it is due a second later, at that moment the
 /// day after, and at the last moment that is listed never.
 pub fn due_examples()
-    ensures before { next_after july (pos 1719863999) ≡ Some (pos 1719864000) }
-    ensures at { next_after july (pos 1719864000) ≡ Some (pos 1719950400) }
-    ensures past { next_after july (pos 1719950400) ≡ None }
+    ensures before { next_after july 1719863999 ≡ Some 1719864000 }
+    ensures at { next_after july 1719864000 ≡ Some 1719950400 }
+    ensures past { next_after july 1719950400 ≡ None }
 {}

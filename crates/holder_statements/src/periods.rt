@@ -98,7 +98,7 @@ fn place_of(trades: &[Trade], seconds: u64) -> usize
         (λ trade. nat_lt trade.moment seconds ≡ false) trades.now result }
     ensures bound { result ≤ length trades.now }
 {
-    trades.partition_point(|trade| trade.moment.number() < seconds)
+    trades.partition_point(|trade| trade.moment.seconds() < seconds)
 }
 
 fn front(trades: &[Trade], place: usize) -> &[Trade]

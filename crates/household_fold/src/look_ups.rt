@@ -110,11 +110,11 @@ fn rate_in_place(rates: &[RateRow], place: usize) -> Option<RateRow>
 fn stands_before(row: &RateRow, class: u32, moment: Moment) -> bool
     ensures { result ≡ rate_stands_before class moment row.now }
 {
-    row.class < class || (row.class == class && row.moment.number() < moment.number())
+    row.class < class || (row.class == class && row.moment.seconds() < moment.seconds())
 }
 
 fn is_rate_of(row: &RateRow, class: u32, moment: Moment) -> bool
     ensures { result ≡ (row.now.class == class && row.now.moment == moment) }
 {
-    row.class == class && row.moment.number() == moment.number()
+    row.class == class && row.moment.seconds() == moment.seconds()
 }

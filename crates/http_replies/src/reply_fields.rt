@@ -29,7 +29,7 @@ pub(crate) fn reply_fields(alloc: Global, reply: &Reply) -> Result<Fields, NoMem
         Reply::Close(form) => close_texts(alloc, form),
         Reply::Dividend { class, moment } => {
             let class = number_of(alloc, class.number() as u64)?;
-            let moment = number_of(alloc, moment.number())?;
+            let moment = number_of(alloc, moment.seconds())?;
             two_texts(alloc, b"dividend", &class, &moment)
         }
         Reply::Sheet(number) => numbered_texts(alloc, b"sheet", *number as u64),
@@ -73,8 +73,8 @@ fn order_texts(alloc: Global, order: &OrderReply) -> Result<Fields, NoMemory>
 {
     let account = number_of(alloc, order.account.number() as u64)?;
     let ref_no = number_of(alloc, order.ref_no.number())?;
-    let receipt = number_of(alloc, order.receipt.number())?;
-    let due = number_of(alloc, order.due.number())?;
+    let receipt = number_of(alloc, order.receipt.seconds())?;
+    let due = number_of(alloc, order.due.seconds())?;
     let texts = [
         b"ok".as_slice(),
         b"order",
@@ -151,8 +151,8 @@ fn push_moments(alloc: Global, traced: &TraceReply, fields: &mut Fields) -> Resu
         (fields.new
         ≡ fields.old ++ number_text traced.now.receipt ∷ number_text traced.now.due ∷ []) }
 {
-    fields.push(alloc, &number_of(alloc, traced.receipt.number())?)?;
-    fields.push(alloc, &number_of(alloc, traced.due.number())?)
+    fields.push(alloc, &number_of(alloc, traced.receipt.seconds())?)?;
+    fields.push(alloc, &number_of(alloc, traced.due.seconds())?)
 }
 
 // What was traded, and the loose mils of an order that is short.
@@ -214,12 +214,12 @@ fn refusal_texts(alloc: Global, refusal: Refusal) -> Result<Fields, NoMemory>
         Refusal::CalendarEnded => no_value(alloc, b"5"),
         Refusal::BelowMinimum(minimum) => minimum_value(alloc, minimum.cents()),
         Refusal::NotOffered => no_value(alloc, b"7"),
-        Refusal::LateForDealer(due) => one_value(alloc, b"8", due.number()),
-        Refusal::ReceiptAhead(now) => one_value(alloc, b"9", now.number()),
-        Refusal::CancelLate(due) => one_value(alloc, b"10", due.number()),
+        Refusal::LateForDealer(due) => one_value(alloc, b"8", due.seconds()),
+        Refusal::ReceiptAhead(now) => one_value(alloc, b"9", now.seconds()),
+        Refusal::CancelLate(due) => one_value(alloc, b"10", due.seconds()),
         Refusal::NotPending => no_value(alloc, b"11"),
         Refusal::SheetOutOfTurn(moment, calendar) => {
-            two_values(alloc, b"12", moment.number(), calendar as u64)
+            two_values(alloc, b"12", moment.seconds(), calendar as u64)
         }
         Refusal::SheetIncomplete(class) => one_value(alloc, b"13", class as u64),
         Refusal::Stands(number) => one_value(alloc, b"14", number as u64),
@@ -228,9 +228,9 @@ fn refusal_texts(alloc: Global, refusal: Refusal) -> Result<Fields, NoMemory>
         }
         Refusal::OrdersFull(limit) => one_value(alloc, b"16", limit as u64),
         Refusal::TooMany(limit) => one_value(alloc, b"17", limit as u64),
-        Refusal::TooSoon(moment) => one_value(alloc, b"18", moment.number()),
+        Refusal::TooSoon(moment) => one_value(alloc, b"18", moment.seconds()),
         Refusal::JournalFull => no_value(alloc, b"19"),
-        Refusal::StampBack(last) => one_value(alloc, b"20", last.number()),
+        Refusal::StampBack(last) => one_value(alloc, b"20", last.seconds()),
     }
 }
 

@@ -80,8 +80,8 @@ fn order_reply(account: u64, ref_no: u64, receipt: u64, due: u64) -> Option<Repl
     Some(Reply::Order(OrderReply {
         account: Identifier::new(account)?,
         ref_no: Reference::new(ref_no)?,
-        receipt: Moment::from_seconds(receipt)?,
-        due: Moment::from_seconds(due)?,
+        receipt: Moment::new(receipt)?,
+        due: Moment::new(due)?,
     }))
 }
 
@@ -103,7 +103,7 @@ fn close_reply(calendar: u64, day: i32) -> Option<Reply> {
 fn dividend_reply(class: u64, moment: u64) -> Option<Reply> {
     Some(Reply::Dividend {
         class: Identifier::new(class)?,
-        moment: Moment::from_seconds(moment)?,
+        moment: Moment::new(moment)?,
     })
 }
 
@@ -177,8 +177,8 @@ fn traced(state: OrderState) -> Option<Reply> {
         account: Identifier::new(101)?,
         ref_no: Reference::new(1)?,
         state,
-        receipt: Moment::from_seconds(1719838800)?,
-        due: Moment::from_seconds(1719864000)?,
+        receipt: Moment::new(1719838800)?,
+        due: Moment::new(1719864000)?,
         price: Cents(1061),
         mils: Mils(942507),
         cash: Cents(1000000),
@@ -207,7 +207,7 @@ fn refusal(code: u8, value: u32, second: u32) -> Option<Refusal> {
         16 => Some(Refusal::OrdersFull(value)),
         17 => Some(Refusal::TooMany(value)),
         19 => Some(Refusal::JournalFull),
-        _ => refusal_at(code, Moment::from_seconds(value as u64)?, second),
+        _ => refusal_at(code, Moment::new(value as u64)?, second),
     }
 }
 

@@ -137,7 +137,7 @@ fn told_item(alloc: Global, item: &ScriptItem) -> Result<String, NoMemory> {
         ScriptItem::Bad => Ok(format!(in alloc; "bad\n")?),
         ScriptItem::Good { moment, key, asked } => {
             let asked = told_asked(alloc, asked)?;
-            let moment = moment.number();
+            let moment = moment.seconds();
             Ok(format!(in alloc; "{moment} {}: {asked}\n", Shown(key.as_slice()))?)
         }
     }

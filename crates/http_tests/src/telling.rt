@@ -69,7 +69,7 @@ fn told_of_prices(alloc: Global, request: &Request) -> Result<String, AllocError
         Request::Dividend(form) => format!(in alloc;
             "dividend,{},{},{}",
             form.class.number(),
-            form.moment.number(),
+            form.moment.seconds(),
             Rate(form.rate.millionths())
         ),
         Request::FixPrice(form) => format!(in alloc;
@@ -77,7 +77,7 @@ fn told_of_prices(alloc: Global, request: &Request) -> Result<String, AllocError
             form.fix.number(),
             Bearing(form.bearer),
             form.class.number(),
-            form.moment.number(),
+            form.moment.seconds(),
             Money(form.nav.cents())
         ),
         Request::FixRate(form) => format!(in alloc;
@@ -85,7 +85,7 @@ fn told_of_prices(alloc: Global, request: &Request) -> Result<String, AllocError
             form.fix.number(),
             Bearing(form.bearer),
             form.class.number(),
-            form.moment.number(),
+            form.moment.seconds(),
             Rate(form.rate.millionths())
         ),
         _ => told_of_orders(alloc, request),
@@ -108,7 +108,7 @@ fn told_of_orders(alloc: Global, request: &Request) -> Result<String, AllocError
             form.target.number()
         ),
         Request::Line(form) => {
-            format!(in alloc; "line,{},{}", form.receipt.number(), Ordered(form.order))
+            format!(in alloc; "line,{},{}", form.receipt.seconds(), Ordered(form.order))
         }
         _ => format!(in alloc; "?"),
     }
@@ -148,7 +148,7 @@ fn told_sheet(alloc: Global, form: &SheetForm) -> Result<String, AllocError> {
     format!(in alloc;
         "sheet,{},{},{}",
         form.calendar.number(),
-        form.moment.number(),
+        form.moment.seconds(),
         Prices(form)
     )
 }
@@ -158,7 +158,7 @@ fn told_entry(alloc: Global, verb: &str, form: &EntryForm) -> Result<String, All
         "{verb},{},{},{},{}",
         form.fix.number(),
         Bearing(form.bearer),
-        form.receipt.number(),
+        form.receipt.seconds(),
         Ordered(form.order)
     )
 }

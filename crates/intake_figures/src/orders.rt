@@ -28,7 +28,7 @@ fn purchase(account: u64, ref_no: u64) -> Option<Request> {
 
 // 09:00 in New York on 2024-07-01.
 fn now() -> Moment {
-    match Moment::from_seconds(1_719_838_800) {
+    match Moment::new(1_719_838_800) {
         Some(now) => now,
         None => Moment::start(),
     }

@@ -35,7 +35,7 @@ pub(crate) fn verdict_on(
 pub(crate) fn is_before(book: &Book, moment: Moment) -> bool
     ensures { result ≡ nat_lt moment (last_moment book.now.journal) }
 {
-    moment.number() < book.last_moment().number()
+    moment.seconds() < book.last_moment().seconds()
 }
 
 /// Admits a request of whoever has this key, and notes what it brings. Answers whether it was noted.

@@ -182,7 +182,7 @@ fn election(ref_no: u64) -> Result<Request, Fail> {
 }
 
 fn place_elections(alloc: Global, register: &mut Register, end: u64) -> Result<String, Fail> {
-    let now = Moment::from_seconds(NOW).ok_or("a moment")?;
+    let now = Moment::new(NOW).ok_or("a moment")?;
     for ref_no in 1..end {
         let request = election(ref_no)?;
         if !register.note_fresh(alloc, OPERATOR, OPERATOR, now, &request)? {

@@ -13,7 +13,7 @@ use money_units::Moment;
 fn is_at(sheet: &Sheet, moment: Moment) -> bool
     ensures { result ≡ (moment_of sheet.now == moment) }
 {
-    sheet.moment.unsigned_abs() == moment.number()
+    sheet.moment.unsigned_abs() == moment.seconds()
 }
 
 // Whether a sheet is that of a moment and lists a class.

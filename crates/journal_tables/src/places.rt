@@ -135,13 +135,13 @@ pub(crate) fn put_account(accounts: &mut Accounts, room: Room<AccountRow>, row: 
 fn stands_before(row: &RateRow, class: u32, moment: Moment) -> bool
     ensures { result ≡ rate_stands_before class moment row.now }
 {
-    row.class < class || (row.class == class && row.moment.number() < moment.number())
+    row.class < class || (row.class == class && row.moment.seconds() < moment.seconds())
 }
 
 fn is_rate_of(row: &RateRow, class: u32, moment: Moment) -> bool
     ensures { result ≡ is_rate_of class moment row.now }
 {
-    row.class == class && row.moment.number() == moment.number()
+    row.class == class && row.moment.seconds() == moment.seconds()
 }
 
 // The place of a class's rate at a moment: the rates before it are of smaller classes, or of earlier moments.

@@ -182,7 +182,7 @@ fn ranges(kind: &EventKind)
 {
     match kind {
         EventKind::Sheet(form) => {
-            let _moment = form.moment.number();
+            let _moment = form.moment.seconds();
         }
         EventKind::Dividend(form) => {
             let _rate = form.rate.millionths();

@@ -28,7 +28,7 @@ pub(crate) fn pricing_after(calendar: &Calendar, from: Moment) -> Moment
 pub(crate) fn hour_before(from: Moment) -> Moment
     ensures { result ≡ from - 3600 }
 {
-    moment(from.number().saturating_sub(3_600))
+    moment(from.seconds().saturating_sub(3_600))
 }
 
 /// An hour behind a moment.
@@ -36,7 +36,7 @@ pub(crate) fn hour_behind(from: Moment) -> Moment
     requires { from ≤ 7258114799 }
     ensures { result ≡ from + 3600 }
 {
-    moment(from.number() + 3_600)
+    moment(from.seconds() + 3_600)
 }
 
 /// The part of a draw that says how much.

@@ -77,7 +77,7 @@ pub(crate) fn moment(seconds: u64) -> Moment
     requires { seconds ≤ 7258118399 }
     ensures { result ≡ seconds }
 {
-    match Moment::from_seconds(seconds) {
+    match Moment::new(seconds) {
         Some(moment) => moment,
         None => unreachable!(),
     }

@@ -96,11 +96,11 @@ fn identity_in(kind: &EventKind) -> Identity
         },
         EventKind::Sheet(form) => Identity::Sheet {
             calendar: form.calendar.number(),
-            moment: form.moment.number(),
+            moment: form.moment.seconds(),
         },
         EventKind::Dividend(form) => Identity::Dividend {
             class: form.class.number(),
-            moment: form.moment.number(),
+            moment: form.moment.seconds(),
         },
         EventKind::FixPrice(form) => Identity::Fix(form.fix.number()),
         EventKind::FixRate(form) => Identity::Fix(form.fix.number()),

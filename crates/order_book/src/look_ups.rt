@@ -72,7 +72,7 @@ impl OrderBook {
     {
         let named = Identity::Dividend {
             class,
-            moment: moment.number(),
+            moment: moment.seconds(),
         };
         match self.brought(named) {
             Some(event) => dividend_in(event.kind()),
@@ -84,7 +84,7 @@ impl OrderBook {
     pub fn rate(&self, class: u32, moment: Moment) -> u64
         ensures { result ≡ rate_at (rates_of self.now.journal) class moment }
     {
-        match self.last_rate(class, moment.number()) {
+        match self.last_rate(class, moment.seconds()) {
             Some(rate) => rate,
             None => match self.dividend(class, moment) {
                 Some(form) => form.rate.millionths(),

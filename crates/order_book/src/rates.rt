@@ -75,7 +75,7 @@ impl FixedRates {
         if let EventKind::FixRate(form) = kind {
             let name = RateName {
                 class: form.class.number(),
-                moment: form.moment.number(),
+                moment: form.moment.seconds(),
             };
             put(&mut self.rates, name, form.rate.millionths());
         }

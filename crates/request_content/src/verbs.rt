@@ -29,7 +29,7 @@ fn same_entry(first: &EntryForm, second: &EntryForm) -> bool
     ensures { result ≡ pointwise bytes_eq (entry_content first.now) (entry_content second.now) }
 {
     first.fix.number() == second.fix.number()
-        && first.receipt.number() == second.receipt.number()
+        && first.receipt.seconds() == second.receipt.seconds()
         && same_bearer(first.bearer, second.bearer)
         && same_order(&first.order, &second.order)
 }
@@ -122,7 +122,7 @@ pub(crate) fn same_sheet(first: &SheetForm, second: &SheetForm) -> bool
     ensures { result ≡ same_request (asked.Sheet first.now) (asked.Sheet second.now) }
 {
     first.calendar.number() == second.calendar.number()
-        && first.moment.number() == second.moment.number()
+        && first.moment.seconds() == second.moment.seconds()
         && same_prices(first.prices.as_slice(), second.prices.as_slice())
 }
 
@@ -130,7 +130,7 @@ pub(crate) fn same_dividend(first: &DividendForm, second: &DividendForm) -> bool
     ensures { result ≡ same_request (asked.Dividend first.now) (asked.Dividend second.now) }
 {
     first.class.number() == second.class.number()
-        && first.moment.number() == second.moment.number()
+        && first.moment.seconds() == second.moment.seconds()
         && first.rate.millionths() == second.rate.millionths()
 }
 
@@ -139,7 +139,7 @@ pub(crate) fn same_fix_price(first: &FixPriceForm, second: &FixPriceForm) -> boo
 {
     first.fix.number() == second.fix.number()
         && first.class.number() == second.class.number()
-        && first.moment.number() == second.moment.number()
+        && first.moment.seconds() == second.moment.seconds()
         && first.nav.cents() == second.nav.cents()
         && same_bearer(first.bearer, second.bearer)
 }
@@ -149,7 +149,7 @@ pub(crate) fn same_fix_rate(first: &FixRateForm, second: &FixRateForm) -> bool
 {
     first.fix.number() == second.fix.number()
         && first.class.number() == second.class.number()
-        && first.moment.number() == second.moment.number()
+        && first.moment.seconds() == second.moment.seconds()
         && first.rate.millionths() == second.rate.millionths()
         && same_bearer(first.bearer, second.bearer)
 }
@@ -213,5 +213,5 @@ pub(crate) fn same_statement(first: &StatementForm, second: &StatementForm) -> b
 pub(crate) fn same_line(first: &LineForm, second: &LineForm) -> bool
     ensures { result ≡ same_request (asked.Line first.now) (asked.Line second.now) }
 {
-    first.receipt.number() == second.receipt.number() && same_order(&first.order, &second.order)
+    first.receipt.seconds() == second.receipt.seconds() && same_order(&first.order, &second.order)
 }

@@ -38,7 +38,7 @@ pub(crate) fn reference_of(text: &[u8]) -> Option<Reference>
 pub fn moment_of(text: &[u8]) -> Option<Moment>
     ensures { result ≡ form.moment text.now }
 {
-    Moment::from_seconds(read_number(text).ok()?)
+    Moment::new(read_number(text).ok()?)
 }
 
 /// The money of an order.

@@ -28,7 +28,7 @@ fn late_cancel_of(inquiry: &Inquiry, row: &OrderRow) -> Option<Refusal>
 {
     match due_moment(inquiry, row) {
         Some(due) => refused_when(
-            !row.struck && due.number() <= inquiry.moment().number(),
+            !row.struck && due.seconds() <= inquiry.moment().seconds(),
             Refusal::CancelLate(due),
         ),
         None => None,

@@ -485,7 +485,7 @@ fn prices_at(listing: &Calendar, moment: Moment) -> bool
 fn is_listed_at(class: u32, moment: Moment, sheet: &Sheet) -> bool
     ensures { result ≡ lists_at class moment sheet.now }
 {
-    sheet.moment.unsigned_abs() == moment.number() && lists_class(sheet.prices.as_slice(), class)
+    sheet.moment.unsigned_abs() == moment.seconds() && lists_class(sheet.prices.as_slice(), class)
 }
 
 /// The class of an order.

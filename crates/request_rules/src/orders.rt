@@ -166,7 +166,7 @@ pub(crate) fn receipt_ahead(inquiry: &Inquiry, receipt: Moment) -> Option<Refusa
         ≡ when (nat_lt inquiry.now.now receipt) (Refusal.ReceiptAhead inquiry.now.now) }
 {
     refused_when(
-        inquiry.moment().number() < receipt.number(),
+        inquiry.moment().seconds() < receipt.seconds(),
         Refusal::ReceiptAhead(inquiry.moment()),
     )
 }
@@ -228,7 +228,7 @@ fn late_for_dealer(inquiry: &Inquiry, line: &LineForm, due: &Option<Moment>) -> 
     match due {
         Some(due) => refused_when(
             inquiry.is_published_at(class_of(&line.order.body), *due)
-                || due.number() + window_of(inquiry) < inquiry.moment().number(),
+                || due.seconds() + window_of(inquiry) < inquiry.moment().seconds(),
             Refusal::LateForDealer(*due),
         ),
         None => None,

@@ -176,7 +176,7 @@ impl<'a> RowReader<'a> {
         ensures read { Reads result self.new (field.moment_at self.old) }
         ensures still { IfErr result (λ fault. fault ≡ Wrong) }
     {
-        Moment::from_seconds(self.u64()?).ok_or(RowFault::Wrong)
+        Moment::new(self.u64()?).ok_or(RowFault::Wrong)
     }
 
     /// A date as its day number.

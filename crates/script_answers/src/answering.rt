@@ -93,7 +93,7 @@ fn refusal_line(alloc: Global, refusal: Refusal) -> Result<Vec<u8>, KeepFault>
 fn is_before(moment: Moment, last: Moment) -> bool
     ensures { result ≡ nat_lt moment last }
 {
-    moment.number() < last.number()
+    moment.seconds() < last.seconds()
 }
 
 // Answers what is asked at a moment with a key, with its line.

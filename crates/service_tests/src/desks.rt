@@ -93,7 +93,7 @@ fn commit_twice<K: Keeper>(
 // A line of the dealer's at 1719835200.
 fn line(account: u64, ref_no: u64) -> Result<LineForm, Fail> {
     Ok(LineForm {
-        receipt: Moment::from_seconds(1_719_835_200).ok_or("a moment")?,
+        receipt: Moment::new(1_719_835_200).ok_or("a moment")?,
         order: purchase(account, ref_no)?,
     })
 }

@@ -103,7 +103,7 @@ fn written_on(alloc: Global, links: &[MemoryLink]) -> Result<Vec<u8>, NoMemory> 
 
 // A clock that gives the one reading.
 fn clock_of(alloc: Global, given: &Given<'_>) -> Result<MemoryClock, Fail> {
-    let reading = Moment::from_seconds(given.reading).ok_or("a moment")?;
+    let reading = Moment::new(given.reading).ok_or("a moment")?;
     Ok(MemoryClock::new(alloc, &[reading])?)
 }
 

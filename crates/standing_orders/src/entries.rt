@@ -29,7 +29,7 @@ pub(crate) fn put_in_turn(entries: &mut Vec<NumberedRow>) -> Result<(), NoMemory
 fn receipt_of(entry: &NumberedRow) -> u64
     ensures { result ≡ entry.now.row.receipt }
 {
-    entry.row.receipt.number()
+    entry.row.receipt.seconds()
 }
 
 /// Puts those of one number together, by rising number, each number's as they stood.

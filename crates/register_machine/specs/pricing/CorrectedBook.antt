@@ -1,6 +1,6 @@
 -- The corrected book: all that a replay reads of a journal. The table has its corrected prices, the orders their corrections.
 use Rattle.std.specs.Option.{option_map_or}
-use Rattle.std.specs.Prelude.{Bool, List, Option, [], ℕ, false, nat_abs, option_map, pos}
+use Rattle.std.specs.Prelude.{Bool, List, Option, [], ℕ, false, option_map}
 use Rattle.agent_events.specs.declared.order.Body.{Body}
 use Rattle.agent_events.specs.declared.order.OrderRow.{OrderRow}
 use Rattle.agent_events.specs.declared.request.AccountForm.{AccountForm}
@@ -50,11 +50,11 @@ calendar_of book class = option_map (λ terms. terms.calendar) (class_numbered b
 -- The sheet of an order: that of its next price, the first computed after its receipt that lists all its classes
 -- (17 CFR 270.22c-1(a)). Where there is none the order is pending.
 abbrev pub sheet_of : List Sheet → OrderRow → Option Sheet
-sheet_of sheets row = next_sheet sheets (classes_in row.order.body) (pos row.receipt)
+sheet_of sheets row = next_sheet sheets (classes_in row.order.body) row.receipt
 
 -- the moment at which an order received then is due under the present calendar
 abbrev pub due_at : Book → Body → ℕ → Option ℕ
-due_at book body receipt = option_map nat_abs (due_of book.table (classes_in body) (pos receipt))
+due_at book body receipt = due_of book.table (classes_in body) receipt
 
 abbrev pub due_moment : Book → OrderRow → Option ℕ
 due_moment book row = due_at book row.order.body row.receipt

@@ -7,7 +7,6 @@ use Rattle.forward_price.specs.declared.price_sheet.Sheet.{Sheet}
 use Rattle.register_machine.specs.journal.Choices.{last_of}
 use Rattle.register_machine.specs.journal.Journals.{Journal}
 use Rattle.register_machine.specs.journal.Kinds.{each_in, price_fix_in}
-use Rattle.register_machine.specs.pricing.PublishedTable.{moment_of}
 
 -- the last correction of a class at a moment gives its price
 abbrev pub fixes_price : ℕ → ℕ → FixPriceForm → Bool
@@ -18,7 +17,7 @@ price_as_corrected fixes moment price =
     (price.0, option_map_or (λ form. form.nav) (last_of (fixes_price price.0 moment) fixes) price.1)
 
 abbrev pub sheet_as_corrected : List FixPriceForm → Sheet → Sheet
-sheet_as_corrected fixes sheet = with_prices sheet (map (price_as_corrected fixes (moment_of sheet)) sheet.prices)
+sheet_as_corrected fixes sheet = with_prices sheet (map (price_as_corrected fixes sheet.moment) sheet.prices)
 
 -- the price table with all corrections of the journal
 abbrev pub table_as_corrected : Journal → Table → Table

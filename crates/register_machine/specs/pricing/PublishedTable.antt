@@ -1,11 +1,10 @@
 -- The pricing days with their closures, and the sheets as they were published. The net asset value is computed on each
 -- pricing day (17 CFR 270.22c-1(b)(1)), and a sheet has it for every class of its calendar.
-use Rattle.std.specs.Prelude.{Err, Ok, Result, [], ℕ, fold, nat_abs, pos}
+use Rattle.std.specs.Prelude.{Err, Ok, Result, [], ℕ, fold}
 use Rattle.agent_events.specs.Events.{Event}
 use Rattle.agent_events.specs.declared.event.EventKind.{EventKind}
 use Rattle.agent_events.specs.declared.request.CalendarForm.{CalendarForm}
 use Rattle.forward_price.specs.PriceTables.{Table, with_calendar, with_class, with_published, without_day_of}
-use Rattle.forward_price.specs.declared.price_sheet.Sheet.{Sheet}
 use Rattle.fund_calendar.specs.PricingDays.{CalendarRefusal, CalendarTerms, Listing, new_calendar}
 use Rattle.register_machine.specs.journal.Journals.{Journal}
 
@@ -35,8 +34,8 @@ listing_of form = listing_by form.calendar (calendar_checked form)
 abbrev pub table_by : Table → ℕ → EventKind → Table
 table_by table moment (EventKind.Calendar form) = with_calendar table (listing_of form)
 table_by table moment (EventKind.Close form) = without_day_of table form.calendar form.day
-table_by table moment (EventKind.Class form) = with_class table form.class form.calendar (pos moment)
-table_by table moment (EventKind.Sheet form) = with_published table form.calendar (pos form.moment) form.prices
+table_by table moment (EventKind.Class form) = with_class table form.class form.calendar moment
+table_by table moment (EventKind.Sheet form) = with_published table form.calendar form.moment form.prices
 table_by table moment _ = table
 
 abbrev pub table_after : Table → Event → Table
@@ -50,7 +49,3 @@ empty_table = record { calendars = []; classes = []; sheets = [] }
 
 abbrev pub table_of : Journal → Table
 table_of journal = table_behind empty_table journal
-
--- the pricing moment of a sheet in seconds
-abbrev pub moment_of : Sheet → ℕ
-moment_of sheet = nat_abs sheet.moment

@@ -6,7 +6,6 @@ use Rattle.forward_price.specs.declared.price_sheet.Sheet.{Sheet}
 use Rattle.share_lots.specs.Lots.{shares_added, cost_total, most_cost, most_mils}
 use Rattle.register_machine.specs.pricing.CorrectedBook.{Book}
 use Rattle.register_machine.specs.pricing.DividendRates.{Rates, rate_at}
-use Rattle.register_machine.specs.pricing.PublishedTable.{moment_of}
 use Rattle.register_machine.specs.replay.Positions.{Position, PositionKey, Register, key_of, mils_of, position_at, with_holding}
 use Rattle.agent_events.specs.declared.trade.Trade.{Trade}
 use Rattle.agent_events.specs.declared.trade.TradeKind.{TradeKind}
@@ -58,7 +57,7 @@ day_after_rate sheet rate price day =
 -- a class that has a rate on this sheet
 abbrev pub day_after_class : Rates → Sheet → Day → ℕ × ℕ → Day
 day_after_class rates sheet day price =
-    let rate = rate_at rates price.0 (moment_of sheet) in
+    let rate = rate_at rates price.0 sheet.moment in
     if rate == 0 then day else day_after_rate sheet rate price day
 
 abbrev pub day_after_dividends : Book → Sheet → Day → Day

@@ -10,14 +10,13 @@ use Rattle.forward_price.specs.Sheets.{nav_on}
 use Rattle.forward_price.specs.declared.price_sheet.Sheet.{Sheet}
 use Rattle.register_machine.specs.journal.Choices.{first_some}
 use Rattle.register_machine.specs.pricing.OrderClasses.{class_of, target_of}
-use Rattle.register_machine.specs.pricing.PublishedTable.{moment_of}
 use Rattle.register_machine.specs.replay.Positions.{Position, Register, put}
 
 -- a trade of an account and class without an order
 abbrev pub plain_trade : Sheet → ℕ → ℕ → TradeKind → Trade
 plain_trade sheet account class kind = record {
   sheet = sheet.number;
-  moment = moment_of sheet;
+  moment = sheet.moment;
   day = sheet.day;
   account = account;
   ref_no = 0;

@@ -1,7 +1,7 @@
 -- Refusal 3: the first field that names something absent.
 use Rattle.std.specs.List.{list_any}
 use Rattle.std.specs.Option.{option_map_or}
-use Rattle.std.specs.Prelude.{Bool, List, Option, [], ℕ, ◌&&◌, ◌+◌, ◌==◌, ◌||◌, ◌∷◌, drop, false, find, int_lt, is_some, map, not, option_map, option_to_list, pos, true}
+use Rattle.std.specs.Prelude.{Bool, List, Option, [], ℕ, ◌&&◌, ◌+◌, ◌==◌, ◌||◌, ◌∷◌, drop, false, find, nat_lt, is_some, map, not, option_map, option_to_list, true}
 use Rattle.agent_events.specs.declared.order.Bearer.{Bearer}
 use Rattle.agent_events.specs.declared.order.Order.{Order}
 use Rattle.agent_events.specs.declared.reply.Refusal.{Refusal}
@@ -15,7 +15,6 @@ use Rattle.fund_calendar.specs.PricingDays.{Listing}
 use Rattle.register_machine.specs.journal.Kinds.{account_numbered, class_numbered, dealer_numbered, dealers_of, households_of}
 use Rattle.register_machine.specs.pricing.CorrectedOrders.{order_named}
 use Rattle.register_machine.specs.pricing.OrderClasses.{class_of, target_of}
-use Rattle.register_machine.specs.pricing.PublishedTable.{moment_of}
 use Rattle.register_machine.specs.rules.Situations.{Situation}
 
 abbrev pub has_calendar : Situation → ℕ → Bool
@@ -48,7 +47,7 @@ has_day situation calendar day = list_any (is_priced_day calendar day) situation
 
 -- a published sheet that lists the class
 abbrev pub lists_at : ℕ → ℕ → Sheet → Bool
-lists_at class moment sheet = moment_of sheet == moment && lists_class sheet.prices class
+lists_at class moment sheet = sheet.moment == moment && lists_class sheet.prices class
 
 abbrev pub has_price : Situation → ℕ → ℕ → Bool
 has_price situation class moment = list_any (lists_at class moment) situation.book.table.sheets
@@ -60,7 +59,7 @@ prices_at moment listing = list_any (λ day. day.moment == moment) listing.days
 abbrev pub opening_has_moment : List Listing → ℕ → ℕ → Opening → Bool
 opening_has_moment calendars class moment opening =
     opening.class == class
-    && (int_lt opening.opened (pos moment)
+    && (nat_lt opening.opened moment
     && option_map_or (prices_at moment) (calendar_numbered calendars opening.calendar) false)
 
 abbrev pub has_moment : Situation → ℕ → ℕ → Bool

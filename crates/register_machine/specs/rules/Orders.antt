@@ -1,7 +1,7 @@
 -- The rules on orders: due moments, minimums, exchanges and letters, receipts, and cancels.
 use Rattle.std.specs.List.{list_all, list_any}
 use Rattle.std.specs.Option.{option_map_or}
-use Rattle.std.specs.Prelude.{Bool, None, Option, Some, ℕ, ◌&&◌, ◌+◌, ◌==◌, ◌||◌, false, if◌then◌else◌, is_none, is_some, length, nat_le, nat_lt, not, option_and_then, option_map, pos, true}
+use Rattle.std.specs.Prelude.{Bool, None, Option, Some, ℕ, ◌&&◌, ◌+◌, ◌==◌, ◌||◌, false, if◌then◌else◌, is_none, is_some, length, nat_le, nat_lt, not, option_and_then, option_map, true}
 use Rattle.agent_events.specs.declared.order.Body.{Body}
 use Rattle.agent_events.specs.declared.order.OrderRow.{OrderRow}
 use Rattle.agent_events.specs.declared.reply.Refusal.{Refusal}
@@ -96,7 +96,7 @@ window_of situation _ = 0
 
 abbrev pub is_published_at : Book → ℕ → ℕ → Bool
 is_published_at book class moment =
-    option_map_or (λ calendar. is_some (number_at book.table.sheets calendar (pos moment))) (calendar_of book class) false
+    option_map_or (λ calendar. is_some (number_at book.table.sheets calendar moment)) (calendar_of book class) false
 
 abbrev pub is_late : Situation → LineForm → ℕ → Bool
 is_late situation line due =

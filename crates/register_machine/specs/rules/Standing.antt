@@ -1,7 +1,7 @@
 -- Refusal 14: what stands already.
 use Rattle.std.specs.List.{list_any}
 use Rattle.std.specs.Option.{option_map_or, option_or}
-use Rattle.std.specs.Prelude.{Bool, List, None, Option, [], ℕ, ℤ, ◌&&◌, ◌==◌, ◌||◌, ◌∷◌, false, is_some, map, nat_abs, option_and_then, option_map}
+use Rattle.std.specs.Prelude.{Bool, List, None, Option, [], ℕ, ◌&&◌, ◌==◌, ◌||◌, ◌∷◌, false, is_some, map, option_and_then, option_map}
 use Rattle.agent_events.specs.declared.reply.Refusal.{Refusal}
 use Rattle.agent_events.specs.declared.request.DividendForm.{DividendForm}
 use Rattle.agent_events.specs.declared.request.Request.{Request}
@@ -48,10 +48,10 @@ abbrev pub is_declared_in : Book → ℕ → ℕ → DividendForm → Bool
 is_declared_in book calendar moment form =
     form.moment == moment && option_map_or (λ own. own == calendar) (calendar_of book form.class) false
 
-abbrev pub is_used_moment : Book → ℕ → ℤ → Bool
+abbrev pub is_used_moment : Book → ℕ → ℕ → Bool
 is_used_moment book calendar moment =
     is_some (number_at book.table.sheets calendar moment)
-    || list_any (is_declared_in book calendar (nat_abs moment)) book.rates.declared
+    || list_any (is_declared_in book calendar moment) book.rates.declared
 
 abbrev pub day_used : Situation → Request → Option ℕ
 day_used situation (Request.Close form) =

@@ -1,7 +1,7 @@
-use Rattle.std.proofs.Common.{◌≡◌, ℤ, int_lt, take}
+use Rattle.std.proofs.Common.{◌≡◌, ℕ, nat_lt, take}
 use Rattle.forward_price.specs.Turns.{is_due}
 use Rattle.forward_price.proofs.expecting.last_opening.Given as goal
 
 abbrev pub invariant-loop-class : goal.invariant-loop-class
 invariant-loop-class l =
-    (m : ℤ) → int_lt l.latest m ≡ is_due (take l.class-index l.classes) l.asked l.fn.receipt m
+    (m : ℕ) → nat_lt l.latest m ≡ is_due (take l.class-index l.classes) l.asked l.fn.receipt m

@@ -1,4 +1,4 @@
-use Rattle.std.proofs.Common.{nat_lt, fold, take, ap, ◌∙◌, None, arith, to_z-of_z}
+use Rattle.std.proofs.Common.{nat_lt, fold, take, ap, ◌∙◌, None, arith}
 use Rattle.std.proofs.lemmas.List.{take_all}
 use Rattle.forward_price.specs.Choices.{best_so_far}
 use Rattle.forward_price.specs.Turns.{is_wrong, class_numbers}
@@ -7,5 +7,4 @@ use Rattle.forward_price.proofs.expecting.least_missing.Goals as goal
 pub returns : goal.returns
 returns c =
     c.loop-class.invariant
-    ∙ ap (λ z. fold (best_so_far (is_wrong c.args.classes.now c.args.calendar z c.args.prices.now) nat_lt) None (class_numbers (take c.loop-class.class-index c.args.classes.now))) (to_z-of_z c.ranges.moment)
     ∙ ap (λ classes. fold (best_so_far (is_wrong c.args.classes.now c.args.calendar c.args.moment c.args.prices.now) nat_lt) None (class_numbers classes)) (take_all c.loop-class.class-index c.args.classes.now (omega arith))

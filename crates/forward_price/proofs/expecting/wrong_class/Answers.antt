@@ -1,4 +1,4 @@
-use Rattle.std.proofs.Common.{◌++◌, nat_lt, fold, take, ap, ◌∙◌, None, arith, to_z-of_z}
+use Rattle.std.proofs.Common.{◌++◌, nat_lt, fold, take, ap, ◌∙◌, None, arith}
 use Rattle.std.proofs.lemmas.List.{take_all}
 use Rattle.forward_price.specs.Choices.{best_so_far}
 use Rattle.forward_price.specs.Turns.{is_wrong, class_numbers, price_numbers}
@@ -7,5 +7,4 @@ use Rattle.forward_price.proofs.expecting.wrong_class.Goals as goal
 pub returns : goal.returns
 returns c =
     c.loop-price.invariant
-    ∙ ap (λ z. fold (best_so_far (is_wrong c.args.classes.now c.args.calendar z c.args.prices.now) nat_lt) None (class_numbers c.args.classes.now ++ price_numbers (take c.loop-price.price-index c.args.prices.now))) (to_z-of_z c.ranges.moment)
     ∙ ap (λ prices. fold (best_so_far (is_wrong c.args.classes.now c.args.calendar c.args.moment c.args.prices.now) nat_lt) None (class_numbers c.args.classes.now ++ price_numbers prices)) (take_all c.loop-price.price-index c.args.prices.now (omega arith))

@@ -1,4 +1,4 @@
-use Rattle.std.proofs.Common.{sym, ◌∙◌, ap, take, drop, length, ◌-◌, SFits, w64, rules, to_z-of_z}
+use Rattle.std.proofs.Common.{sym, ◌∙◌, ap, take, drop, length, ◌-◌, rules}
 use Rattle.std.specs.Option.{option_copied}
 use Rattle.forward_price.specs.PriceTables.{sheet_before}
 use Rattle.forward_price.proofs.SearchFacts.{none_listed_before, before_from_last, rest_of}
@@ -10,10 +10,7 @@ returns-in_err-last c =
 
 pub returns : goal.returns
 returns c =
-    let fits : SFits w64 c.moment_of.result = search rules in
-    let at = to_z-of_z fits ∙ c.moment_of.ensures in
-    let point = rw at at c.place_from-start.ensures.point in
+    let point = rw c.moment_of.ensures at c.place_from-start.ensures.point in
     c.last_among.ensures
-    ∙ ap (λ z. sheet_before (take (length c.args.sheets.now - c.place_from-start.result) (drop c.place_from-start.result c.args.sheets.now)) c.args.class z) (to_z-of_z c.ranges.moment)
     ∙ ap (λ l. sheet_before l c.args.class c.args.moment) (rest_of c.place_from-start.result c.args.sheets.now)
     ∙ before_from_last c.args.sheets.now c.args.class c.args.moment c.place_from-start.result c.in_ok-last.last.now c.in_ok-last.ensures.some.0 c.in_ok-last.ensures.some.1 c.requires.before point

@@ -1,4 +1,4 @@
-use Rattle.std.proofs.Common.{sym, ◌∙◌, ap, take, SFits, w64, rules, to_z-of_z}
+use Rattle.std.proofs.Common.{sym, ◌∙◌, ap, take, rules}
 use Rattle.std.specs.Option.{option_copied}
 use Rattle.forward_price.specs.PriceTables.{next_sheet}
 use Rattle.forward_price.proofs.SearchFacts.{none_listed_next, next_within}
@@ -10,9 +10,6 @@ returns-in_err-first c =
 
 pub returns : goal.returns
 returns c =
-    let fits : SFits w64 c.moment_of.result = search rules in
-    let at = to_z-of_z fits ∙ c.moment_of.ensures in
-    let point = rw at at c.place_after-end.ensures.point in
+    let point = rw c.moment_of.ensures at c.place_after-end.ensures.point in
     c.next_among.ensures
-    ∙ ap (λ z. next_sheet (take c.place_after-end.result c.args.sheets.now) c.args.asked.now z) (to_z-of_z c.ranges.receipt)
     ∙ next_within c.args.sheets.now c.args.asked.now c.args.receipt c.place_after-end.result c.in_ok-first.first.now c.in_ok-first.ensures.some.0 c.in_ok-first.ensures.some.1 c.requires.after point

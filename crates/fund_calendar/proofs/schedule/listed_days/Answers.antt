@@ -6,7 +6,7 @@ use Rattle.fund_calendar.proofs.schedule.listed_days.Goals as goal
 
 pub returns-in-None-clause-refused : goal.returns-in-None-clause-refused
 returns-in-None-clause-refused c =
-    let none = ap (rising c.loop-day.least) (sym c.instant.ensures) ∙ (sym c.rising.ensures.value ∙ c.in-None.is) in
+    let none = ap (rising c.loop-day.least) (sym c.instant.ensures) ∙ (sym c.rising.ensures ∙ c.in-None.is) in
     let here = not_rising_here (instant_on c.args.rule.now c.args.minute) c.args.dates.now c.loop-day.day-index c.loop-day.least c.day-item.result
     c.loop-day-test.true c.day-item.is none c.loop-day.invariant.fault in
     let items = c.loop-day.invariant.listed in
@@ -15,13 +15,13 @@ returns-in-None-clause-refused c =
 
 pub loop-day-preserved : goal.loop-day-preserved
 loop-day-preserved c =
-    let some = ap (rising c.loop-day.least) (sym c.instant.ensures) ∙ (sym c.rising.ensures.value ∙ c.in-Some.is) in
+    let some = ap (rising c.loop-day.least) (sym c.instant.ensures) ∙ (sym c.rising.ensures ∙ c.in-Some.is) in
     record {
       listed = listed_more (instant_on c.args.rule.now c.args.minute) c.args.dates.now c.loop-day.listed.items c.push.new.self.items c.loop-day.day-index c.day-item.result c.loop-day.least c.in-Some.moment
           c.loop-day-test.true c.day-item.is some c.loop-day.invariant.listed c.in_ok-push-in-Some.ensures.items;
-      fault = c.loop-day.invariant.fault ∙ fault_from-more (instant_on c.args.rule.now c.args.minute) c.args.dates.now c.loop-day.day-index c.loop-day.least c.day-item.result c.in-Some.moment
-          c.loop-day-test.true c.day-item.is some;
-      small = omega (arith, c.in-Some.ensures.bound);
+      fault = rw c.seconds-least.ensures.value (c.loop-day.invariant.fault ∙ fault_from-more (instant_on c.args.rule.now c.args.minute) c.args.dates.now c.loop-day.day-index c.loop-day.least c.day-item.result c.in-Some.moment
+          c.loop-day-test.true c.day-item.is some);
+      small = omega (arith, c.seconds-least.ensures.most);
     }
 
 pub returns-clause-listed : goal.returns-clause-listed

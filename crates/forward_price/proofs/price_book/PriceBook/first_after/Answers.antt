@@ -1,4 +1,4 @@
-use Rattle.std.proofs.Common.{◌≡◌, Some, None, option_map, refl, sym, ◌∙◌, ap, to_z-of_z}
+use Rattle.std.proofs.Common.{◌≡◌, Some, None, option_map, refl, sym, ◌∙◌, ap}
 use Rattle.forward_price.specs.PriceTables.{next_sheet}
 use Rattle.forward_price.proofs.PricingFacts.{next_sheet-next, next_sheet-pending}
 use Rattle.forward_price.proofs.price_book.PriceBook.first_after.Goals as goal
@@ -7,14 +7,12 @@ found : (c : goal.In-Some) → next_sheet c.args.self.now.table.sheets c.args.cl
 found c =
     let sheets_are : c.deref.result.now ≡ c.args.self.now.table.sheets = c.deref.ensures.value ∙ ap (λ b. b.table.sheets) c.self.view_is in
     ap (λ sheets. next_sheet sheets c.args.classes.now c.args.receipt) (sym sheets_are)
-    ∙ ap (λ z. next_sheet c.deref.result.now c.args.classes.now z) (sym (to_z-of_z c.ranges.receipt))
     ∙ sym c.in-Some.ensures
 
 none : (c : goal.In-None) → next_sheet c.args.self.now.table.sheets c.args.classes.now c.args.receipt ≡ None
 none c =
     let sheets_are : c.deref.result.now ≡ c.args.self.now.table.sheets = c.deref.ensures.value ∙ ap (λ b. b.table.sheets) c.self.view_is in
     ap (λ sheets. next_sheet sheets c.args.classes.now c.args.receipt) (sym sheets_are)
-    ∙ ap (λ z. next_sheet c.deref.result.now c.args.classes.now z) (sym (to_z-of_z c.ranges.receipt))
     ∙ sym c.in-None.ensures
 
 pub returns-in-Some-clause-computed : goal.returns-in-Some-clause-computed

@@ -1,11 +1,11 @@
-use Rattle.std.proofs.Common.{◌≡◌, ap, ◌∙◌, w64, to_z, of_z, to_z-of_z}
+use Rattle.std.proofs.Common.{◌≡◌, ap, ◌∙◌}
 use Rattle.fund_calendar.specs.PricingDays.{first_above}
-use Rattle.fund_calendar.proofs.LookUpLemmas.{least_if_some, none_above_if_none, within_if_some}
+use Rattle.fund_calendar.proofs.LookUpLemmas.{least_if_some, none_above_if_none}
 use Rattle.fund_calendar.proofs.calendar.Calendar.next_after.Goals as goal
 
 next_is : (c : goal.After-next_moment) → c.next_moment.result ≡ first_above c.self.inside.listed.items c.args.moment
 next_is c =
-    c.next_moment.ensures ∙ ap (λ days. first_above days (to_z w64 (of_z w64 c.args.moment))) c.deref.ensures.value ∙ ap (λ z. first_above c.self.inside.listed.items z) (to_z-of_z c.ranges.moment)
+    c.next_moment.ensures ∙ ap (λ days. first_above days c.args.moment) c.deref.ensures.value
 
 pub returns-clause-least : goal.returns-clause-least
 returns-clause-least c =
@@ -14,7 +14,3 @@ returns-clause-least c =
 pub returns-clause-none : goal.returns-clause-none
 returns-clause-none c =
     rw (← c.self.view_is) (none_above_if_none c.self.inside.listed.items c.args.moment c.next_moment.result (next_is c))
-
-pub returns-clause-within : goal.returns-clause-within
-returns-clause-within c =
-    within_if_some c.self.inside.listed.items c.args.moment c.next_moment.result c.self.invariant.within (next_is c)
