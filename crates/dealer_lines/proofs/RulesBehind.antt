@@ -1,5 +1,5 @@
 -- The first rule that a line breaks behind the orders of earlier lines.
-use Rattle.std.proofs.Common.{Bool, List, None, Option, Some, [], ap, arith, cond, count_by, false, find, fold, is_none, is_some, length, length-append, map, nat_abs, nat_le, nat_lt, not, option_map, option_to_list, pos, refl, subst, sym, true, ℕ, ◌&&◌, ◌++◌, ◌+◌, ◌-◌, ◌<◌, ◌==◌, ◌∙◌, ◌∷◌, ◌≡◌, ◌≤◌, ◌||◌}
+use Rattle.std.proofs.Common.{Bool, List, None, Option, Some, [], ap, arith, cond, count_by, false, find, fold, is_none, is_some, length, length-append, map, nat_le, nat_lt, not, option_map, option_to_list, refl, subst, sym, true, ℕ, ◌&&◌, ◌++◌, ◌+◌, ◌-◌, ◌<◌, ◌==◌, ◌∙◌, ◌∷◌, ◌≡◌, ◌≤◌, ◌||◌}
 use Rattle.std.proofs.lemmas.List.Folds.{list_any-append}
 use Rattle.std.proofs.lemmas.List.{length-map}
 use Rattle.std.proofs.lemmas.List.Sums.{sum_by-append}
@@ -233,7 +233,7 @@ module _ (journal : Journal) (earlier : List Placed) (now : ℕ) (caller : Calle
   ended-by class classes =
       when
       (list_all (is_of_calendar (book_behind journal) (calendar_of (book_behind journal) class)) classes
-      && is_none (option_map nat_abs (due_of (book_behind journal).table classes (pos line.receipt))))
+      && is_none (due_of (book_behind journal).table classes line.receipt))
       Refusal.CalendarEnded
 
   ended : refused_order calendar_ended behind asked ≡ refused_order calendar_ended at_journal sale
@@ -249,7 +249,7 @@ module _ (journal : Journal) (earlier : List Placed) (now : ℕ) (caller : Calle
       when (is_published_at (book_behind journal) class due || nat_lt (due + window) now) (Refusal.LateForDealer due)
 
   abbrev due-by : List ℕ → Option ℕ
-  due-by classes = option_map nat_abs (due_of (book_behind journal).table classes (pos line.receipt))
+  due-by classes = due_of (book_behind journal).table classes line.receipt
 
   window-same : (by : Caller) → window_of behind by ≡ window_of at_journal by
   window-same (Caller.Dealer dealer) =

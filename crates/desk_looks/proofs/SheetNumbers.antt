@@ -1,13 +1,11 @@
 -- The sheet that an event of a lawful journal publishes stands among all of them by its calendar and moment, with the number
 -- that it was given: one more than the sheets before it.
-use Rattle.std.proofs.Common.{All, AllPairs, List, None, Option, Some, [], ap, append-nil, append_assoc, arith, cond, drop, false, find, length, map, pos, refl, slice_get, subst, suc, sym, take, true, unwrap_or, zero, ℕ, ℤ, ◌++◌, ◌+◌, ◌<ℤ◌, ◌==◌, ◌∙◌, ◌∷◌, ◌≡◌}
+use Rattle.std.proofs.Common.{All, AllPairs, List, None, Option, Some, [], ap, append-nil, append_assoc, arith, cond, drop, false, find, length, map, refl, slice_get, subst, suc, sym, take, true, unwrap_or, zero, ℕ, ◌++◌, ◌+◌, ◌<◌, ◌==◌, ◌∙◌, ◌∷◌, ◌≡◌}
 use Rattle.std.proofs.lemmas.Bool.{and_from, and_parts, eqb-true, true≢false}
-use Rattle.std.proofs.lemmas.Bool.Decides.{Decides-eqb, Decides-int_eq}
-use Rattle.std.proofs.lemmas.Int.{ints}
+use Rattle.std.proofs.lemmas.Bool.Decides.{Decides-eqb}
 use Rattle.std.proofs.lemmas.List.{length-map, map-append}
 use Rattle.std.proofs.lemmas.List.Elements.{All-head, All-map, All-tail}
 use Rattle.std.specs.List.{cons_option}
-use Rattle.std.specs.Ordering.{int_eq}
 use Rattle.std.specs.Prelude.{fold, option_map}
 use Rattle.agent_events.specs.Events.{Event}
 use Rattle.agent_events.specs.declared.event.EventKind.{EventKind}
@@ -28,13 +26,13 @@ use Rattle.share_lots.proofs.LotLemmas.{AllPairs-head, AllPairs-tail}
 -- a sheet by its calendar and moment, as published and as sent
 record Mark : Type 0 where
   pub calendar : ℕ
-  pub moment : ℤ
+  pub moment : ℕ
 
 abbrev mark_of : Sheet → Mark
 mark_of sheet = record { calendar = sheet.calendar; moment = sheet.moment }
 
 abbrev mark_sent : SheetForm → Mark
-mark_sent form = record { calendar = form.calendar; moment = pos form.moment }
+mark_sent form = record { calendar = form.calendar; moment = form.moment }
 
 -- ---- the sheets of a table are those that its journal publishes
 
@@ -101,18 +99,18 @@ all-middle : {X : Type 0} (P : X → Type 0) (xs : List X) (y : X) (ys : List X)
 all-middle P [] y ys all = All-head P y ys all
 all-middle P (x ∷ xs) y ys all = all-middle P xs y ys (All-tail P x (xs ++ y ∷ ys) all)
 
-marks-differ : (sheet : Sheet) (sheets : List Sheet) → All (λ later. sheet.calendar ≡ later.calendar → sheet.moment <ℤ later.moment) sheets → All (λ mark. sheet.calendar ≡ mark.calendar → sheet.moment <ℤ mark.moment) (map mark_of sheets)
-marks-differ sheet sheets rise = All-map (λ (mark : Mark). sheet.calendar ≡ mark.calendar → sheet.moment <ℤ mark.moment) mark_of sheets rise
+marks-differ : (sheet : Sheet) (sheets : List Sheet) → All (λ later. sheet.calendar ≡ later.calendar → sheet.moment < later.moment) sheets → All (λ mark. sheet.calendar ≡ mark.calendar → sheet.moment < mark.moment) (map mark_of sheets)
+marks-differ sheet sheets rise = All-map (λ (mark : Mark). sheet.calendar ≡ mark.calendar → sheet.moment < mark.moment) mark_of sheets rise
 
-elsewhere : (sheet : Sheet) (calendar : ℕ) (moment : ℤ) → (sheet.calendar ≡ calendar → sheet.moment <ℤ moment) → is_sheet_at calendar moment sheet ≡ false
+elsewhere : (sheet : Sheet) (calendar : ℕ) (moment : ℕ) → (sheet.calendar ≡ calendar → sheet.moment < moment) → is_sheet_at calendar moment sheet ≡ false
 elsewhere sheet calendar moment rises =
     elim (is_sheet_at calendar moment sheet) as (λ b. is_sheet_at calendar moment sheet ≡ b → b ≡ false) [
       | false ↦ λ e. refl
       | true ↦ λ e.
-          let parts = and_parts (sheet.calendar == calendar) (int_eq sheet.moment moment) e in
-          let same = (Decides-int_eq sheet.moment moment).0 parts.1 in
+          let parts = and_parts (sheet.calendar == calendar) (sheet.moment == moment) e in
+          let same = (Decides-eqb sheet.moment moment).0 parts.1 in
           let less = rises (eqb-true sheet.calendar calendar parts.0) in
-          absurd (omega (arith, ints, same, less))
+          absurd (omega (arith, same, less))
     ] refl
 
 first-mark : (a b : Mark) (xs ys : List Mark) → a ∷ xs ≡ b ∷ ys → a ≡ b
@@ -121,7 +119,7 @@ first-mark a b xs ys same = ap (λ (zs : List Mark). unwrap_or (slice_get zs 0) 
 other-marks : (a b : Mark) (xs ys : List Mark) → a ∷ xs ≡ b ∷ ys → xs ≡ ys
 other-marks a b xs ys same = ap (λ (zs : List Mark). drop 1 zs) same
 
-found-as : (first : ℕ) (sheets : List Sheet) (before : List Mark) (calendar : ℕ) (moment : ℤ) (behind : List Mark) → NumberedFrom first sheets → AllPairs (λ a b. a.calendar ≡ b.calendar → a.moment <ℤ b.moment) sheets → map mark_of sheets ≡ before ++ record { calendar = calendar; moment = moment } ∷ behind → number_at sheets calendar moment ≡ Some (length before + first)
+found-as : (first : ℕ) (sheets : List Sheet) (before : List Mark) (calendar : ℕ) (moment : ℕ) (behind : List Mark) → NumberedFrom first sheets → AllPairs (λ a b. a.calendar ≡ b.calendar → a.moment < b.moment) sheets → map mark_of sheets ≡ before ++ record { calendar = calendar; moment = moment } ∷ behind → number_at sheets calendar moment ≡ Some (length before + first)
 found-as first [] [] calendar moment behind numbers rise marks = absurd (no-mark marks)
   where
     no-mark : ([] ≡ record { calendar = calendar; moment = moment } ∷ behind) → ⊥
@@ -132,16 +130,16 @@ found-as first [] (mark ∷ before) calendar moment behind numbers rise marks = 
     no-mark e = cc
 found-as first (sheet ∷ sheets) [] calendar moment behind numbers rise marks =
     let mark = first-mark (mark_of sheet) (record { calendar = calendar; moment = moment }) (map mark_of sheets) behind marks in
-    let here : is_sheet_at calendar moment sheet ≡ true = and_from (sheet.calendar == calendar) (int_eq sheet.moment moment) ((Decides-eqb sheet.calendar calendar).1 (ap (λ (m : Mark). m.calendar) mark)) ((Decides-int_eq sheet.moment moment).1 (ap (λ (m : Mark). m.moment) mark)) in
+    let here : is_sheet_at calendar moment sheet ≡ true = and_from (sheet.calendar == calendar) (sheet.moment == moment) ((Decides-eqb sheet.calendar calendar).1 (ap (λ (m : Mark). m.calendar) mark)) ((Decides-eqb sheet.moment moment).1 (ap (λ (m : Mark). m.moment) mark)) in
     ap (λ b. option_map (λ (s : Sheet). s.number) (cond b (Some sheet) (find (is_sheet_at calendar moment) sheets))) here
     ∙ ap (λ n. Some n) (numbered-first first sheet sheets numbers ∙ omega arith)
 found-as first (sheet ∷ sheets) (mark ∷ before) calendar moment behind numbers rise marks =
     let own : Mark = record { calendar = calendar; moment = moment } in
     let rest = other-marks (mark_of sheet) mark (map mark_of sheets) (before ++ own ∷ behind) marks in
-    let later = all-middle (λ (m : Mark). sheet.calendar ≡ m.calendar → sheet.moment <ℤ m.moment) before own behind
-    (subst (All (λ (m : Mark). sheet.calendar ≡ m.calendar → sheet.moment <ℤ m.moment)) rest (marks-differ sheet sheets (AllPairs-head (λ (a b : Sheet). a.calendar ≡ b.calendar → a.moment <ℤ b.moment) sheet sheets rise))) in
+    let later = all-middle (λ (m : Mark). sheet.calendar ≡ m.calendar → sheet.moment < m.moment) before own behind
+    (subst (All (λ (m : Mark). sheet.calendar ≡ m.calendar → sheet.moment < m.moment)) rest (marks-differ sheet sheets (AllPairs-head (λ (a b : Sheet). a.calendar ≡ b.calendar → a.moment < b.moment) sheet sheets rise))) in
     ap (λ b. option_map (λ (s : Sheet). s.number) (cond b (Some sheet) (find (is_sheet_at calendar moment) sheets))) (elsewhere sheet calendar moment later)
-    ∙ (found-as (suc first) sheets before calendar moment behind (numbered-rest first sheet sheets numbers) (AllPairs-tail (λ (a b : Sheet). a.calendar ≡ b.calendar → a.moment <ℤ b.moment) sheet sheets rise) rest
+    ∙ (found-as (suc first) sheets before calendar moment behind (numbered-rest first sheet sheets numbers) (AllPairs-tail (λ (a b : Sheet). a.calendar ≡ b.calendar → a.moment < b.moment) sheet sheets rise) rest
     ∙ ap (λ n. Some n) (omega arith))
 
 pub stands_as_numbered : (journal : Journal) (place : ℕ) (event : Event) → LawfulStandsAsNumbered journal place event
@@ -154,7 +152,7 @@ stands_as_numbered journal place event lawful there = by event.kind refl
         let marks : map mark_of sheets ≡ map mark_sent (each_in sheet_in (take place journal)) ++ mark_sent form ∷ map mark_sent split.behind =
         corrected-marks (each_in price_fix_in journal) (table_of journal).sheets
         ∙ (marks-are journal ∙ (ap (map mark_sent) split.is ∙ map-append mark_sent (each_in sheet_in (take place journal)) (form ∷ split.behind))) in
-        found-as 1 sheets (map mark_sent (each_in sheet_in (take place journal))) form.calendar (pos form.moment) (map mark_sent split.behind)
+        found-as 1 sheets (map mark_sent (each_in sheet_in (take place journal))) form.calendar form.moment (map mark_sent split.behind)
         (λ i d short. (numbered journal lawful).corrected.each i d short) (orderly_tables journal lawful).corrected.rises marks
         ∙ ap (λ n. Some (n + 1)) (length-map (each_in sheet_in (take place journal)) mark_sent)
     by (EventKind.Calendar form) is = λ sheet. absurd (true≢false (sym sheet))

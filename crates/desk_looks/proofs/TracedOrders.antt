@@ -1,6 +1,6 @@
 -- What became of an order, in any book of its table and by the trades of its household alone.
 use Rattle.std.proofs.Common.{Bool, List, None, Option, Some, ap, cond, refl, sym, ◌∙◌, ◌≡◌}
-use Rattle.std.specs.Prelude.{nat_abs, option_map, pos, unwrap_or}
+use Rattle.std.specs.Prelude.{option_map, unwrap_or}
 use Rattle.agent_events.specs.declared.order.OrderRow.{OrderRow}
 use Rattle.agent_events.specs.declared.reply.OrderState.{OrderState}
 use Rattle.agent_events.specs.declared.reply.TraceReply.{TraceReply}
@@ -15,7 +15,7 @@ use Rattle.register_machine.specs.queries.Trace.{bare_trace, trace_by, trace_of_
 -- of the table alone
 abbrev traced_by : Table → OrderRow → Bool → Option Trade → TraceReply
 traced_by table row struck found =
-    let due = unwrap_or (option_map nat_abs (due_of table (classes_in row.order.body) (pos row.receipt))) 0 in
+    let due = unwrap_or (due_of table (classes_in row.order.body) row.receipt) 0 in
     cond struck (bare_trace row OrderState.Struck due) (elim found as (λ _. TraceReply) [
       | None ↦ bare_trace row OrderState.Pending due
       | Some trade ↦ trace_of_trade row trade trade.outcome

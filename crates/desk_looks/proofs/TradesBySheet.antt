@@ -14,7 +14,6 @@ use Rattle.register_laws.proofs.OrdersInTurn.{NumberedFrom, numbered-first, numb
 use Rattle.register_laws.proofs.ReplayTurns.{All-one}
 use Rattle.register_machine.specs.pricing.CorrectedBook.{Book}
 use Rattle.register_machine.specs.pricing.DividendRates.{rate_at}
-use Rattle.register_machine.specs.pricing.PublishedTable.{moment_of}
 use Rattle.register_machine.specs.replay.DayStep.{day_after_order, day_after_orders, day_step}
 use Rattle.register_machine.specs.replay.Dividend.{cash_dividend_trade, day_after_class, day_after_dividend, day_after_dividends, day_after_rate, dividend_trade, keys_of_class}
 use Rattle.register_machine.specs.replay.Letter.{day_after_letter_end, day_after_letter_ends, keys_of_letters_over, letter_end_trade}
@@ -87,10 +86,10 @@ fold-adds number step adds (x ∷ xs) day =
 
 class-adds : (book : Book) (sheet : Sheet) (day : Day) (price : ℕ × ℕ) → Adds sheet.number day.trades (day_after_class book.rates sheet day price).trades
 class-adds book sheet day price =
-    elim (rate_at book.rates price.0 (moment_of sheet) == 0) as (λ b. Adds sheet.number day.trades (cond b day (day_after_rate sheet (rate_at book.rates price.0 (moment_of sheet)) price day)).trades) [
+    elim (rate_at book.rates price.0 sheet.moment == 0) as (λ b. Adds sheet.number day.trades (cond b day (day_after_rate sheet (rate_at book.rates price.0 sheet.moment) price day)).trades) [
       | true ↦ adds-nothing sheet.number day.trades
       | false ↦
-          let rate = rate_at book.rates price.0 (moment_of sheet) in
+          let rate = rate_at book.rates price.0 sheet.moment in
           fold-adds sheet.number (day_after_dividend sheet rate price.1)
           (λ d key. let here = dividend-turns book sheet rate price.1 d key in turn-adds book sheet d (day_after_dividend sheet rate price.1 d key) here.turn here.is)
           (keys_of_class price.0 day.register) day

@@ -1,5 +1,5 @@
 -- What the reply to an event reads of the journal before it: the number of its sheets, and for a correction its gains.
-use Rattle.std.specs.Prelude.{List, None, Option, Some, is_some, length, pos, slice_get, take, true, ℕ, ◌+◌, ◌≡◌}
+use Rattle.std.specs.Prelude.{List, None, Option, Some, is_some, length, slice_get, take, true, ℕ, ◌+◌, ◌≡◌}
 use Rattle.agent_events.specs.Events.{Event}
 use Rattle.agent_events.specs.declared.event.EventKind.{EventKind}
 use Rattle.agent_events.specs.declared.reply_lists.ClassGain.{ClassGain}
@@ -28,7 +28,7 @@ AreGainsOf table before event gains =
 
 -- the number of the sheet that an event publishes, among the published ones; 0 where it is none of them
 abbrev pub number_among : List Sheet → EventKind → Option ℕ
-number_among sheets (EventKind.Sheet form) = number_at sheets form.calendar (pos form.moment)
+number_among sheets (EventKind.Sheet form) = number_at sheets form.calendar form.moment
 number_among sheets _ = None
 
 -- the sheet of an event stands among the published ones by the number that it was given

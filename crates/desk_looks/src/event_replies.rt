@@ -67,7 +67,7 @@ fn number_of(kind: &EventKind, prices: &PriceBook) -> u32
 {
     match kind {
         EventKind::Sheet(form) => prices
-            .sheet_at(form.calendar.number(), form.moment.seconds())
+            .sheet_at(form.calendar.number(), form.moment)
             .unwrap_or(0),
         _ => 0,
     }

@@ -1,5 +1,5 @@
 //! The reply to a look at an order: pending, struck, filled or unfilled, with its numbers.
-ghost use Rattle.std.specs.Prelude.{◌≡◌, false, nat_abs, option_map, pos, unwrap_or};
+ghost use Rattle.std.specs.Prelude.{◌≡◌, false, option_map, unwrap_or};
 ghost use Rattle.std.specs.Option.{option_copied};
 ghost use Rattle.agent_events.specs.declared.reply.Reply.{Reply as AnyReply};
 ghost use Rattle.forward_price.specs.PriceTables.{next_sheet};
@@ -77,9 +77,9 @@ fn sheet_of(prices: &PriceBook, row: &OrderRow) -> Option<u32>
 
 fn sheet_after(prices: &PriceBook, classes: &[u32], receipt: Moment) -> Option<u32>
     ensures { result ≡ option_map (λ sheet. sheet.number)
-        (next_sheet prices.now.table.sheets classes.now (pos receipt)) }
+        (next_sheet prices.now.table.sheets classes.now receipt) }
 {
-    prices.first_after(receipt.seconds(), classes)
+    prices.first_after(receipt, classes)
 }
 
 // The moment at which an order is due, 0 where it is due at none.
@@ -103,12 +103,9 @@ fn due_at(prices: &PriceBook, body: &Body, receipt: Moment) -> Option<Moment>
 }
 
 fn due_of(prices: &PriceBook, classes: &[u32], receipt: Moment) -> Option<Moment>
-    ensures { result ≡ option_map nat_abs (due_of prices.now.table classes.now (pos receipt)) }
+    ensures { result ≡ due_of prices.now.table classes.now receipt }
 {
-    match prices.due(classes, receipt.seconds()) {
-        Some(due) => Moment::new(due),
-        None => None,
-    }
+    prices.due(classes, receipt)
 }
 
 // An order without numbers.

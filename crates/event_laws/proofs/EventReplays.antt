@@ -1,6 +1,5 @@
 -- What one event more does to the replay of a lawful journal.
-use Rattle.std.proofs.Common.{All, AllPairs, Bool, Contains, List, None, Some, [], ap, append-nil, arith, cond, false, filter, find, get_or, length, option_map, option_to_list, pos, refl, subst, sym, take, true, ℕ, ◌+◌, ◌++◌, ◌<◌, ◌==◌, ◌||◌, ◌∙◌, ◌∷◌, ◌≡◌, ◌≤ℤ◌, ◌≤◌}
-use Rattle.std.proofs.lemmas.Int.{ints}
+use Rattle.std.proofs.Common.{All, AllPairs, Bool, Contains, List, None, Some, [], ap, append-nil, arith, cond, false, filter, find, get_or, length, option_map, option_to_list, refl, subst, sym, take, true, ℕ, ◌+◌, ◌++◌, ◌<◌, ◌==◌, ◌||◌, ◌∙◌, ◌∷◌, ◌≡◌, ◌≤◌}
 use Rattle.std.proofs.lemmas.Bool.{and_parts, eqb-true, or_parts, true≢false}
 use Rattle.std.proofs.lemmas.List.{get_or_append_left, get_or_push, length-append, take-append-le}
 use Rattle.std.proofs.lemmas.List.Elements.{All-cons, All-filter, All-nil, All-take, Contains-get_or, filter-append}
@@ -33,7 +32,6 @@ use Rattle.register_laws.proofs.NoIdentityTwice.{dividend_free}
 use Rattle.register_laws.proofs.NothingBefore.{last-brought}
 use Rattle.register_laws.proofs.OrderReach.{event_reach}
 use Rattle.register_laws.proofs.SheetsClimb.{sheets_never_fall}
-use Rattle.register_laws.proofs.SheetsDated.{dated}
 use Rattle.register_laws.proofs.TablesAreOrderly.{numbered}
 use Rattle.register_laws.proofs.Tests.{is-false}
 use Rattle.register_laws.specs.CorrectionReach.{order_changed}
@@ -50,7 +48,6 @@ use Rattle.register_machine.specs.pricing.CorrectedBook.{Book, sheet_of}
 use Rattle.register_machine.specs.pricing.CorrectedOrders.{stands}
 use Rattle.register_machine.specs.pricing.DividendRates.{declares, fixes_rate, rate_at}
 use Rattle.register_machine.specs.pricing.OrderClasses.{class_of, classes_in, target_of}
-use Rattle.register_machine.specs.pricing.PublishedTable.{moment_of}
 use Rattle.register_machine.specs.replay.Replay.{all_in_turn, day_after_sheet, first_day, is_priced_on, orders_on, priced_in, priced_orders, replay, replay_over, replay_to}
 use Rattle.register_machine.specs.rules.InOrder.{broken_rule}
 use Rattle.register_machine.specs.rules.Orders.{is_published_at}
@@ -92,14 +89,14 @@ known-rows journal lawful = All-filter stands (IsKnownRow (known_in journal) (na
 -- ---- what each sheet reads
 
 -- a dividend is declared for a sheet that isn't published
-other-moment : (journal : Journal) → IsLawful journal → (form : DividendForm) → is_published_at (book_behind journal) form.class form.moment ≡ false → (sheet : Sheet) → Contains (book_behind journal).table.sheets sheet → (class : ℕ) → lists_class sheet.prices class ≡ true → declares class (moment_of sheet) form ≡ false
+other-moment : (journal : Journal) → IsLawful journal → (form : DividendForm) → is_published_at (book_behind journal) form.class form.moment ≡ false → (sheet : Sheet) → Contains (book_behind journal).table.sheets sheet → (class : ℕ) → lists_class sheet.prices class ≡ true → declares class sheet.moment form ≡ false
 other-moment journal lawful form unpublished sheet among class lists =
-    is-false (declares class (moment_of sheet) form) (λ is.
-    let both = and_parts (form.class == class) (form.moment == moment_of sheet) is in
+    is-false (declares class sheet.moment form) (λ is.
+    let both = and_parts (form.class == class) (form.moment == sheet.moment) is in
     let there = published-there journal lawful sheet class among lists in
     true≢false
     (sym (ap (λ c. is_published_at (book_behind journal) c form.moment) (eqb-true form.class class both.0)
-    ∙ (ap (is_published_at (book_behind journal) class) (eqb-true form.moment (moment_of sheet) both.1) ∙ there))
+    ∙ (ap (is_published_at (book_behind journal) class) (eqb-true form.moment sheet.moment both.1) ∙ there))
     ∙ unpublished))
 
 one-more-declared : (forms : List DividendForm) (form : DividendForm) (class moment : ℕ) → declares class moment form ≡ false → find (declares class moment) (forms ++ form ∷ []) ≡ find (declares class moment) forms
@@ -138,13 +135,11 @@ earlier-number journal lawful form k d short =
     (λ same. let is = (numbered journal lawful).corrected.each k d short in omega (arith, same, is, short))
 
 -- each sheet before a new one isn't later
-pub never-after : (journal : Journal) (event : Event) → IsLawful (with_event journal event) → (form : SheetForm) → event.kind ≡ EventKind.Sheet form → All (λ (s : Sheet). s.moment ≤ℤ pos form.moment) (book_behind journal).table.sheets
+pub never-after : (journal : Journal) (event : Event) → IsLawful (with_event journal event) → (form : SheetForm) → event.kind ≡ EventKind.Sheet form → All (λ (s : Sheet). s.moment ≤ form.moment) (book_behind journal).table.sheets
 never-after journal event lawful form is k d short =
-    let at : (get_or sheets k d).moment ≡ pos (moment_of (get_or sheets k d)) = dated journal k d short in
     let low : get_or (sheets ++ sheet_behind journal form ∷ []) k d ≡ get_or sheets k d = get_or_append_left sheets (sheet_behind journal form ∷ []) d k short in
     let high : get_or (sheets ++ sheet_behind journal form ∷ []) (length sheets) d ≡ sheet_behind journal form = get_or_push sheets (sheet_behind journal form) d (length sheets) refl in
-    let le : moment_of (get_or sheets k d) ≤ form.moment = subst (λ (s : Sheet). moment_of s ≤ form.moment) low (subst (λ (s : Sheet). moment_of (get_or (sheets ++ sheet_behind journal form ∷ []) k d) ≤ moment_of s) high (rise k (length sheets) d short (length-more sheets (sheet_behind journal form)))) in
-    omega (arith, ints, at, le)
+    subst (λ (s : Sheet). s.moment ≤ form.moment) low (subst (λ (s : Sheet). (get_or (sheets ++ sheet_behind journal form ∷ []) k d).moment ≤ s.moment) high (rise k (length sheets) d short (length-more sheets (sheet_behind journal form))))
   where
     sheets : List Sheet
     sheets = (book_behind journal).table.sheets
@@ -152,8 +147,8 @@ never-after journal event lawful form is k d short =
     after : (book_behind (with_event journal event)).table.sheets ≡ sheets ++ sheet_behind journal form ∷ []
     after = ap (λ (b : Book). b.table.sheets) (book_goes_on journal event lawful ∙ ap (book_after (length journal) (book_behind journal) event.moment) is)
 
-    rise : AllPairs (λ (sheet later : Sheet). moment_of sheet ≤ moment_of later) (sheets ++ sheet_behind journal form ∷ [])
-    rise = subst (λ all. AllPairs (λ (sheet later : Sheet). moment_of sheet ≤ moment_of later) all) after (sheets_never_fall (with_event journal event) lawful)
+    rise : AllPairs (λ (sheet later : Sheet). sheet.moment ≤ later.moment) (sheets ++ sheet_behind journal form ∷ [])
+    rise = subst (λ all. AllPairs (λ (sheet later : Sheet). sheet.moment ≤ later.moment) all) after (sheets_never_fall (with_event journal event) lawful)
 
     length-more : (xs : List Sheet) (x : Sheet) → length xs < length (xs ++ x ∷ [])
     length-more xs x = let more = length-append xs (x ∷ []) in omega (arith, more)
@@ -176,7 +171,7 @@ sheet-agrees journal event lawful (EventKind.Sheet form) is plain other k d shor
       (standing-more (book_behind journal).table.sheets (sheet_behind journal form) (get_or (book_behind journal).table.sheets k d).number (book_behind journal).orders past (earlier-number journal (last-brought journal event lawful).0 form k d short));
 }
   where
-    past : All (λ (s : Sheet). s.moment ≤ℤ pos form.moment) (book_behind journal).table.sheets
+    past : All (λ (s : Sheet). s.moment ≤ form.moment) (book_behind journal).table.sheets
     past = never-after journal event lawful form is
 sheet-agrees journal event lawful (EventKind.Order placed) is plain other k d short = record {
   before = λ class. refl;
@@ -186,7 +181,7 @@ sheet-agrees journal event lawful (EventKind.Order placed) is plain other k d sh
 }
 sheet-agrees journal event lawful (EventKind.Dividend form) is plain other k d short = record {
   before = λ class. refl;
-  rates = λ i e within. rates-declared (book_behind journal) form (get_or sheet.prices i e).0 (moment_of sheet)
+  rates = λ i e within. rates-declared (book_behind journal) form (get_or sheet.prices i e).0 sheet.moment
       (other-moment journal last.0 form unpublished sheet (Contains-get_or (book_behind journal).table.sheets k d short) (get_or sheet.prices i e).0 (listed-there sheet.prices i e within));
   orders = refl;
 }

@@ -1,5 +1,5 @@
 -- A class on a sheet of a lawful journal is of the sheet's calendar.
-use Rattle.std.proofs.Common.{Bool, Contains, None, Option, Some, [], ap, false, option_map, option_to_list, pos, refl, sym, true, ℕ, ◌&&◌, ◌==◌, ◌||◌, ◌∙◌, ◌∷◌, ◌≡◌}
+use Rattle.std.proofs.Common.{Bool, Contains, None, Option, Some, [], ap, false, option_map, option_to_list, refl, sym, true, ℕ, ◌&&◌, ◌==◌, ◌||◌, ◌∙◌, ◌∷◌, ◌≡◌}
 use Rattle.std.proofs.lemmas.Bool.{and_from, eqb-true, true≢false}
 use Rattle.std.proofs.lemmas.List.Folds.{list_any-append}
 use Rattle.std.specs.List.{list_any}
@@ -38,7 +38,7 @@ is_of class calendar form = form.class == class && form.calendar == calendar
 
 opening-more : (class calendar : ℕ) (table : Table) (moment : ℕ) (kind : EventKind) → list_any (opens class calendar) (table_by table moment kind).classes ≡ (list_any (opens class calendar) table.classes || list_any (is_of class calendar) (option_to_list (class_in kind)))
 opening-more class calendar table moment (EventKind.Class form) =
-    list_any-append (opens class calendar) table.classes (record { class = form.class; calendar = form.calendar; opened = pos moment } ∷ [])
+    list_any-append (opens class calendar) table.classes (record { class = form.class; calendar = form.calendar; opened = moment } ∷ [])
 opening-more class calendar table moment _ = sym (or-same (list_any (opens class calendar) table.classes))
 
 abbrev OpensAsSent : Journal → Type 0

@@ -1,13 +1,11 @@
 -- A new order waits: it is on no sheet that was published before it. And an order that may be cancelled is on none.
-use Rattle.std.proofs.Common.{All, Contains, List, None, Option, Some, [], ap, arith, cond, false, get_or, length, map, option_map, option_to_list, pos, refl, subst, sym, true, ℕ, ◌&&◌, ◌+◌, ◌==◌, ◌∙◌, ◌∷◌, ◌≡◌, ◌≤ℤ◌, ◌≤◌}
-use Rattle.std.proofs.lemmas.Int.{ints}
+use Rattle.std.proofs.Common.{All, Contains, List, None, Option, Some, [], ap, arith, cond, false, get_or, length, map, option_map, option_to_list, refl, subst, sym, true, ℕ, ◌&&◌, ◌+◌, ◌==◌, ◌∙◌, ◌∷◌, ◌≡◌, ◌≤◌}
 use Rattle.std.proofs.lemmas.Bool.{and_from, and_parts, le-leb, or_parts, true≢false}
-use Rattle.std.proofs.lemmas.Bool.Decides.{Decides-int_eq}
+use Rattle.std.proofs.lemmas.Bool.Decides.{Decides-eqb}
 use Rattle.std.proofs.lemmas.List.Elements.{All-contains, All-contains_itself, All-map, All-weaker}
 use Rattle.std.specs.List.{list_all, list_any}
 use Rattle.std.specs.Option.{option_map_or}
-use Rattle.std.specs.Ordering.{int_eq}
-use Rattle.std.specs.Prelude.{find, int_lt, is_some, nat_le, nat_lt, option_and_then}
+use Rattle.std.specs.Prelude.{find, nat_lt, is_some, nat_le, option_and_then}
 use Rattle.agent_events.specs.Events.{Event, event_of, order_request, placed_now, request_of}
 use Rattle.agent_events.specs.declared.event.EventKind.{EventKind}
 use Rattle.agent_events.specs.declared.event.Placed.{Placed}
@@ -35,7 +33,6 @@ use Rattle.register_laws.proofs.ListParts.{any-agree}
 use Rattle.register_laws.proofs.NothingBefore.{last-brought}
 use Rattle.register_laws.proofs.OneTradeAnOrder.{one-named}
 use Rattle.register_laws.proofs.RulesByName.{not_broken}
-use Rattle.register_laws.proofs.SheetsDated.{dated}
 use Rattle.register_laws.proofs.TablesAreOrderly.{kept, priced_when_due_in}
 use Rattle.register_laws.proofs.Tests.{any-of-map, find-any}
 use Rattle.register_laws.specs.CorrectionReach.{IsOnNone, has_sheet_in, is_on_sheet}
@@ -50,7 +47,7 @@ use Rattle.register_machine.specs.pricing.CorrectedBook.{Book, due_moment, sheet
 use Rattle.register_machine.specs.pricing.CorrectedOrders.{is_named, order_named, row_as_sent, stands}
 use Rattle.register_machine.specs.pricing.CorrectedPrices.{sheet_as_corrected}
 use Rattle.register_machine.specs.pricing.OrderClasses.{class_of, classes_in, target_of}
-use Rattle.register_machine.specs.pricing.PublishedTable.{moment_of, table_of}
+use Rattle.register_machine.specs.pricing.PublishedTable.{table_of}
 use Rattle.register_machine.specs.replay.Replay.{is_priced_on, priced_in}
 use Rattle.register_machine.specs.rules.InOrder.{Rule, broken_rule}
 use Rattle.register_machine.specs.rules.Orders.{is_late, is_published_at, late_by, late_cancel_of, window_of}
@@ -59,14 +56,14 @@ use Rattle.register_machine.specs.run.Verdicts.{due_now}
 -- ---- sheets of a lawful journal
 
 -- the moment of each is past
-pub past-sheets : (journal : Journal) → IsLawful journal → All (λ (s : Sheet). s.moment ≤ℤ pos (last_moment journal)) (book_behind journal).table.sheets
+pub past-sheets : (journal : Journal) → IsLawful journal → All (λ (s : Sheet). s.moment ≤ last_moment journal) (book_behind journal).table.sheets
 past-sheets journal lawful =
-    All-map (λ (s : Sheet). s.moment ≤ℤ pos (last_moment journal)) (sheet_as_corrected (each_in price_fix_in journal)) (table_of journal).sheets (kept journal lawful).past
+    All-map (λ (s : Sheet). s.moment ≤ last_moment journal) (sheet_as_corrected (each_in price_fix_in journal)) (table_of journal).sheets (kept journal lawful).past
 
 -- what prices an order is one of the sheets, lists its classes and comes behind its receipt
 pub record Prices (sheets : List Sheet) (row : OrderRow) (s : Sheet) : Type 0 where
   among : Contains sheets s
-  passes : prices_order (classes_in row.order.body) (pos row.receipt) s ≡ true
+  passes : prices_order (classes_in row.order.body) row.receipt s ≡ true
 
 abbrev PricesIfFound : List Sheet → OrderRow → Option Sheet → Type 0
 PricesIfFound sheets row found = HasIfFound (Prices sheets row) found
@@ -74,8 +71,8 @@ PricesIfFound sheets row found = HasIfFound (Prices sheets row) found
 found-prices : (sheets : List Sheet) (row : OrderRow) (s : Sheet) → sheet_of sheets row ≡ Some s → Prices sheets row s
 found-prices sheets row s is =
     subst (PricesIfFound sheets row) is
-    (best-has (Prices sheets row) (prices_order (classes_in row.order.body) (pos row.receipt)) is_earlier None sheets
-    (All-weaker (Contains sheets) (λ (x : Sheet). prices_order (classes_in row.order.body) (pos row.receipt) x ≡ true → Prices sheets row x)
+    (best-has (Prices sheets row) (prices_order (classes_in row.order.body) row.receipt) is_earlier None sheets
+    (All-weaker (Contains sheets) (λ (x : Sheet). prices_order (classes_in row.order.body) row.receipt x ≡ true → Prices sheets row x)
     (λ x among passes. record { among = among; passes = passes }) sheets (All-contains_itself sheets)) tt)
 
 some-same : {X : Type 0} (x y : X) → Some x ≡ Some y → x ≡ y
@@ -90,21 +87,17 @@ placed-same a b e = cc
 first-listed : (sheets : List Sheet) (row : OrderRow) (s : Sheet) → Prices sheets row s → lists_class s.prices (class_of row.order.body) ≡ true
 first-listed sheets row s prices =
     (and_parts (lists_class s.prices (class_of row.order.body)) (list_all (λ class. lists_class s.prices class) (option_to_list (target_of row.order.body)))
-    (and_parts (int_lt (pos row.receipt) s.moment) (lists_all s.prices (classes_in row.order.body)) prices.passes).1).0
+    (and_parts (nat_lt row.receipt s.moment) (lists_all s.prices (classes_in row.order.body)) prices.passes).1).0
 
 -- the sheet of a pricing moment is found there
-pub published-there : (journal : Journal) → IsLawful journal → (s : Sheet) (class : ℕ) → Contains (book_behind journal).table.sheets s → lists_class s.prices class ≡ true → is_published_at (book_behind journal) class (moment_of s) ≡ true
+pub published-there : (journal : Journal) → IsLawful journal → (s : Sheet) (class : ℕ) → Contains (book_behind journal).table.sheets s → lists_class s.prices class ≡ true → is_published_at (book_behind journal) class s.moment ≡ true
 published-there journal lawful s class among lists =
-    ap (λ calendar. option_map_or (λ own. is_some (number_at (book_behind journal).table.sheets own (pos (moment_of s)))) calendar false) (listed-calendar journal lawful s class among lists)
-    ∙ (numbered (find (is_sheet_at s.calendar (pos (moment_of s))) (book_behind journal).table.sheets)
-    ∙ (find-any (is_sheet_at s.calendar (pos (moment_of s))) (book_behind journal).table.sheets
-    ∙ any_from (is_sheet_at s.calendar (pos (moment_of s))) (book_behind journal).table.sheets s among
-    (and_from (s.calendar == s.calendar) (int_eq s.moment (pos (moment_of s))) (eq-yes s.calendar s.calendar refl)
-    ((Decides-int_eq s.moment (pos (moment_of s))).1 at))))
+    ap (λ calendar. option_map_or (λ own. is_some (number_at (book_behind journal).table.sheets own s.moment)) calendar false) (listed-calendar journal lawful s class among lists)
+    ∙ (numbered (find (is_sheet_at s.calendar s.moment) (book_behind journal).table.sheets)
+    ∙ (find-any (is_sheet_at s.calendar s.moment) (book_behind journal).table.sheets
+    ∙ any_from (is_sheet_at s.calendar s.moment) (book_behind journal).table.sheets s among
+    (and_from (s.calendar == s.calendar) (s.moment == s.moment) (eq-yes s.calendar s.calendar refl) (eq-yes s.moment s.moment refl))))
   where
-    at : s.moment ≡ pos (moment_of s)
-    at = All-contains (λ (x : Sheet). x.moment ≡ pos (moment_of x)) (book_behind journal).table.sheets s (dated journal) among
-
     numbered : (found : Option Sheet) → is_some (option_map (λ (x : Sheet). x.number) found) ≡ is_some found
     numbered None = refl
     numbered (Some x) = refl
@@ -115,17 +108,17 @@ waits-by journal now caller Source.Direct order receipt due lawful not_before cl
     let row = row_as_sent (length journal) receipt order in
     let sheets = (book_behind journal).table.sheets in
     let prices = found-prices sheets row s found in
-    let later = lt_fact (pos receipt) s.moment (and_parts (int_lt (pos receipt) s.moment) (lists_all s.prices (classes_in order.body)) prices.passes).0 in
-    let past = All-contains (λ (x : Sheet). x.moment ≤ℤ pos (last_moment journal)) sheets s (past-sheets journal lawful) prices.among in
+    let later = lt_fact receipt s.moment (and_parts (nat_lt receipt s.moment) (lists_all s.prices (classes_in order.body)) prices.passes).0 in
+    let past = All-contains (λ (x : Sheet). x.moment ≤ last_moment journal) sheets s (past-sheets journal lawful) prices.among in
     let received : now ≡ receipt = ap (λ (placed : Placed). placed.receipt) (placed-same (placed_now order now (due_now (own_at journal now caller) (Request.Order order))) (record { order = order; source = Source.Direct; receipt = receipt; due = due }) brings) in
-    omega (arith, ints, later, past, not_before, received)
+    omega (arith, later, past, not_before, received)
 waits-by journal now caller Source.Dealer order receipt due lawful not_before clear brings is s found =
     let row = row_as_sent (length journal) receipt order in
     let sheets = (book_behind journal).table.sheets in
     let situation = own_at journal now caller in
     let line : LineForm = record { receipt = receipt; order = order } in
     let prices = found-prices sheets row s found in
-    let priced : due ≡ moment_of s = some-same due (moment_of s) (sym is ∙ priced_when_due_in journal lawful row s found) in
+    let priced : due ≡ s.moment = some-same due s.moment (sym is ∙ priced_when_due_in journal lawful row s found) in
     let late : is_late situation line due ≡ false = not_when (is_late situation line due) (Refusal.LateForDealer due)
     (subst (λ found_due. late_by situation line found_due ≡ None) is (not_broken situation (Request.Line line) clear Rule.LateForDealer)) in
     let unpublished : is_published_at (book_behind journal) (class_of order.body) due ≡ false = (or_parts (is_published_at (book_behind journal) (class_of order.body) due) (nat_lt (due + window_of situation caller) now) late).0 in
@@ -164,13 +157,12 @@ cancelled-waits journal now lawful not_before row caller clear sheet =
     not-yet : (s : Sheet) → stands row ≡ true → sheet_of sheets row ≡ Some s → ⊥
     not-yet s on found =
         let prices = found-prices sheets row s found in
-        let past = All-contains (λ (x : Sheet). x.moment ≤ℤ pos (last_moment journal)) sheets s (past-sheets journal lawful) prices.among in
-        let at : s.moment ≡ pos (moment_of s) = All-contains (λ (x : Sheet). x.moment ≡ pos (moment_of x)) sheets s (dated journal) prices.among in
-        let come : moment_of s ≤ now = omega (arith, ints, past, at, not_before) in
+        let past = All-contains (λ (x : Sheet). x.moment ≤ last_moment journal) sheets s (past-sheets journal lawful) prices.among in
+        let come : s.moment ≤ now = omega (arith, past, not_before) in
         let due = priced_when_due_in journal lawful row s found in
-        let none = not_when (stands row && nat_le (moment_of s) now) (Refusal.CancelLate (moment_of s))
+        let none = not_when (stands row && nat_le s.moment now) (Refusal.CancelLate s.moment)
         (subst (λ found_due. option_and_then (λ due. when (stands row && nat_le due now) (Refusal.CancelLate due)) found_due ≡ None) due clear) in
-        true≢false (sym (and_from (stands row) (nat_le (moment_of s) now) on (le-leb (moment_of s) now come)) ∙ none)
+        true≢false (sym (and_from (stands row) (nat_le s.moment now) on (le-leb s.moment now come)) ∙ none)
 
     by : stands row ≡ true → (found : Option Sheet) → sheet_of sheets row ≡ found → option_map_or (λ n. n == sheet.number) (option_map (λ (s : Sheet). s.number) found) false ≡ false
     by on None is = refl

@@ -1,11 +1,10 @@
 -- A sheet that comes behind the others, and isn't earlier, changes nothing that they read: no price before their moments, and no
 -- order of theirs.
-use Rattle.std.proofs.Common.{All, Bool, List, None, Option, Some, [], ap, arith, cond, false, filter, fold, map, option_map, pos, refl, true, ℕ, ℤ, ◌&&◌, ◌++◌, ◌==◌, ◌∙◌, ◌∷◌, ◌≡◌, ◌≤ℤ◌}
-use Rattle.std.proofs.lemmas.Int.{ints}
+use Rattle.std.proofs.Common.{All, Bool, List, None, Option, Some, [], ap, arith, cond, false, filter, fold, map, option_map, refl, true, ℕ, ◌&&◌, ◌++◌, ◌==◌, ◌∙◌, ◌∷◌, ◌≡◌, ◌≤◌}
 use Rattle.std.proofs.lemmas.List.Elements.{All-head, All-tail, All-weaker, filter_agree}
 use Rattle.std.proofs.lemmas.List.Sums.{fold-append}
 use Rattle.std.specs.Option.{option_map_or}
-use Rattle.std.specs.Prelude.{int_lt, option_and_then}
+use Rattle.std.specs.Prelude.{nat_lt, option_and_then}
 use Rattle.agent_events.specs.declared.order.OrderRow.{OrderRow}
 use Rattle.forward_price.proofs.PricingFacts.{lt_fact}
 use Rattle.forward_price.specs.Choices.{best, best_so_far, found_or_better}
@@ -46,8 +45,8 @@ best-has {X = X} P passes better found (x ∷ xs) all fine =
     by true is (Some y) fine = prefer is (better x y) y fine
     by false is found fine = fine
 
-not-before : (a b : ℤ) → b ≤ℤ a → int_lt a b ≡ false
-not-before a b le = is-false (int_lt a b) (λ is. let less = lt_fact a b is in omega (arith, ints, less, le))
+not-before : (a b : ℕ) → b ≤ a → nat_lt a b ≡ false
+not-before a b le = is-false (nat_lt a b) (λ is. let less = lt_fact a b is in omega (arith, less, le))
 
 -- one that doesn't pass
 passed-over : {X : Type 0} (passes : X → Bool) (better : X → X → Bool) (found : Option X) (x : X) → passes x ≡ false → best_so_far passes better found x ≡ found
@@ -55,7 +54,7 @@ passed-over passes better found x off = ap (λ b. cond b (found_or_better better
 
 -- ---- prices before a moment
 
-pub price-before-more : (sheets : List Sheet) (new : Sheet) (class : ℕ) (moment : ℤ) → moment ≤ℤ new.moment → price_before (sheets ++ new ∷ []) class moment ≡ price_before sheets class moment
+pub price-before-more : (sheets : List Sheet) (new : Sheet) (class : ℕ) (moment : ℕ) → moment ≤ new.moment → price_before (sheets ++ new ∷ []) class moment ≡ price_before sheets class moment
 price-before-more sheets new class moment le =
     ap (λ found. option_and_then (λ (s : Sheet). nav_on s.prices class) found)
     (best-more (is_before class moment) is_later sheets new
@@ -68,13 +67,13 @@ price-before-more sheets new class moment le =
 abbrev is_numbered : ℕ → Option Sheet → Bool
 is_numbered number found = option_map_or (λ n. n == number) (option_map (λ (sheet : Sheet). sheet.number) found) false
 
-next-more : (sheets : List Sheet) (new : Sheet) (asked : List ℕ) (receipt : ℤ) (number : ℕ) → All (λ (s : Sheet). s.moment ≤ℤ new.moment) sheets → (new.number == number) ≡ false → is_numbered number (next_sheet (sheets ++ new ∷ []) asked receipt) ≡ is_numbered number (next_sheet sheets asked receipt)
+next-more : (sheets : List Sheet) (new : Sheet) (asked : List ℕ) (receipt : ℕ) (number : ℕ) → All (λ (s : Sheet). s.moment ≤ new.moment) sheets → (new.number == number) ≡ false → is_numbered number (next_sheet (sheets ++ new ∷ []) asked receipt) ≡ is_numbered number (next_sheet sheets asked receipt)
 next-more sheets new asked receipt number past other =
     ap (is_numbered number) (best-more (prices_order asked receipt) is_earlier sheets new)
     ∙ by (prices_order asked receipt new) (next_sheet sheets asked receipt)
-    (best-has (λ (s : Sheet). s.moment ≤ℤ new.moment) (prices_order asked receipt) is_earlier None sheets (All-weaker (λ (s : Sheet). s.moment ≤ℤ new.moment) (λ (s : Sheet). prices_order asked receipt s ≡ true → s.moment ≤ℤ new.moment) (λ s le _. le) sheets past) tt)
+    (best-has (λ (s : Sheet). s.moment ≤ new.moment) (prices_order asked receipt) is_earlier None sheets (All-weaker (λ (s : Sheet). s.moment ≤ new.moment) (λ (s : Sheet). prices_order asked receipt s ≡ true → s.moment ≤ new.moment) (λ s le _. le) sheets past) tt)
   where
-    by : (b : Bool) (found : Option Sheet) → HasIfFound (λ (s : Sheet). s.moment ≤ℤ new.moment) found → is_numbered number (cond b (found_or_better is_earlier found new) found) ≡ is_numbered number found
+    by : (b : Bool) (found : Option Sheet) → HasIfFound (λ (s : Sheet). s.moment ≤ new.moment) found → is_numbered number (cond b (found_or_better is_earlier found new) found) ≡ is_numbered number found
     by true None fine = other
     by true (Some y) fine = ap (λ c. is_numbered number (cond c (Some new) (Some y))) (not-before new.moment y.moment fine)
     by false found fine = refl
@@ -92,8 +91,8 @@ orders-listed book sheet =
     rows-back [] = refl
     rows-back (row ∷ rows) = ap (λ rest. row ∷ rest) (rows-back rows)
 
-pub standing-more : (sheets : List Sheet) (new : Sheet) (number : ℕ) (orders : List OrderRow) → All (λ (s : Sheet). s.moment ≤ℤ new.moment) sheets → (new.number == number) ≡ false → standing_on (sheets ++ new ∷ []) orders number ≡ standing_on sheets orders number
+pub standing-more : (sheets : List Sheet) (new : Sheet) (number : ℕ) (orders : List OrderRow) → All (λ (s : Sheet). s.moment ≤ new.moment) sheets → (new.number == number) ≡ false → standing_on (sheets ++ new ∷ []) orders number ≡ standing_on sheets orders number
 standing-more sheets new number orders past other =
     filter_agree (λ row. is_priced_on number (priced_in (sheets ++ new ∷ []) row)) (λ row. is_priced_on number (priced_in sheets row))
-    (λ row. next-more sheets new (classes_in row.order.body) (pos row.receipt) number past other)
+    (λ row. next-more sheets new (classes_in row.order.body) row.receipt number past other)
     (filter stands orders)

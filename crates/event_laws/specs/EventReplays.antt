@@ -1,6 +1,6 @@
 -- What one event more does to the replay of a lawful journal: nothing on the sheets that were published before it, where it is
 -- no correction; and a sheet is one day more.
-use Rattle.std.specs.Prelude.{Bool, [], false, is_some, length, pos, ℕ, ◌++◌, ◌∷◌, ◌≡◌, ◌≤◌}
+use Rattle.std.specs.Prelude.{Bool, [], false, is_some, length, ℕ, ◌++◌, ◌∷◌, ◌≡◌, ◌≤◌}
 use Rattle.agent_events.specs.Events.{Event}
 use Rattle.agent_events.specs.declared.event.EventKind.{EventKind}
 use Rattle.agent_events.specs.declared.request.SheetForm.{SheetForm}
@@ -34,7 +34,7 @@ LawfulLeavesReplay journal event =
 
 -- the sheet that an event publishes behind a journal
 abbrev pub sheet_behind : Journal → SheetForm → Sheet
-sheet_behind journal form = sheet_published (book_behind journal).table form.calendar (pos form.moment) form.prices
+sheet_behind journal form = sheet_published (book_behind journal).table form.calendar form.moment form.prices
 
 -- A sheet is one day more: it comes behind the others, and the replay goes on over it from where it was.
 pub record AddsSheet (journal : Journal) (event : Event) (form : SheetForm) : Type 0 where

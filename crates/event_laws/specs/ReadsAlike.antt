@@ -9,7 +9,6 @@ use Rattle.register_machine.specs.pricing.CorrectedBook.{Book, counts, front_of,
 use Rattle.register_machine.specs.pricing.CorrectedOrders.{stands}
 use Rattle.register_machine.specs.pricing.OrderClasses.{class_of, target_of}
 use Rattle.register_machine.specs.pricing.DividendRates.{rate_at}
-use Rattle.register_machine.specs.pricing.PublishedTable.{moment_of}
 use Rattle.register_machine.specs.replay.Replay.{orders_on, priced_orders, replay_over}
 
 -- the terms of the classes that are known, and the households of the accounts that are known
@@ -23,7 +22,7 @@ pub record TermsAgree (book other : Book) (known named : ℕ → Bool) : Type 0 
 -- the rate of a price of a sheet
 abbrev pub RatesAgree : Book → Book → Sheet → ℕ × ℕ → Type 0
 RatesAgree book other sheet price =
-    rate_at book.rates price.0 (moment_of sheet) ≡ rate_at other.rates price.0 (moment_of sheet)
+    rate_at book.rates price.0 sheet.moment ≡ rate_at other.rates price.0 sheet.moment
 
 -- what is read on one sheet
 pub record SheetAgrees (book other : Book) (sheet : Sheet) : Type 0 where

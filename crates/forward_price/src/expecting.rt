@@ -68,7 +68,12 @@ fn calendar_asked<'a>(
 }
 
 // The first pricing moment of a calendar that is due.
-fn due_on(calendar: &Calendar, classes: &[Opening], asked: &[u32], receipt: Moment) -> Option<Moment>
+fn due_on(
+    calendar: &Calendar,
+    classes: &[Opening],
+    asked: &[u32],
+    receipt: Moment,
+) -> Option<Moment>
     ensures { result ≡ due_on classes.now asked.now receipt calendar.now }
 {
     let after = last_opening(classes, asked, receipt);
@@ -76,7 +81,12 @@ fn due_on(calendar: &Calendar, classes: &[Opening], asked: &[u32], receipt: Mome
 }
 
 /// The due moment of an order.
-pub fn due(calendars: &[Calendar], classes: &[Opening], asked: &[u32], receipt: Moment) -> Option<Moment>
+pub fn due(
+    calendars: &[Calendar],
+    classes: &[Opening],
+    asked: &[u32],
+    receipt: Moment,
+) -> Option<Moment>
     ensures { result ≡ due_in calendars.now classes.now asked.now receipt }
 {
     let calendar = calendar_asked(calendars, classes, asked)?;
@@ -134,8 +144,8 @@ fn first_awaited(
     None
 }
 
-fn is_sooner(pair: (Moment, u32), other: (Moment, u32)) -> bool
-    ensures { result ≡ is_sooner pair other }
+fn is_sooner(pair: &(Moment, u32), other: &(Moment, u32)) -> bool
+    ensures { result ≡ is_sooner pair.now other.now }
 {
     pair.0 < other.0 || (pair.0 == other.0 && pair.1 < other.1)
 }
@@ -147,7 +157,7 @@ fn sooner(found: Option<(Moment, u32)>, pair: (Moment, u32)) -> Option<(Moment, 
     match found {
         None => Some(pair),
         Some(found) => {
-            if is_sooner(pair, found) {
+            if is_sooner(&pair, &found) {
                 Some(pair)
             } else {
                 Some(found)
@@ -266,8 +276,8 @@ pub fn wrong_class(
     found
 }
 
-fn is_pair(calendar: u32, moment: Moment, pair: (Moment, u32)) -> bool
-    ensures { result ≡ is_pair calendar moment pair }
+fn is_pair(calendar: u32, moment: Moment, pair: &(Moment, u32)) -> bool
+    ensures { result ≡ is_pair calendar moment pair.now }
 {
     pair.0 == moment && pair.1 == calendar
 }
@@ -300,7 +310,7 @@ pub fn fault_of(
     match expected {
         None => Some(PublishFault::SheetOutOfTurn(Moment::start(), 0)),
         Some(pair) => {
-            if is_pair(calendar, moment, pair) {
+            if is_pair(calendar, moment, &pair) {
                 list_fault(wrong, moment, now)
             } else {
                 Some(PublishFault::SheetOutOfTurn(pair.0, pair.1))

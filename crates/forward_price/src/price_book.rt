@@ -271,7 +271,7 @@ impl PriceBook {
         });
         self.list = 0;
         self.in_order = in_order;
-        self.passed = moment.second_before();
+        self.passed = moment.earlier(1);
         number
     }
 

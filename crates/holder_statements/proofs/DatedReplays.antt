@@ -5,7 +5,6 @@ use Rattle.std.proofs.lemmas.List.Kept.{AllPairs-filter}
 use Rattle.agent_events.specs.declared.trade.Trade.{Trade}
 use Rattle.forward_price.specs.declared.price_sheet.Sheet.{Sheet}
 use Rattle.register_machine.specs.pricing.CorrectedBook.{Book}
-use Rattle.register_machine.specs.pricing.PublishedTable.{moment_of}
 use Rattle.register_machine.specs.replay.Replay.{Priced, day_after_sheet, orders_on}
 use Rattle.register_machine.specs.replay.Trades.{Day}
 use Rattle.holder_statements.specs.Periods.{AreDated, AreSheetsDated, IsNear, IsSheetNear, PartIsDated}
@@ -22,7 +21,7 @@ pairs_append R (x ∷ xs) ys first second across (suc i) (suc j) d lt short =
 
 -- a trade isn't later than any of these sheets
 abbrev pub IsBefore : List Sheet → Trade → Type 0
-IsBefore sheets trade = All (λ (sheet : Sheet). trade.moment ≤ moment_of sheet) sheets
+IsBefore sheets trade = All (λ (sheet : Sheet). trade.moment ≤ sheet.moment) sheets
 
 near_on : (sheet : Sheet) (trade : Trade) → IsSheetNear sheet → IsOn sheet trade → IsNear trade
 near_on sheet trade near on =
@@ -33,7 +32,7 @@ near_on sheet trade near on =
     record { not_after = omega arith; not_before = omega arith }
 
 -- trades of one sheet more
-dated_more : (sheet : Sheet) (trades new : List Trade) → IsSheetNear sheet → AreDated trades → All (λ (trade : Trade). trade.moment ≤ moment_of sheet) trades → All (IsOn sheet) new → AreDated (trades ++ new)
+dated_more : (sheet : Sheet) (trades new : List Trade) → IsSheetNear sheet → AreDated trades → All (λ (trade : Trade). trade.moment ≤ sheet.moment) trades → All (IsOn sheet) new → AreDated (trades ++ new)
 dated_more sheet trades new near dated before own = record {
   in_turn = pairs_append (λ (a : Trade) (b : Trade). a.moment ≤ b.moment) trades new dated.in_turn
       (λ i j d lt short. (let first = (own i d (omega arith)).moment in let second = (own j d short).moment in omega arith))
@@ -41,7 +40,7 @@ dated_more sheet trades new near dated before own = record {
   near = All-append IsNear trades new dated.near (λ k d short. near_on sheet (get_or new k d) near (own k d short));
 }
 
-before_more : (sheet : Sheet) (sheets : List Sheet) (trades new : List Trade) → AllPairs (λ (a : Sheet) (b : Sheet). moment_of a ≤ moment_of b) (sheet ∷ sheets) → All (IsBefore (sheet ∷ sheets)) trades → All (IsOn sheet) new → All (IsBefore sheets) (trades ++ new)
+before_more : (sheet : Sheet) (sheets : List Sheet) (trades new : List Trade) → AllPairs (λ (a : Sheet) (b : Sheet). a.moment ≤ b.moment) (sheet ∷ sheets) → All (IsBefore (sheet ∷ sheets)) trades → All (IsOn sheet) new → All (IsBefore sheets) (trades ++ new)
 before_more sheet sheets trades new climb before own =
     All-append (IsBefore sheets) trades new
     (λ k d short i e within. before k d short (suc i) e (omega arith))

@@ -24,7 +24,6 @@ use Rattle.register_machine.specs.journal.Choices.{first_some, when}
 use Rattle.register_machine.specs.pricing.CorrectedBook.{Book, front_of, schedule_of}
 use Rattle.register_machine.specs.pricing.DividendRates.{Rates, rate_at}
 use Rattle.register_machine.specs.pricing.OrderClasses.{class_of}
-use Rattle.register_machine.specs.pricing.PublishedTable.{moment_of}
 use Rattle.register_machine.specs.replay.DayStep.{day_after_body, day_after_election, day_after_order, day_after_orders, day_step}
 use Rattle.register_machine.specs.replay.Dividend.{cash_dividend_trade, day_after_class, day_after_dividend, day_after_dividends, day_after_payment, day_after_rate, dividend_trade, keys_of_class, payment_on}
 use Rattle.register_machine.specs.replay.Exchange.{day_after_exchange, exchange_reasons, exchange_trade, position_with_pieces}
@@ -36,7 +35,7 @@ use Rattle.register_machine.specs.replay.Trades.{Day, day_after_trade, day_unles
 use Rattle.std.specs.Prelude.{is_some}
 
 pub record IsOn (sheet : Sheet) (trade : Trade) : Type 0 where
-  pub moment : trade.moment ≡ moment_of sheet
+  pub moment : trade.moment ≡ sheet.moment
   pub day : trade.day ≡ sheet.day
 
 pub record Grows (sheet : Sheet) (day after : Day) : Type 0 where
@@ -179,7 +178,7 @@ payment_grows sheet day position (pays.Shares cash mils) =
 
 class_grows : (rates : Rates) (sheet : Sheet) (day : Day) (price : ℕ × ℕ) → Grows sheet day (day_after_class rates sheet day price)
 class_grows rates sheet day price =
-    let rate = rate_at rates price.0 (moment_of sheet) in by_rate rate (rate == 0)
+    let rate = rate_at rates price.0 sheet.moment in by_rate rate (rate == 0)
   where
     paid : (rate : ℕ) → Grows sheet day (day_after_rate sheet rate price day)
     paid rate =

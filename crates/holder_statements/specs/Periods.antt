@@ -4,7 +4,6 @@ use Rattle.agent_events.specs.declared.request.StatementForm.{StatementForm}
 use Rattle.agent_events.specs.declared.trade.Trade.{Trade}
 use Rattle.forward_price.specs.declared.price_sheet.Sheet.{Sheet}
 use Rattle.register_machine.specs.pricing.CorrectedBook.{Book}
-use Rattle.register_machine.specs.pricing.PublishedTable.{moment_of}
 use Rattle.register_machine.specs.queries.Statement.{is_in_period, trade_line}
 use Rattle.register_machine.specs.replay.Replay.{replay_over}
 
@@ -24,11 +23,11 @@ line_in_period form trade = if is_in_period form trade then trade_line trade els
 
 -- the same of sheets in their order
 pub record IsSheetNear (sheet : Sheet) : Type 0 where
-  pub not_after : sheet.day * 86400 ≤ moment_of sheet + 259200
-  pub not_before : moment_of sheet < sheet.day * 86400 + 345600
+  pub not_after : sheet.day * 86400 ≤ sheet.moment + 259200
+  pub not_before : sheet.moment < sheet.day * 86400 + 345600
 
 pub record AreSheetsDated (sheets : List Sheet) : Type 0 where
-  pub in_turn : AllPairs (λ earlier later. moment_of earlier ≤ moment_of later) sheets
+  pub in_turn : AllPairs (λ earlier later. earlier.moment ≤ later.moment) sheets
   pub near : All IsSheetNear sheets
 
 -- over such sheets the trades of every replay are dated so

@@ -12,7 +12,6 @@ use Rattle.household_positions.specs.Register.{day_without}
 use Rattle.household_positions.proofs.DayFacts.{close-back, own-account, own-class}
 use Rattle.register_machine.specs.replay.Dividend.{day_after_class, day_after_dividend, day_after_payment, day_after_rate, is_of_class, keys_of_class, payment_on}
 use Rattle.register_machine.specs.pricing.DividendRates.{Rates, rate_at}
-use Rattle.register_machine.specs.pricing.PublishedTable.{moment_of}
 use Rattle.register_machine.specs.replay.Positions.{Position, PositionKey, Register, key_of, position_of, with_holding}
 use Rattle.register_machine.specs.replay.Trades.{Day, day_after_trade, nav_of, plain_trade, with_trade}
 use Rattle.share_lots.specs.Lots.{Added, Holding, shares_added}
@@ -74,9 +73,9 @@ dividends-grow sheet rate nav day keys = grows-over (λ (d : Day). d.register) (
 
 pub class-grows : (rates : Rates) (sheet : Sheet) (day : Day) (price : ℕ × ℕ) → Grows day.register (day_after_class rates sheet day price).register
 class-grows rates sheet day price =
-    elim (rate_at rates price.0 (moment_of sheet) == 0) as (λ b. Grows day.register (cond b day (day_after_rate sheet (rate_at rates price.0 (moment_of sheet)) price day)).register) [
+    elim (rate_at rates price.0 sheet.moment == 0) as (λ b. Grows day.register (cond b day (day_after_rate sheet (rate_at rates price.0 sheet.moment) price day)).register) [
       | true ↦ grows-same day.register
-      | false ↦ dividends-grow sheet (rate_at rates price.0 (moment_of sheet)) price.1 day (keys_of_class price.0 day.register)
+      | false ↦ dividends-grow sheet (rate_at rates price.0 sheet.moment) price.1 day (keys_of_class price.0 day.register)
     ]
 
 pub classes-grow : (rates : Rates) (sheet : Sheet) (day : Day) (prices : List (ℕ × ℕ)) → Grows day.register (fold (day_after_class rates sheet) day prices).register
@@ -112,7 +111,7 @@ numbers-at_key sheet rate nav day later keys i account class key short of_class 
     (dividends-grow sheet rate nav (step day (get_or keys i key)) (drop (i + 1) keys)) rest)
 
 -- a class with a rate pays it
-pub class-paid : (known : Known) (day : Day) (price : ℕ × ℕ) (rate : ℕ) → rate ≡ rate_at (book_of_facts known).rates price.0 (moment_of (sheet_at_hand known))
+pub class-paid : (known : Known) (day : Day) (price : ℕ × ℕ) (rate : ℕ) → rate ≡ rate_at (book_of_facts known).rates price.0 (sheet_at_hand known).moment
     → ¬ (rate ≡ 0) → day_after_class (book_of_facts known).rates (sheet_at_hand known) day price ≡ day_after_rate (sheet_at_hand known) rate price day
 class-paid known day price rate is some =
     ap (λ r. cond (r == 0) day (day_after_rate (sheet_at_hand known) r price day)) (sym is)

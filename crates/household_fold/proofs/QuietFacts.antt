@@ -20,7 +20,6 @@ use Rattle.household_fold.specs.Households.{first_of, step_known}
 use Rattle.household_fold.specs.Quiet.{is_paid, is_payment, is_quiet_for, payment_of}
 use Rattle.household_fold.proofs.PutFacts.{find-all}
 use Rattle.register_machine.specs.pricing.DividendRates.{rate_at}
-use Rattle.register_machine.specs.pricing.PublishedTable.{moment_of}
 use Rattle.register_machine.specs.replay.DayStep.{day_step}
 use Rattle.register_machine.specs.replay.Dividend.{day_after_class, day_after_dividend, day_after_dividends, day_after_payment, day_after_rate, keys_of_class, payment_on}
 use Rattle.register_machine.specs.replay.Letter.{day_after_letter_end, day_after_letter_ends, has_letter_over}
@@ -69,26 +68,26 @@ fresh-none rate nav account class =
 -- where no position is paid on, no dividend changes the day
 unpaid-found : (known : Known) (register : Register) (a class nav : ℕ) → All (λ p. is_paid known p ≡ false) register
     → lists_class (sheet_at_hand known).prices class ≡ true
-    → payment_on (rate_at (book_of_facts known).rates class (moment_of (sheet_at_hand known))) nav (position_of register a class) ≡ pays.Nothing
+    → payment_on (rate_at (book_of_facts known).rates class (sheet_at_hand known).moment) nav (position_of register a class) ≡ pays.Nothing
 unpaid-found known register a class nav unpaid listed = by (find (is_position a class) register) refl
   where
     rate : ℕ
-    rate = rate_at (book_of_facts known).rates class (moment_of (sheet_at_hand known))
+    rate = rate_at (book_of_facts known).rates class (sheet_at_hand known).moment
 
-    by : (o : Option Position) → find (is_position a class) register ≡ o → payment_on (rate_at (book_of_facts known).rates class (moment_of (sheet_at_hand known))) nav (unwrap_or o (fresh_position a class)) ≡ pays.Nothing
-    by None e = fresh-none (rate_at (book_of_facts known).rates class (moment_of (sheet_at_hand known))) nav a class
+    by : (o : Option Position) → find (is_position a class) register ≡ o → payment_on (rate_at (book_of_facts known).rates class (sheet_at_hand known).moment) nav (unwrap_or o (fresh_position a class)) ≡ pays.Nothing
+    by None e = fresh-none (rate_at (book_of_facts known).rates class (sheet_at_hand known).moment) nav a class
     by (Some p) e =
         let of : p.class ≡ class = (same-place a class p (find_passes (is_position a class) register p e)).1 in
         let fails : is_paid known p ≡ false = find-all (λ x. is_paid known x ≡ false) (is_position a class) register unpaid p e in
         let at : (lists_class (sheet_at_hand known).prices class && is_payment (payment_of known class p)) ≡ false = ap (λ c. lists_class (sheet_at_hand known).prices c && is_payment (payment_of known c p)) (sym of) ∙ fails in
         let none : is_payment (payment_of known class p) ≡ false = ap (λ b. b && is_payment (payment_of known class p)) (sym listed) ∙ at in
-        none-on (rate_at (book_of_facts known).rates class (moment_of (sheet_at_hand known))) (nav_of (sheet_at_hand known) class) nav p none
+        none-on (rate_at (book_of_facts known).rates class (sheet_at_hand known).moment) (nav_of (sheet_at_hand known) class) nav p none
 
 still-key : (known : Known) (day : Day) (class nav : ℕ) (key : PositionKey) → All (λ p. is_paid known p ≡ false) day.register
     → lists_class (sheet_at_hand known).prices class ≡ true → key.class ≡ class
-    → day_after_dividend (sheet_at_hand known) (rate_at (book_of_facts known).rates class (moment_of (sheet_at_hand known))) nav day key ≡ day
+    → day_after_dividend (sheet_at_hand known) (rate_at (book_of_facts known).rates class (sheet_at_hand known).moment) nav day key ≡ day
 still-key known day class nav key unpaid listed of =
-    let rate = rate_at (book_of_facts known).rates class (moment_of (sheet_at_hand known)) in
+    let rate = rate_at (book_of_facts known).rates class (sheet_at_hand known).moment in
     let p = position_of day.register key.account class in
     ap (λ c. day_after_payment (sheet_at_hand known) day (position_of day.register key.account c) (payment_on rate nav (position_of day.register key.account c))) of
     ∙ ap (day_after_payment (sheet_at_hand known) day p) (unpaid-found known day.register key.account class nav unpaid listed)
@@ -96,7 +95,7 @@ still-key known day class nav key unpaid listed of =
 still-class : (known : Known) (day : Day) (price : ℕ × ℕ) → All (λ p. is_paid known p ≡ false) day.register
     → lists_class (sheet_at_hand known).prices price.0 ≡ true → day_after_class (book_of_facts known).rates (sheet_at_hand known) day price ≡ day
 still-class known day price unpaid listed =
-    let rate = rate_at (book_of_facts known).rates price.0 (moment_of (sheet_at_hand known)) in
+    let rate = rate_at (book_of_facts known).rates price.0 (sheet_at_hand known).moment in
     let of_class = keys-of_class price.0 day.register in
     elim (rate == 0) as (λ b. cond b day (day_after_rate (sheet_at_hand known) rate price day) ≡ day) [
       | true ↦ refl

@@ -1,7 +1,5 @@
 -- What the sheet at hand has of the sheet as it was published.
-use Rattle.std.proofs.Common.{List, None, Option, Some, ap, arith, cond, find, is_some, map, option_and_then, false, option_map, refl, sym, true, unwrap_or, nat_abs, negsuc, pos, w64, ℕ, ℤ, ◌==◌, ◌∙◌, ◌≡◌, ◌≤◌, SFits}
-use Rattle.std.proofs.lemmas.Int.{ints}
-use Rattle.fund_calendar.specs.PricingDays.{IsMoment}
+use Rattle.std.proofs.Common.{List, None, Option, Some, ap, arith, cond, find, is_some, map, option_and_then, false, option_map, refl, sym, true, unwrap_or, nat_abs, negsuc, pos, w64, ℕ, ◌==◌, ◌∙◌, ◌≡◌, ◌≤◌, SFits}
 use Rattle.std.proofs.lemmas.Bool.{true≢false}
 use Rattle.fund_calendar.proofs.LookUpLemmas.{list_any-find}
 use Rattle.forward_price.proofs.PatchFacts.{numbered-corrected, lists-kept}
@@ -66,14 +64,3 @@ listed_price prices class e = some_map (find (λ price. price.0 == class) prices
     some_map : (o : Option (ℕ × ℕ)) → is_some (option_map (λ price. price.1) o) ≡ is_some o
     some_map None = refl
     some_map (Some p) = refl
-
--- its moment fits
-pub moment_fits : (z : ℤ) → IsMoment z → SFits w64 z
-moment_fits z within = omega (arith, ints)
-
-pub moment_there : (z given : ℤ) → IsMoment z → given ≡ z → ((moment : ℕ) → moment ≤ 7258118399 → given ≡ pos moment → ⊥) → ⊥
-moment_there (pos n) given within same none = none n (let most = within.1 in omega (arith, ints)) same
-moment_there (negsuc n) given within same none = let least = within.0 in omega (arith, ints)
-
-pub moment_is : (z given : ℤ) (m : ℕ) → given ≡ z → given ≡ pos m → m ≡ nat_abs z
-moment_is z given m same is = ap nat_abs (sym is ∙ same)

@@ -17,7 +17,6 @@ use Rattle.letter_of_intent.specs.Letters.{settlement}
 use Rattle.letter_of_intent.specs.declared.letter.Letter.{Letter}
 use Rattle.register_machine.specs.pricing.CorrectedBook.{Book, front_of}
 use Rattle.register_machine.specs.pricing.DividendRates.{Rates, rate_at}
-use Rattle.register_machine.specs.pricing.PublishedTable.{moment_of}
 use Rattle.register_machine.specs.replay.DayStep.{day_after_orders, day_step}
 use Rattle.register_machine.specs.replay.Dividend.{day_after_class, day_after_dividend, day_after_dividends, day_after_payment, day_after_rate, is_of_class, keys_of_class, payment_on}
 use Rattle.register_machine.specs.replay.Letter.{day_after_end_of, day_after_letter_end, day_after_letter_ends, has_letter_over, keys_of_letters_over}
@@ -59,7 +58,7 @@ own-keys known household class register owned =
 
 class-owned : (known : Known) (household : ℕ) (rates : Rates) (sheet : Sheet) (day : Day) (price : ℕ × ℕ) → AreOwned known household day.register → AreOwned known household (day_after_class rates sheet day price).register
 class-owned known household rates sheet day price owned =
-    let rate = rate_at rates price.0 (moment_of sheet) in
+    let rate = rate_at rates price.0 sheet.moment in
     elim (rate == 0) as (λ b. AreOwned known household (cond b day (day_after_rate sheet rate price day)).register) [
       | true ↦ owned
       | false ↦ keys-kept (StaysOwned known household) (IsOwnPlace known household) (owned-stay known household) sheet rate price.1 day (keys_of_class price.0 day.register)
@@ -79,7 +78,7 @@ paid-letters sheet day a c all (pays.Shares cash mils) =
 
 class-letters : (rates : Rates) (sheet : Sheet) (day : Day) (price : ℕ × ℕ) → AreLettersWithin day.register → AreLettersWithin (day_after_class rates sheet day price).register
 class-letters rates sheet day price all =
-    let rate = rate_at rates price.0 (moment_of sheet) in
+    let rate = rate_at rates price.0 sheet.moment in
     elim (rate == 0) as (λ b. AreLettersWithin (cond b day (day_after_rate sheet rate price day)).register) [
       | true ↦ all
       | false ↦ fold-kept (λ d. AreLettersWithin d.register) (day_after_dividend sheet rate price.1)

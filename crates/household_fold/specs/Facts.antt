@@ -10,10 +10,9 @@ use Rattle.forward_price.specs.PriceTables.{Table, corrected_sheet, sheets_on_tr
 use Rattle.forward_price.specs.Sheets.{lists_class}
 use Rattle.forward_price.specs.declared.price_sheet.Patch.{Patch}
 use Rattle.forward_price.specs.declared.price_sheet.Sheet.{Sheet}
-use Rattle.fund_calendar.specs.PricingDays.{IsMoment}
 use Rattle.register_machine.specs.pricing.CorrectedBook.{Book}
 use Rattle.register_machine.specs.pricing.DividendRates.{Rates}
-use Rattle.std.specs.Prelude.{All, AllPairs, Bool, List, None, Option, Some, [], ℕ, ◌&&◌, ◌<◌, ◌==◌, ◌||◌, ◌≡◌, ◌≤◌, count_by, find, is_some, length, map, nat_lt, pos, true, unwrap_or}
+use Rattle.std.specs.Prelude.{All, AllPairs, Bool, List, None, Option, Some, [], ℕ, ◌&&◌, ◌<◌, ◌==◌, ◌||◌, ◌≡◌, ◌≤◌, count_by, find, is_some, length, map, nat_lt, true, unwrap_or}
 
 -- the facts: the published prices, the terms of the classes, the accounts with their households, the dividend rates, a
 -- correction of one price on trial, and the number of the sheet at hand
@@ -65,7 +64,7 @@ book_of_facts known = record {
 
 -- the sheet at hand, with the correction on trial
 abbrev pub no_sheet : Sheet
-no_sheet = record { number = 0; calendar = 0; moment = pos 0; day = 0; prices = [] }
+no_sheet = record { number = 0; calendar = 0; moment = 0; day = 0; prices = [] }
 
 abbrev pub sheet_at_hand : Known → Sheet
 sheet_at_hand known = unwrap_or (sheet_numbered (sheets_known known) known.sheet) no_sheet
@@ -97,7 +96,6 @@ IsListed known class = lists_class (sheet_at_hand known).prices class ≡ true
 -- rates up to 1,000 dollars per share, at most 1,000 classes and 64 accounts of a household.
 pub record FactsFit (known : Known) : Type 0 where
   pub sheet : is_some (sheet_numbered known.table.sheets known.sheet) ≡ true
-  pub moment : IsMoment (sheet_at_hand known).moment
   pub terms_there : (class : ℕ) → IsListed known class → is_some (terms_numbered known.terms class) ≡ true
   pub terms_rise : AllPairs (λ a b. a.class < b.class) known.terms
   pub accounts_rise : AllPairs (λ a b. a.account < b.account) known.accounts

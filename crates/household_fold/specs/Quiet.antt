@@ -5,7 +5,6 @@ use Rattle.dividend_reinvest.specs.declared.payment.Payment.TheVariants as pays
 use Rattle.forward_price.specs.Sheets.{lists_class}
 use Rattle.household_fold.specs.Facts.{Known, book_of_facts, sheet_at_hand}
 use Rattle.register_machine.specs.pricing.DividendRates.{rate_at}
-use Rattle.register_machine.specs.pricing.PublishedTable.{moment_of}
 use Rattle.register_machine.specs.replay.Dividend.{payment_on}
 use Rattle.register_machine.specs.replay.Letter.{has_letter_over}
 use Rattle.register_machine.specs.replay.Positions.{Position, Register}
@@ -22,7 +21,7 @@ is_payment (pays.Shares cash mils) = true
 abbrev pub payment_of : Known → ℕ → Position → Payment
 payment_of known class position =
     let sheet = sheet_at_hand known in
-    payment_on (rate_at (book_of_facts known).rates class (moment_of sheet)) (nav_of sheet class) position
+    payment_on (rate_at (book_of_facts known).rates class sheet.moment) (nav_of sheet class) position
 
 -- the sheet lists the position's class, and pays on it
 abbrev pub is_paid : Known → Position → Bool

@@ -4,7 +4,6 @@ ghost use Rattle.forward_price.specs.PriceTables.{price_before, sheet_numbered};
 ghost use Rattle.forward_price.specs.Sheets.{lists_class};
 ghost use Rattle.register_machine.specs.pricing.CorrectedBook.{counts, front_of, schedule_of};
 ghost use Rattle.register_machine.specs.pricing.DividendRates.{rate_at};
-ghost use Rattle.register_machine.specs.pricing.PublishedTable.{moment_of};
 ghost use Rattle.register_machine.specs.journal.Kinds.{household_of};
 ghost use Rattle.register_machine.specs.replay.Trades.{nav_of};
 ghost use Rattle.household_fold.specs.Facts.{FactsFit, IsListed, book_of_facts, sheet_at_hand, sheets_known};
@@ -75,23 +74,12 @@ impl<'a> Facts<'a> {
         self.published().day
     }
 
-    // The moment of the sheet at hand in seconds.
-    fn seconds(&self) -> i64
+    /// The moment of the sheet at hand.
+    pub(crate) fn moment(&self) -> Moment
         requires { FactsFit self.now }
         ensures { result ≡ (sheet_at_hand self.now).moment }
     {
         self.published().moment
-    }
-
-    /// The moment of the sheet at hand.
-    pub(crate) fn moment(&self) -> Moment
-        requires { FactsFit self.now }
-        ensures { result ≡ moment_of (sheet_at_hand self.now) }
-    {
-        match Moment::new(self.seconds()) {
-            Some(moment) => moment,
-            None => unreachable!(),
-        }
     }
 
     /// Whether the sheet at hand lists a class.
@@ -120,7 +108,7 @@ impl<'a> Facts<'a> {
         ensures { result ≡ price_before (sheets_known self.now) class
             (sheet_at_hand self.now).moment }
     {
-        self.prices.last_before(self.patch, class, self.seconds())
+        self.prices.last_before(self.patch, class, self.moment())
     }
 
     /// The terms of a class that the sheet at hand lists.
@@ -162,7 +150,7 @@ impl<'a> Facts<'a> {
     pub(crate) fn rate(&self, class: u32) -> u64
         requires { FactsFit self.now }
         ensures value { result ≡ rate_at (book_of_facts self.now).rates class
-            (moment_of (sheet_at_hand self.now)) }
+            (sheet_at_hand self.now).moment }
         ensures most { result ≤ 1000000000 }
     {
         match look_ups::rate_numbered(self.rates.as_slice(), class, self.moment()) {

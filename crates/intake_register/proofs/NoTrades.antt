@@ -5,7 +5,6 @@ use Rattle.forward_price.specs.declared.price_sheet.Sheet.{Sheet}
 use Rattle.register_machine.specs.pricing.CorrectedBook.{Book}
 use Rattle.register_machine.specs.pricing.CorrectedOrders.{stands}
 use Rattle.register_machine.specs.pricing.DividendRates.{Rates, rate_at}
-use Rattle.register_machine.specs.pricing.PublishedTable.{moment_of}
 use Rattle.register_machine.specs.replay.DayStep.{day_after_orders, day_step}
 use Rattle.register_machine.specs.replay.Dividend.{day_after_class}
 use Rattle.register_machine.specs.replay.Letter.{day_after_letter_ends}
@@ -18,7 +17,7 @@ without_sheets book e = ap (λ (sheets : List Sheet). (replay_over book sheets).
 
 no-position-paid : (rates : Rates) (sheet : Sheet) (price : ℕ × ℕ) → day_after_class rates sheet first_day price ≡ first_day
 no-position-paid rates sheet price =
-    elim (rate_at rates price.0 (moment_of sheet) == 0) as (λ none. cond none first_day first_day ≡ first_day) [
+    elim (rate_at rates price.0 sheet.moment == 0) as (λ none. cond none first_day first_day ≡ first_day) [
       | true ↦ refl
       | false ↦ refl
     ]

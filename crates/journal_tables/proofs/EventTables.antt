@@ -112,12 +112,6 @@ rates-after rows rates (EventKind.FixRate form) class moment same =
     ∙ ap (λ o. option_or (option_map (λ f. f.rate) o) own) (sym (last-of-more (fixes_rate class moment) rates.fixed form)))
 rates-after rows rates _ class moment same = same
 
--- ---- sheets
-
-moments-after : (forms : List SheetForm) (kind : EventKind) → IsInRange kind → All (λ form. form.moment ≤ 7258118399) forms → All (λ form. form.moment ≤ 7258118399) (forms ++ option_to_list (sheet_in kind))
-moments-after forms (EventKind.Sheet form) range all = All-push (λ form. form.moment ≤ 7258118399) forms form all range
-moments-after forms _ range all = subst (All (λ form. form.moment ≤ 7258118399)) (sym (append-nil forms)) all
-
 -- ---- all of them
 
 module _ (journal : Journal) (tables : Tables) (event : Event) (are : AreTablesOf journal tables) where
@@ -147,11 +141,6 @@ module _ (journal : Journal) (tables : Tables) (event : Event) (are : AreTablesO
       (sym (gathers-on account_in journal event))
       (accounts-few tables.accounts (accounts_of journal) event.kind household (are.few_accounts household))
 
-  pub moments-on : IsInRange event.kind → All (λ form. form.moment ≤ 7258118399) (each_in sheet_in (with_event journal event))
-  moments-on range =
-      subst (All (λ form. form.moment ≤ 7258118399)) (sym (gathers-on sheet_in journal event))
-      (moments-after (each_in sheet_in journal) event.kind range are.moments)
-
 pub tables_go_on : (journal : Journal) (tables : Tables) (event : Event) → TablesGoOn journal tables event
 tables_go_on journal tables event are range = record {
   stand = stand-after tables event.kind range are.stand;
@@ -160,7 +149,6 @@ tables_go_on journal tables event are range = record {
   rates = rates-on journal tables event are;
   few_terms = few-terms-on journal tables event are;
   few_accounts = few-accounts-on journal tables event are;
-  moments = moments-on journal tables event are range;
 }
 
 -- a class that a lawful journal brings has good loads
@@ -189,5 +177,4 @@ none_yet = record {
   rates = λ class moment. refl;
   few_terms = omega arith;
   few_accounts = λ household. omega arith;
-  moments = λ k d short. absurd (omega (arith, short));
 }

@@ -15,7 +15,6 @@ use Rattle.register_laws.proofs.Tests.{any-with, find-any}
 use Rattle.register_laws.specs.OneEventMore.{corrected_table}
 use Rattle.register_machine.specs.journal.Journals.{Journal, with_event}
 use Rattle.register_machine.specs.journal.Lawful.{IsLawful}
-use Rattle.register_machine.specs.pricing.PublishedTable.{moment_of}
 use Rattle.register_machine.specs.rules.NamedThings.{lists_at}
 use Rattle.agent_events.specs.declared.event.EventKind.{EventKind}
 
@@ -23,16 +22,16 @@ use Rattle.agent_events.specs.declared.event.EventKind.{EventKind}
 record IsPriced (form : FixPriceForm) (number : ℕ) (sheet : Sheet) : Type 0 where
   its_number : sheet.number ≡ number
   lists : lists_class sheet.prices form.class ≡ true
-  moment : moment_of sheet ≡ form.moment
+  moment : sheet.moment ≡ form.moment
 
 priced-by : (form : FixPriceForm) (n : ℕ) (sheet : Sheet) → (sheet.number == n && lists_at form.class form.moment sheet) ≡ true → IsPriced form n sheet
 priced-by form n sheet e =
     let own = and_parts (sheet.number == n) (lists_at form.class form.moment sheet) e in
-    let shows = and_parts (moment_of sheet == form.moment) (lists_class sheet.prices form.class) own.1 in
+    let shows = and_parts (sheet.moment == form.moment) (lists_class sheet.prices form.class) own.1 in
     record {
       its_number = eqb-true sheet.number n own.0;
       lists = shows.1;
-      moment = eqb-true (moment_of sheet) form.moment shows.0;
+      moment = eqb-true sheet.moment form.moment shows.0;
     }
 
 pub one-number : (journal : Journal) (form : FixPriceForm) (one other : ℕ) → IsLawful journal → IsPricedOn journal form one → IsPricedOn journal form other → one ≡ other

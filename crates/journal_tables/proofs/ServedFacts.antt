@@ -12,11 +12,10 @@ use Rattle.agent_events.specs.declared.rows.RateRow.{RateRow}
 use Rattle.forward_price.proofs.NumberFacts.{numbered_at}
 use Rattle.forward_price.specs.PriceTables.{price_before, sheet_numbered}
 use Rattle.forward_price.specs.Sheets.{lists_class}
-use Rattle.fund_calendar.specs.PricingDays.{IsMoment}
 use Rattle.household_fold.proofs.BookFacts.{class_found, household_found, rate_found}
 use Rattle.household_fold.specs.Facts.{Known, book_of_facts, class_in_book, no_sheet, rate_numbered, sheet_at_hand, sheets_known, terms_numbered}
 use Rattle.journal_tables.proofs.EventTables.{tables_go_on}
-use Rattle.journal_tables.proofs.SheetsOfJournals.{corrected-known, corrected-timed}
+use Rattle.journal_tables.proofs.SheetsOfJournals.{corrected-known}
 use Rattle.journal_tables.specs.Tables.{IsInRange, Tables, row_of_account, tables_after}
 use Rattle.journal_tables.specs.TablesOfJournals.{AreTablesOf, IsSheetOf, ServeFor}
 use Rattle.register_laws.proofs.Choosing.{none_some}
@@ -107,7 +106,6 @@ pub serve : (known : Known) (journal : Journal) → IsLawful journal → AreTabl
 serve known journal lawful are sheets there is = record {
   fit = record {
     sheet = there;
-    moment = found-has (λ sheet. IsMoment sheet.moment) (corrected_table journal).sheets (known.sheet - 1) (sheet_at_hand known) (corrected-timed journal lawful are.moments) at;
     terms_there = λ class listed.
         sym (mapped-some class_in_book (terms_numbered known.terms class))
         ∙ (ap is_some (are.terms class)

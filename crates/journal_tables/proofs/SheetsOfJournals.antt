@@ -1,7 +1,6 @@
--- What the sheets of a lawful journal's corrected table have: moments in their range, and classes that the journal brought.
-use Rattle.std.proofs.Common.{All, List, None, [], arith, get_or, option_to_list, pos, refl, subst, sym, true, ℕ, ◌++◌, ◌==◌, ◌∙◌, ◌∷◌, ◌≡◌, ◌≤◌}
+-- What the sheets of a lawful journal's corrected table have: classes that the journal brought.
+use Rattle.std.proofs.Common.{All, List, None, [], arith, get_or, option_to_list, refl, subst, sym, true, ℕ, ◌++◌, ◌==◌, ◌∙◌, ◌∷◌, ◌≡◌, ◌≤◌}
 use Rattle.std.proofs.lemmas.Bool.{and_parts}
-use Rattle.std.proofs.lemmas.Int.{ints}
 use Rattle.std.proofs.lemmas.List.Elements.{All-cons, All-head, All-map, All-nil, All-push, All-tail}
 use Rattle.std.specs.List.{list_any}
 use Rattle.agent_events.specs.Events.{Event, request_of}
@@ -11,7 +10,6 @@ use Rattle.agent_events.specs.declared.request.SheetForm.{SheetForm}
 use Rattle.forward_price.specs.PriceTables.{Table, sheet_published}
 use Rattle.forward_price.specs.Sheets.{lists_class}
 use Rattle.forward_price.specs.declared.price_sheet.Sheet.{Sheet}
-use Rattle.fund_calendar.specs.PricingDays.{IsMoment}
 use Rattle.register_laws.proofs.LawfulJournals.{lawful-keeps}
 use Rattle.register_laws.proofs.OneEventMore.{gathers-on, table_goes_on}
 use Rattle.register_laws.proofs.PricesAnew.{is_of, more-still, sheet-complete}
@@ -23,7 +21,7 @@ use Rattle.register_machine.specs.journal.Journals.{Journal, with_event}
 use Rattle.register_machine.specs.journal.Kinds.{class_in, classes_of, each_in, price_fix_in, sheet_in}
 use Rattle.register_machine.specs.journal.Lawful.{IsLawful}
 use Rattle.register_machine.specs.pricing.CorrectedPrices.{price_as_corrected, sheet_as_corrected}
-use Rattle.register_machine.specs.pricing.PublishedTable.{moment_of, table_behind, table_by, table_of}
+use Rattle.register_machine.specs.pricing.PublishedTable.{table_behind, table_by, table_of}
 use Rattle.register_machine.specs.rules.InOrder.{broken_rule}
 
 -- ---- lists
@@ -35,44 +33,6 @@ all-left P (x ∷ xs) ys all = All-cons P x xs (All-head P x (xs ++ ys) all) (al
 pub all-right : {X : Type 0} (P : X → Type 0) (xs ys : List X) → All P (xs ++ ys) → All P ys
 all-right P [] ys all = all
 all-right P (x ∷ xs) ys all = all-right P xs ys (All-tail P x (xs ++ ys) all)
-
--- ---- moments
-
-abbrev IsTimed : Sheet → Type 0
-IsTimed sheet = IsMoment sheet.moment
-
-abbrev IsFormTimed : SheetForm → Type 0
-IsFormTimed form = form.moment ≤ 7258118399
-
-within-range : (moment : ℕ) → moment ≤ 7258118399 → IsMoment (pos moment)
-within-range moment most = (omega (arith, ints), omega (arith, ints, most))
-
-timed-by : (table : Table) (moment : ℕ) (kind : EventKind) → All IsTimed table.sheets → All IsFormTimed (option_to_list (sheet_in kind)) → All IsTimed (table_by table moment kind).sheets
-timed-by table moment (EventKind.Sheet form) all own =
-    All-push IsTimed table.sheets (sheet_published table form.calendar (pos form.moment) form.prices) all
-    (within-range form.moment (All-head IsFormTimed form [] own))
-timed-by table moment (EventKind.Calendar form) all own = all
-timed-by table moment (EventKind.Close form) all own = all
-timed-by table moment (EventKind.Class form) all own = all
-timed-by table moment _ all own = all
-
-none-timed : All IsTimed (table_of []).sheets
-unfolding table_behind
-none-timed = All-nil IsTimed
-
-sheets-timed : (journal : Journal) → IsLawful journal → All IsFormTimed (each_in sheet_in journal) → All IsTimed (table_of journal).sheets
-sheets-timed =
-    lawful-keeps (λ journal. All IsFormTimed (each_in sheet_in journal) → All IsTimed (table_of journal).sheets)
-    (λ journal event lawful brought before all.
-    let parts = subst (All IsFormTimed) (gathers-on sheet_in journal event) all in
-    let own = option_to_list (sheet_in event.kind) in
-    subst (λ (table : Table). All IsTimed table.sheets) (sym (table_goes_on journal event))
-    (timed-by (table_of journal) event.moment event.kind (before (all-left IsFormTimed (each_in sheet_in journal) own parts)) (all-right IsFormTimed (each_in sheet_in journal) own parts)))
-    (λ none. none-timed)
-
-pub corrected-timed : (journal : Journal) → IsLawful journal → All (λ form. form.moment ≤ 7258118399) (each_in sheet_in journal) → All (λ sheet. IsMoment sheet.moment) (corrected_table journal).sheets
-corrected-timed journal lawful all =
-    All-map IsTimed (sheet_as_corrected (each_in price_fix_in journal)) (table_of journal).sheets (sheets-timed journal lawful all)
 
 -- ---- classes
 
@@ -91,7 +51,7 @@ known-still journal event class sheet known lists = more-still class_in (is_clas
 known-by : (journal : Journal) (event : Event) (class : ℕ) (kind : EventKind) → IsLawful journal → event.kind ≡ kind → IsBrought journal event → All (ListsKnown journal class) (table_of journal).sheets → All (ListsKnown (with_event journal event) class) (table_by (table_of journal) event.moment kind).sheets
 known-by journal event class (EventKind.Sheet form) lawful is brought all =
     let clear = subst (λ kind. broken_rule (own_at journal event.moment brought.caller) (request_of kind) ≡ None) is brought.clear in
-    All-push (ListsKnown (with_event journal event) class) (table_of journal).sheets (sheet_published (table_of journal) form.calendar (pos form.moment) form.prices)
+    All-push (ListsKnown (with_event journal event) class) (table_of journal).sheets (sheet_published (table_of journal) form.calendar form.moment form.prices)
     (λ k d short. known-still journal event class (get_or (table_of journal).sheets k d) (all k d short))
     (λ lists.
     more-still class_in (is_class class) journal event
@@ -124,4 +84,4 @@ corrected-known journal class lawful =
     (λ k d short lists.
     let sheet = get_or (table_of journal).sheets k d in
     sheets-known class journal lawful k d short
-    (sym (any-of-map (λ price. price.0 == class) (price_as_corrected fixes (moment_of sheet)) sheet.prices) ∙ lists))
+    (sym (any-of-map (λ price. price.0 == class) (price_as_corrected fixes sheet.moment) sheet.prices) ∙ lists))

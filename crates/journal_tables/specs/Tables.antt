@@ -109,9 +109,8 @@ abbrev pub brings_good_loads : EventKind → Bool
 brings_good_loads (EventKind.Class form) = has_good_loads form
 brings_good_loads _ = true
 
--- the moment of a sheet is in its range, and so is a rate
+-- a rate is in its range
 abbrev pub IsInRange : EventKind → Type 0
-IsInRange (EventKind.Sheet form) = form.moment ≤ 7258118399
 IsInRange (EventKind.Dividend form) = form.rate ≤ 1000000000
 IsInRange (EventKind.FixRate form) = form.rate ≤ 1000000000
 IsInRange _ = Unit {0}

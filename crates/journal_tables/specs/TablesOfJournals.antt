@@ -29,7 +29,7 @@ rate_given rates class moment =
     (option_map (λ form. form.rate) (find (declares class moment) rates.declared))
 
 -- The tables are those of the journal: each class, account and rate is found by its number as the journal has it, and there
--- are no more. What only the types of the code say of the journal's events stands here too: the range of a sheet's moment.
+-- are no more.
 pub record AreTablesOf (journal : Journal) (tables : Tables) : Type 0 where
   pub stand : StandByNumber tables
   pub terms : (class : ℕ)
@@ -42,7 +42,6 @@ pub record AreTablesOf (journal : Journal) (tables : Tables) : Type 0 where
   pub few_accounts : (household : ℕ)
       → count_by (λ row. row.household == household) tables.accounts
       ≤ count_by (λ form. form.household == household) (accounts_of journal)
-  pub moments : All (λ form. form.moment ≤ 7258118399) (each_in sheet_in journal)
 
 -- ---- from event to event
 

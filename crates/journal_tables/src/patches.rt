@@ -2,25 +2,17 @@
 ghost use Rattle.std.specs.Prelude.{◌≡◌, find, ◌==◌};
 ghost use Rattle.std.specs.Option.{option_copied};
 ghost use Rattle.journal_tables.specs.TablesOfJournals.{patch_on};
-ghost use Rattle.register_machine.specs.pricing.PublishedTable.{moment_of};
 ghost use Rattle.register_machine.specs.rules.NamedThings.{lists_at};
 
 use agent_events::FixPriceForm;
 use forward_price::{Patch, PriceBook, Sheet, lists_class};
 use money_units::Moment;
 
-// Whether a sheet is that of a moment.
-fn is_at(sheet: &Sheet, moment: Moment) -> bool
-    ensures { result ≡ (moment_of sheet.now == moment) }
-{
-    sheet.moment.unsigned_abs() == moment.seconds()
-}
-
 // Whether a sheet is that of a moment and lists a class.
 fn lists_at(sheet: &Sheet, class: u32, moment: Moment) -> bool
     ensures { result ≡ lists_at class moment sheet.now }
 {
-    is_at(sheet, moment) && lists_class(sheet.prices.as_slice(), class)
+    sheet.moment == moment && lists_class(sheet.prices.as_slice(), class)
 }
 
 /// The first sheet of a moment that lists a class; `None` exactly where there is none. It looks through the moments of all

@@ -176,14 +176,11 @@ impl JournalTables {
     }
 }
 
-// The ranges of the fields of an event.
+// The range of the rate of an event.
 fn ranges(kind: &EventKind)
     ensures { IsInRange kind.now }
 {
     match kind {
-        EventKind::Sheet(form) => {
-            let _moment = form.moment.seconds();
-        }
         EventKind::Dividend(form) => {
             let _rate = form.rate.millionths();
         }

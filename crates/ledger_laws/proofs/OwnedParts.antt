@@ -1,5 +1,5 @@
 -- The positions and the orders of a household's part are its own, by the facts of a sound book.
-use Rattle.std.proofs.Common.{All, Bool, List, None, Option, Some, ap, arith, false, filter, get_or, length, option_map, option_to_list, pos, refl, subst, sym, take, true, ℕ, ◌+◌, ◌<◌, ◌==◌, ◌∙◌, ◌≡◌}
+use Rattle.std.proofs.Common.{All, Bool, List, None, Option, Some, ap, arith, false, filter, get_or, length, option_map, option_to_list, refl, subst, sym, take, true, ℕ, ◌+◌, ◌<◌, ◌==◌, ◌∙◌, ◌≡◌}
 use Rattle.std.proofs.lemmas.Bool.{and_parts, eqb-true, true≢false}
 use Rattle.std.proofs.lemmas.List.{get_or_default}
 use Rattle.std.proofs.lemmas.List.Elements.{All-filter, All-map, All-nil, All-weaker, filter_passes}
@@ -105,12 +105,12 @@ numbered-there sheets sheet place d are short (k, within, e) same =
 -- an order priced on a sheet has its classes listed there
 lists-own : (sheets : List Sheet) (place : ℕ) (d : Sheet) (row : OrderRow) → AreNumbered sheets → place < length sheets → is_priced_on (get_or sheets place d).number (priced_in sheets row) ≡ true → lists_all (get_or sheets place d).prices (classes_in row.order.body) ≡ true
 lists-own sheets place d row are short priced =
-    by (next_sheet sheets (classes_in row.order.body) (pos row.receipt)) refl priced
+    by (next_sheet sheets (classes_in row.order.body) row.receipt) refl priced
   where
-    by : (found : Option Sheet) → next_sheet sheets (classes_in row.order.body) (pos row.receipt) ≡ found → option_map_or (λ number. number == (get_or sheets place d).number) (option_map (λ (sheet : Sheet). sheet.number) found) false ≡ true → lists_all (get_or sheets place d).prices (classes_in row.order.body) ≡ true
+    by : (found : Option Sheet) → next_sheet sheets (classes_in row.order.body) row.receipt ≡ found → option_map_or (λ number. number == (get_or sheets place d).number) (option_map (λ (sheet : Sheet). sheet.number) found) false ≡ true → lists_all (get_or sheets place d).prices (classes_in row.order.body) ≡ true
     by None is e = absurd (true≢false (sym e))
     by (Some sheet) is e =
-        let next = next_sheet-next sheets (classes_in row.order.body) (pos row.receipt) sheet is in
+        let next = next_sheet-next sheets (classes_in row.order.body) row.receipt sheet is in
         let same = numbered-there sheets sheet place d are short next.among (eqb-true sheet.number (get_or sheets place d).number e) in
         subst (λ (s : Sheet). lists_all s.prices (classes_in row.order.body) ≡ true) same next.lists
 

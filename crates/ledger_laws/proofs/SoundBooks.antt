@@ -1,7 +1,6 @@
 -- The book of a lawful journal is sound, and tables that agree with a book give its facts.
-use Rattle.std.proofs.Common.{All, Bool, List, None, Option, Some, [], ap, arith, false, filter, get_or, is_some, map, option_map, refl, sym, true, ℕ, ℤ, ◌&&◌, ◌==◌, ◌||◌, ◌∙◌, ◌∷◌, ◌≡◌}
+use Rattle.std.proofs.Common.{All, Bool, List, None, Option, Some, [], ap, arith, false, filter, get_or, is_some, map, option_map, refl, sym, true, ℕ, ◌&&◌, ◌==◌, ◌||◌, ◌∙◌, ◌∷◌, ◌≡◌}
 use Rattle.std.proofs.lemmas.Bool.{and_parts}
-use Rattle.std.proofs.lemmas.Int.{ints}
 use Rattle.std.proofs.lemmas.List.Elements.{All-append, All-cons, All-contains, All-filter, All-head, All-map, All-nil, All-tail, All-weaker}
 use Rattle.std.specs.List.{list_all, list_any}
 use Rattle.std.specs.Option.{option_map_or}
@@ -50,7 +49,7 @@ orders-named journal lawful =
     (all-true (λ (row : OrderRow). is_placed_in journal row.order) (orders_of journal) (names_stand journal lawful).orders))
 
 -- a class that a sheet must list was opened
-must-open : (openings : List Opening) (calendar : ℕ) (moment : ℤ) (class : ℕ) → must_list openings calendar moment class ≡ true → list_any (λ (opening : Opening). opening.class == class) openings ≡ true
+must-open : (openings : List Opening) (calendar : ℕ) (moment : ℕ) (class : ℕ) → must_list openings calendar moment class ≡ true → list_any (λ (opening : Opening). opening.class == class) openings ≡ true
 must-open [] calendar moment class e = e
 must-open (opening ∷ openings) calendar moment class e =
     first (opening.class == class) (is_offered_at calendar moment opening) (must_list openings calendar moment class) (list_any (λ (o : Opening). o.class == class) openings) (must-open openings calendar moment class) e
@@ -66,21 +65,21 @@ sheets-listed journal orderly k d short class lists =
 
 -- ---- the moments of sheets
 
-days-dated : (c : Listing) → IsCalendar c → All (λ (pair : ℤ × ℕ). IsMoment pair.0) (pairs_of c)
+days-dated : (c : Listing) → IsCalendar c → All (λ (pair : ℕ × ℕ). IsMoment pair.0) (pairs_of c)
 days-dated c is =
-    All-map (λ (pair : ℤ × ℕ). IsMoment pair.0) (pricing_pair c.number) c.days
-    (λ k d short. let low = is.listing.within k d short in (omega (arith, ints), omega (arith, ints, low)))
+    All-map (λ (pair : ℕ × ℕ). IsMoment pair.0) (pricing_pair c.number) c.days
+    (λ k d short. let low = is.listing.within k d short in (omega arith, omega (arith, low)))
 
-pairs-dated : (calendars : List Listing) → All IsCalendar calendars → All (λ (pair : ℤ × ℕ). IsMoment pair.0) (pricing_pairs calendars)
-pairs-dated [] are = All-nil (λ (pair : ℤ × ℕ). IsMoment pair.0)
+pairs-dated : (calendars : List Listing) → All IsCalendar calendars → All (λ (pair : ℕ × ℕ). IsMoment pair.0) (pricing_pairs calendars)
+pairs-dated [] are = All-nil (λ (pair : ℕ × ℕ). IsMoment pair.0)
 pairs-dated (c ∷ cs) are =
-    All-append (λ (pair : ℤ × ℕ). IsMoment pair.0) (pairs_of c) (pricing_pairs cs) (days-dated c (All-head IsCalendar c cs are)) (pairs-dated cs (All-tail IsCalendar c cs are))
+    All-append (λ (pair : ℕ × ℕ). IsMoment pair.0) (pairs_of c) (pricing_pairs cs) (days-dated c (All-head IsCalendar c cs are)) (pairs-dated cs (All-tail IsCalendar c cs are))
 
 pub sheets-dated : (journal : Journal) → IsOrderly (book_behind journal).table → All IsCalendar (book_behind journal).table.calendars → All IsDated (book_behind journal).table.sheets
 sheets-dated journal orderly are k d short =
     let table = (book_behind journal).table in
     let sheet = get_or table.sheets k d in
-    All-contains (λ (pair : ℤ × ℕ). IsMoment pair.0) (pricing_pairs table.calendars) (sheet.moment, sheet.calendar)
+    All-contains (λ (pair : ℕ × ℕ). IsMoment pair.0) (pricing_pairs table.calendars) (sheet.moment, sheet.calendar)
     (pairs-dated table.calendars are) (orderly.on_pricing_days k d short)
 
 pub has_a_sound_book : (journal : Journal) → LawfulHasASoundBook journal

@@ -9,7 +9,6 @@ use Rattle.register_laws.proofs.AlikeDays.{Alike, dividends-alike, letter_ends-a
 use Rattle.register_laws.proofs.ReplayedAlone.{AnyClass, any-body}
 use Rattle.register_machine.specs.pricing.CorrectedBook.{Book}
 use Rattle.register_machine.specs.pricing.DividendRates.{rate_at}
-use Rattle.register_machine.specs.pricing.PublishedTable.{moment_of}
 use Rattle.register_machine.specs.replay.DayStep.{day_after_order, day_after_orders, day_step}
 use Rattle.register_machine.specs.replay.Dividend.{day_after_class, day_after_dividend, day_after_dividends, day_after_rate, keys_of_class}
 use Rattle.register_machine.specs.replay.Letter.{day_after_letter_end, day_after_letter_ends, keys_of_letters_over}
@@ -43,7 +42,7 @@ module _ (book : Book) (sheet : Sheet) (before : List Trade) where
       (fold_along step step (IsBehind before) steps d e (keys d.register) is)
 
   class-behind : (d e : Day) (price : ℕ × ℕ) → IsBehind before d e → IsBehind before (day_after_class book.rates sheet d price) (day_after_class book.rates sheet e price)
-  class-behind d e price is = by_rate (rate_at book.rates price.0 (moment_of sheet))
+  class-behind d e price is = by_rate (rate_at book.rates price.0 sheet.moment)
     where
       by_rate : (rate : ℕ) → IsBehind before (cond (rate == 0) d (day_after_rate sheet rate price d)) (cond (rate == 0) e (day_after_rate sheet rate price e))
       by_rate rate = elim (rate == 0) as (λ b. IsBehind before (cond b d (day_after_rate sheet rate price d)) (cond b e (day_after_rate sheet rate price e))) [

@@ -20,7 +20,6 @@ use Rattle.register_laws.specs.Households.{is_of_household, is_own_position, is_
 use Rattle.register_laws.specs.ReplayKeeps.{AreInOrder}
 use Rattle.register_machine.specs.journal.Kinds.{household_of}
 use Rattle.register_machine.specs.pricing.CorrectedBook.{Book, counts}
-use Rattle.register_machine.specs.pricing.PublishedTable.{moment_of}
 use Rattle.register_machine.specs.replay.DayStep.{day_step}
 use Rattle.register_machine.specs.replay.Positions.{Position, Register, position_of}
 use Rattle.register_machine.specs.replay.Purchase.{credit_of, is_counted, worth_on}
@@ -83,7 +82,7 @@ module _ (book other : Book) (alike : BooksAlike other book) (household : ℕ) (
           };
         };
         class = λ price. refl;
-        prices = λ k d short. record { same = λ _. refl; rate = λ _. sym (alike.rate (get_or sheet.prices k d).0 (moment_of sheet)) };
+        prices = λ k d short. record { same = λ _. refl; rate = λ _. sym (alike.rate (get_or sheet.prices k d).0 sheet.moment) };
       }
 
   -- a step over own orders does the same in both, and leaves own positions

@@ -1,5 +1,5 @@
 -- The calendar of a load, computed once: its terms are lawful, and all its pricing moments come before 2034.
-use Rattle.std.proofs.Common.{◌≡◌, ℕ, zero, suc, ◌≤◌, ◌+◌, Bool, true, false, ◌&&◌, nat_le, List, [], ◌∷◌, Ok, Err, refl, sym, subst, ap, ◌∙◌, inl, inr, arith, pos, nat_abs, option_map}
+use Rattle.std.proofs.Common.{◌≡◌, ℕ, zero, suc, ◌≤◌, ◌+◌, Bool, true, false, ◌&&◌, nat_le, nat_lt, cond, find, Some, List, [], ◌∷◌, Ok, Err, refl, sym, subst, ap, ◌∙◌, inl, inr, arith, option_map}
 use Rattle.std.specs.Prelude.{unwrap_or}
 use Rattle.std.specs.Result.{is_ok}
 use Rattle.std.specs.List.{list_all}
@@ -60,13 +60,13 @@ moment_before entry e = elim (leb_tells entry.moment 2019686400) [
   | inr (f, _) ↦ absurd (true≢false (sym e ∙ f))
 ]
 
-after_within : (days : List PricingDay) (moment : ℕ) → list_all is_before_2034 days ≡ true → moment ≤ 2019686400 → unwrap_or (option_map nat_abs (first_above days (pos moment))) moment ≤ 2019686400
+after_within : (days : List PricingDay) (moment : ℕ) → list_all is_before_2034 days ≡ true → moment ≤ 2019686400 → unwrap_or (first_above days moment) moment ≤ 2019686400
 after_within [] moment early h = h
 after_within (entry ∷ later) moment early h =
     let parts = both (is_before_2034 entry) (list_all is_before_2034 later) early in
-    elim (leb_tells (moment + 1) entry.moment) [
-      | inl (t, _) ↦ rw t (moment_before entry parts.0)
-      | inr (f, _) ↦ rw f (after_within later moment parts.1 h)
+    elim (nat_lt moment entry.moment) as (λ b. unwrap_or (option_map (λ (e : PricingDay). e.moment) (cond b (Some entry) (find (λ e. nat_lt moment e.moment) later))) moment ≤ 2019686400) [
+      | true ↦ moment_before entry parts.0
+      | false ↦ after_within later moment parts.1 h
     ]
 
 pub pricing_within : (day : ℕ) → pricing_moment day ≤ 2019686400

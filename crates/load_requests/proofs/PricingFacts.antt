@@ -1,9 +1,9 @@
 -- The pricing moment of a day is the one at its place in the listing, where the place 0 has the day before the opening; and
 -- pricing moments lie more than two hours apart.
-use Rattle.std.proofs.Common.{◌≡◌, ℕ, zero, suc, ◌<◌, ◌≤◌, ◌+◌, Bool, true, false, ◌&&◌, nat_le, List, [], ◌∷◌, length, get_or, slice_get, Option, Some, option_map, refl, sym, ap, ◌∙◌, inl, inr, arith, ℤ, pos, nat_abs}
+use Rattle.std.proofs.Common.{◌≡◌, ℕ, zero, suc, ◌<◌, ◌≤◌, ◌+◌, Bool, true, false, ◌&&◌, nat_le, nat_lt, List, [], ◌∷◌, length, get_or, slice_get, Option, Some, option_map, refl, sym, ap, ◌∙◌, inl, inr, arith}
 use Rattle.std.specs.Prelude.{unwrap_or}
 use Rattle.std.proofs.lemmas.Bool.{true≢false}
-use Rattle.std.proofs.lemmas.Bool.Decides.{leb_tells}
+use Rattle.std.proofs.lemmas.Bool.Decides.{Decides-ltb, leb_tells}
 use Rattle.fund_calendar.specs.declared.pricing_day.PricingDay.{PricingDay}
 use Rattle.fund_calendar.specs.PricingDays.{first_above}
 use Rattle.fund_calendar.proofs.LookUpLemmas.{get_within}
@@ -31,11 +31,14 @@ both false b e = absurd (true≢false (sym e))
 is_le : (a b : ℕ) → nat_le a b ≡ true → a ≤ b
 is_le a b e = elim (leb_tells a b) [ inl (_, le) ↦ le | inr (f, _) ↦ absurd (true≢false (sym e ∙ f)) ]
 
-le_is : (a b : ℕ) → a ≤ b → nat_le a b ≡ true
-le_is a b h = elim (leb_tells a b) [ inl (t, _) ↦ t | inr (_, gt) ↦ absurd (omega arith) ]
+lt_is : (a b : ℕ) → a < b → nat_lt a b ≡ true
+lt_is a b h = (Decides-ltb a b).1 h
 
-gt_is : (a b : ℕ) → b < a → nat_le a b ≡ false
-gt_is a b h = elim (leb_tells a b) [ inl (_, le) ↦ absurd (omega arith) | inr (f, _) ↦ f ]
+ge_is : (a b : ℕ) → b ≤ a → nat_lt a b ≡ false
+ge_is a b h = elim (nat_lt a b) as (λ t. nat_lt a b ≡ t → t ≡ false) [
+  | true ↦ λ e. absurd (let less = (Decides-ltb a b).0 e in omega arith)
+  | false ↦ λ e. refl
+] refl
 
 apart_first : (low : ℕ) (entry : PricingDay) (later : List PricingDay) → apart_from low (entry ∷ later) ≡ true → low + 7200 ≤ entry.moment
 unfolding apart_from
@@ -57,7 +60,7 @@ above_low (entry ∷ later) low (suc place) x e at =
     let rest = above_low later entry.moment place x (apart_later low entry later e) at in omega (arith, first, rest)
 
 -- the first moment above one that is listed is the next one, two hours or more later
-pub next_listed : (days : List PricingDay) (low place : ℕ) (x y : PricingDay) → apart_from low days ≡ true → slice_get days place ≡ Some x → slice_get days (suc place) ≡ Some y → (first_above days (pos x.moment) ≡ Some (pos y.moment)) × (x.moment + 7200 ≤ y.moment)
+pub next_listed : (days : List PricingDay) (low place : ℕ) (x y : PricingDay) → apart_from low days ≡ true → slice_get days place ≡ Some x → slice_get days (suc place) ≡ Some y → (first_above days x.moment ≡ Some y.moment) × (x.moment + 7200 ≤ y.moment)
 next_listed [] low place x y e at behind = cc
 next_listed (entry ∷ []) low zero x y e at behind = cc
 next_listed (entry ∷ next ∷ later) low zero x y e at behind =
@@ -66,14 +69,14 @@ next_listed (entry ∷ next ∷ later) low zero x y e at behind =
     let gap = apart_first entry.moment next later (apart_later low entry (next ∷ later) e) in
     let moment = ap (λ (d : PricingDay). d.moment) same in
     let moment_next = ap (λ (d : PricingDay). d.moment) same_next in (
-      rw (gt_is (x.moment + 1) entry.moment (omega (arith, moment))) (rw (le_is (x.moment + 1) next.moment (omega (arith, moment, gap))) (ap (λ (d : PricingDay). Some (pos d.moment)) same_next)),
+      rw (ge_is x.moment entry.moment (omega (arith, moment))) (rw (lt_is x.moment next.moment (omega (arith, moment, gap))) (ap (λ (d : PricingDay). Some d.moment) same_next)),
       omega (arith, moment, moment_next, gap),
     )
 next_listed (entry ∷ later) low (suc place) x y e at behind =
     let rest = apart_later low entry later e in
     let over = above_low later entry.moment place x rest at in
     let found = next_listed later entry.moment place x y rest at behind in
-    (rw (gt_is (x.moment + 1) entry.moment (omega (arith, over))) found.0, found.1)
+    (rw (ge_is x.moment entry.moment (omega (arith, over))) found.0, found.1)
 
 -- the entry at a place
 unfoldable pub entry_at : ℕ → PricingDay
@@ -89,12 +92,12 @@ first_pricing : (pricing_moment 1 ≡ 1704229200) × ((entry_at 1).moment ≡ 17
 unfolding load_on_literals entry_at
 first_pricing = (refl, refl)
 
-next_entry : (place : ℕ) → suc place < 2600 → (first_above load_listing.days (pos (entry_at place).moment) ≡ Some (pos (entry_at (suc place)).moment)) × ((entry_at place).moment + 7200 ≤ (entry_at (suc place)).moment)
+next_entry : (place : ℕ) → suc place < 2600 → (first_above load_listing.days (entry_at place).moment ≡ Some (entry_at (suc place)).moment) × ((entry_at place).moment + 7200 ≤ (entry_at (suc place)).moment)
 next_entry place h =
     next_listed load_listing.days 0 place (entry_at place) (entry_at (suc place)) apart (is_entry place (omega (arith, h))) (is_entry (suc place) h)
 
-found_after : (m n : ℕ) → first_above load_listing.days (pos m) ≡ Some (pos n) → pricing_after load_listing m ≡ n
-found_after m n e = ap (λ (found : Option ℤ). unwrap_or (option_map nat_abs found) m) e
+found_after : (m n : ℕ) → first_above load_listing.days m ≡ Some n → pricing_after load_listing m ≡ n
+found_after m n e = ap (λ (found : Option ℕ). unwrap_or found m) e
 
 pricing_is : (day : ℕ) → suc day < 2600 → pricing_moment (suc day) ≡ (entry_at (suc day)).moment
 pricing_is zero h = first_pricing.0 ∙ sym first_pricing.1

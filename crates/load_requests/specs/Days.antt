@@ -1,6 +1,6 @@
 -- A day of a load: an order of every household an hour before the pricing moment, the sheet an hour behind it, and on every
 -- tenth day a correction of the sheet of five days before.
-use Rattle.std.specs.Prelude.{ℕ, zero, suc, ◌+◌, ◌-◌, ◌*◌, ◌/◌, ◌%◌, ◌==◌, if◌then◌else◌, List, [], ◌∷◌, Bool, nat_abs, option_map, pos, unwrap_or}
+use Rattle.std.specs.Prelude.{ℕ, zero, suc, ◌+◌, ◌-◌, ◌*◌, ◌/◌, ◌%◌, ◌==◌, if◌then◌else◌, List, [], ◌∷◌, Bool, option_map, unwrap_or}
 use Rattle.agent_events.specs.declared.order.Bearer.{Bearer}
 use Rattle.agent_events.specs.declared.order.Body.{Body}
 use Rattle.agent_events.specs.declared.order.Order.{Order}
@@ -13,7 +13,7 @@ use Rattle.load_requests.specs.declared.load.Load.{Load}
 
 -- the first pricing moment of a calendar after a moment, or this one where none is left
 abbrev pub pricing_after : Listing → ℕ → ℕ
-pricing_after listing moment = unwrap_or (option_map nat_abs (next_after listing (pos moment))) moment
+pricing_after listing moment = unwrap_or (next_after listing moment) moment
 
 -- the pricing moment of a day: the day-th one after the opening
 abbrev pub pricing_moment : ℕ → ℕ

@@ -3,7 +3,7 @@ ghost use Rattle.std.specs.Prelude.{◌≡◌, ◌≤◌, ◌<◌, ◌+◌, ◌-
 ghost use Rattle.load_requests.specs.Days as spec;
 
 use crate::draws::draw_of;
-use crate::numbers::{amount, identifier, moment, nav, quantity, reference};
+use crate::numbers::{amount, identifier, nav, quantity, reference};
 use agent_events::{Bearer, Body, FixPriceForm, Order, RisingPrices, SheetForm, SheetPrices};
 use fund_calendar::Calendar;
 use money_units::{List, Moment, Nav, NoMemory};
@@ -18,17 +18,14 @@ const DEFERRED_CLASS: u32 = 12;
 pub(crate) fn pricing_after(calendar: &Calendar, from: Moment) -> Moment
     ensures { result ≡ spec.pricing_after calendar.now from }
 {
-    match calendar.next_after(from.seconds()) {
-        Some(next) => moment(next as u64),
-        None => from,
-    }
+    calendar.next_after(from).unwrap_or(from)
 }
 
 /// An hour before a moment.
 pub(crate) fn hour_before(from: Moment) -> Moment
     ensures { result ≡ from - 3600 }
 {
-    moment(from.seconds().saturating_sub(3_600))
+    from.earlier(3_600)
 }
 
 /// An hour behind a moment.
@@ -36,7 +33,7 @@ pub(crate) fn hour_behind(from: Moment) -> Moment
     requires { from ≤ 7258114799 }
     ensures { result ≡ from + 3600 }
 {
-    moment(from.seconds() + 3_600)
+    from.later(3_600)
 }
 
 /// The part of a draw that says how much.

@@ -2,7 +2,7 @@
 ghost use Rattle.std.specs.Prelude.{◌≡◌, ◌≤◌};
 
 use agent_events::{Amount, Identifier, Minimum, Quantity, Reference};
-use money_units::{Cents, Mils, Moment, Nav};
+use money_units::{Cents, Mils, Nav};
 
 /// The number of a class, calendar, fund, household or account.
 pub(crate) fn identifier(number: u32) -> Identifier
@@ -68,17 +68,6 @@ pub(crate) fn nav(cents: u64) -> Nav
 {
     match Nav::new(cents) {
         Some(nav) => nav,
-        None => unreachable!(),
-    }
-}
-
-/// A moment of so many seconds.
-pub(crate) fn moment(seconds: u64) -> Moment
-    requires { seconds ≤ 7258118399 }
-    ensures { result ≡ seconds }
-{
-    match Moment::new(seconds) {
-        Some(moment) => moment,
         None => unreachable!(),
     }
 }

@@ -8,7 +8,7 @@ ghost use Rattle.load_requests.specs.Opening as spec;
 ghost use Rattle.load_requests.specs.Requests as spec_requests;
 
 use crate::load::Sent;
-use crate::numbers::{identifier, moment, one_cent};
+use crate::numbers::{identifier, one_cent};
 use agent_events::{
     AccountForm, CalendarForm, ClassForm, FrontBrackets, Holidays, HouseholdForm, HouseholdKey,
     Name, Request, TimeOfDay, ZoneText,
@@ -28,7 +28,7 @@ const CLOSE: u16 = 960;
 pub(crate) fn opening_moment() -> Moment
     ensures { result ≡ spec.opening_moment }
 {
-    moment(1_704_200_400)
+    Moment::start().later(1_704_200_400)
 }
 
 /// 2024-01-01.

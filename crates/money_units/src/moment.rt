@@ -1,5 +1,5 @@
 //! Moments, in seconds since 1970-01-01 00:00 UTC.
-ghost use Rattle.std.specs.Prelude.{◌≡◌, ◌-◌, ◌≤◌, SomeIff};
+ghost use Rattle.std.specs.Prelude.{◌≡◌, ◌+◌, ◌-◌, ◌≤◌, min, SomeIff};
 ghost use Rattle.money_units.specs.declared.moment.TheConstants.{MAX_MOMENT_SECONDS};
 
 use std::marker::Model;
@@ -52,12 +52,21 @@ impl Moment {
         self.seconds
     }
 
-    /// The moment a second earlier, and the first moment itself before itself.
-    pub fn second_before(self) -> Moment
-        ensures { result ≡ self - 1 }
+    /// The moment so many seconds earlier, or the first one where there is none.
+    pub fn earlier(self, seconds: u64) -> Moment
+        ensures { result ≡ self - seconds }
     {
         Moment {
-            seconds: self.seconds.saturating_sub(1),
+            seconds: self.seconds.saturating_sub(seconds),
+        }
+    }
+
+    /// The moment so many seconds later, or the last one where there is none.
+    pub fn later(self, seconds: u64) -> Moment
+        ensures { result ≡ min (self + seconds) 7258118399 }
+    {
+        Moment {
+            seconds: self.seconds.saturating_add(seconds).min(MAX_MOMENT_SECONDS),
         }
     }
 }

@@ -1,5 +1,5 @@
 -- The events of a lawful journal can change the book of its prices.
-use Rattle.std.proofs.Common.{AllPairs, Bool, Contains, Err, List, None, Ok, Option, Result, Some, [], ap, arith, cond, false, find, is_some, option_map, pos, refl, subst, suc, sym, true, zero, ℕ, ◌&&◌, ◌<◌, ◌==◌, ◌∙◌, ◌∷◌, ◌≡◌}
+use Rattle.std.proofs.Common.{AllPairs, Bool, Contains, Err, List, None, Ok, Option, Result, Some, [], ap, arith, cond, false, find, is_some, option_map, refl, subst, suc, sym, true, zero, ℕ, ◌&&◌, ◌<◌, ◌==◌, ◌∙◌, ◌∷◌, ◌≡◌}
 use Rattle.std.proofs.lemmas.Bool.{and_parts, eqb-true, true≢false}
 use Rattle.std.specs.List.{list_any}
 use Rattle.std.specs.Prelude.{not, option_and_then}
@@ -36,7 +36,7 @@ use Rattle.register_machine.specs.journal.Choices.{first_some}
 use Rattle.register_machine.specs.journal.Journals.{Journal, with_event}
 use Rattle.register_machine.specs.journal.Kinds.{class_numbered, classes_of}
 use Rattle.register_machine.specs.journal.Lawful.{IsLawful}
-use Rattle.register_machine.specs.pricing.PublishedTable.{calendar_checked, listing_by, moment_of, table_of}
+use Rattle.register_machine.specs.pricing.PublishedTable.{calendar_checked, listing_by, table_of}
 use Rattle.register_machine.specs.rules.InOrder.{Rule, broken_rule, first_rules}
 use Rattle.register_machine.specs.rules.NamedThings.{lists_at}
 use Rattle.register_machine.specs.rules.Situations.{no_right}
@@ -100,7 +100,7 @@ listed-there : (sheets : List Sheet) (number : ℕ) (form : FixPriceForm) → Ar
 listed-there sheets number form numbers priced =
     let found = found_in (λ (sheet : Sheet). sheet.number == number && lists_at form.class form.moment sheet) sheets priced in
     let both = and_parts (found.0.number == number) (lists_at form.class form.moment found.0) found.2 in
-    let lists = and_parts (moment_of found.0 == form.moment) (lists_class found.0.prices form.class) both.1 in
+    let lists = and_parts (found.0.moment == form.moment) (lists_class found.0.prices form.class) both.1 in
     ap (λ there. is_some (option_and_then (λ (sheet : Sheet). nav_on sheet.prices form.class) there)) (by-number sheets number found.0 (rising sheets numbers) found.1 (eqb-true found.0.number number both.0))
     ∙ nav-listed found.0.prices form.class lists.1
 
@@ -135,7 +135,7 @@ module _ (journal : Journal) (event : Event) (all : IsLawful (with_event journal
   next-sheet form is =
       let situation = own_at journal event.moment last.1.caller in
       let clear = clear-by (EventKind.Sheet form) is in
-      let found = without-fault (expected_of (book_behind journal).table) (wrong_class (table_of journal).classes form.calendar (pos form.moment) form.prices) form.calendar (pos form.moment) (pos event.moment)
+      let found = without-fault (expected_of (book_behind journal).table) (wrong_class (table_of journal).classes form.calendar form.moment form.prices) form.calendar form.moment event.moment
       (not_broken situation (Request.Sheet form) clear Rule.SheetOutOfTurn) (not_broken situation (Request.Sheet form) clear Rule.SheetIncomplete) (not_broken situation (Request.Sheet form) clear Rule.TooSoon) in
       record { expected = found.0; complete = found.1; count = (few_sheets journal last.0).corrected.in_range }
 

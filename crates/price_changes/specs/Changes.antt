@@ -1,5 +1,5 @@
 -- What an event changes in the price book: the calendar that it brings, the room that it takes, and what it asks of the table.
-use Rattle.std.specs.Prelude.{None, Ok, Option, Some, is_some, length, pos, true, ℕ, ◌<◌, ◌≡◌, ◌≤◌}
+use Rattle.std.specs.Prelude.{None, Ok, Option, Some, is_some, length, true, ℕ, ◌<◌, ◌≡◌, ◌≤◌}
 use Rattle.agent_events.specs.declared.event.EventKind.{EventKind}
 use Rattle.agent_events.specs.declared.request.FixPriceForm.{FixPriceForm}
 use Rattle.agent_events.specs.declared.request.SheetForm.{SheetForm}
@@ -29,8 +29,8 @@ HasRoomFor book _ = Unit {0}
 
 -- the sheet is the expected one and complete, and it has a number
 pub record IsNextSheet (table : Table) (form : SheetForm) : Type 0 where
-  pub expected : expected_of table ≡ Some (pos form.moment, form.calendar)
-  pub complete : wrong_class table.classes form.calendar (pos form.moment) form.prices ≡ None
+  pub expected : expected_of table ≡ Some (form.moment, form.calendar)
+  pub complete : wrong_class table.classes form.calendar form.moment form.prices ≡ None
   pub count : length table.sheets < 4294967295
 
 -- the corrected price is that of one sheet, found by its class and moment

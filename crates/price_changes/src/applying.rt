@@ -1,5 +1,5 @@
 //! An event changes the price book, without memory.
-ghost use Rattle.std.specs.Prelude.{◌≡◌, ◌≤◌, None, Some, length, pos};
+ghost use Rattle.std.specs.Prelude.{◌≡◌, ◌≤◌, None, Some, length};
 ghost use Rattle.agent_events.specs.declared.event.EventKind.{EventKind};
 ghost use Rattle.fund_calendar.specs.PricingDays.{Listing};
 ghost use Rattle.forward_price.specs.PriceTables.{calendar_numbered, with_calendar, with_class, with_published};
@@ -51,21 +51,20 @@ fn add_class(prices: &mut PriceBook, moment: Moment, form: &ClassForm)
     requires fits { CanChange prices.old.table (EventKind.Class form.now) }
     requires room { 1 ≤ prices.old.spare }
     ensures { prices.new.table
-        ≡ with_class prices.old.table form.now.class form.now.calendar (pos moment) }
+        ≡ with_class prices.old.table form.now.class form.now.calendar moment }
 {
-    let opened = moment.seconds();
-    prices.add_class(form.class.number(), form.calendar.number(), opened);
+    prices.add_class(form.class.number(), form.calendar.number(), moment);
 }
 
 fn publish(prices: &mut PriceBook, form: &SheetForm)
     requires fits { IsNextSheet prices.old.table form.now }
     requires room { length form.now.prices ≤ prices.old.list }
     ensures { prices.new.table
-        ≡ with_published prices.old.table form.now.calendar (pos form.now.moment) form.now.prices }
+        ≡ with_published prices.old.table form.now.calendar form.now.moment form.now.prices }
 {
     let _number = prices.publish(
         form.calendar.number(),
-        form.moment.seconds(),
+        form.moment,
         form.prices.as_slice(),
     );
 }

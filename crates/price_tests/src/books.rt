@@ -1,21 +1,21 @@
 //! Fixtures of the tests: calendars in New York, and price books with classes and sheets.
-use crate::fixtures::{day, nav};
+use crate::fixtures::{day, moment, nav};
 use forward_price::PriceBook;
 use fund_calendar::Calendar;
 use std::alloc::Global;
 use std::test::Fail;
 
 /// 2024-07-01 08:00 in New York.
-pub const OPENED: i64 = 1719835200;
+pub const OPENED: u64 = 1719835200;
 
 /// 16:00 in New York on 2024-07-01, 2024-07-02, 2024-07-03 and 2024-07-05; the 4th is a holiday.
-pub const FIRST: i64 = 1719864000;
+pub const FIRST: u64 = 1719864000;
 
-pub const SECOND: i64 = 1719950400;
+pub const SECOND: u64 = 1719950400;
 
-pub const THIRD: i64 = 1720036800;
+pub const THIRD: u64 = 1720036800;
 
-pub const FOURTH: i64 = 1720209600;
+pub const FOURTH: u64 = 1720209600;
 
 /// New York at 16:00 in 2024.
 pub fn new_york(alloc: Global, number: u32) -> Result<Calendar, Fail> {
@@ -41,13 +41,13 @@ pub fn open_class(
     book: &mut PriceBook,
     class: u32,
     calendar: u32,
-    opened: i64,
+    opened: u64,
 ) -> Result<(), Fail> {
     book.reserve(1)?;
     if book.opening(class).is_some() || book.calendar(calendar).is_none() {
         return Err("the class is known, or its calendar isn't".into());
     }
-    book.add_class(class, calendar, opened);
+    book.add_class(class, calendar, moment(opened)?);
     Ok(())
 }
 
@@ -55,11 +55,12 @@ pub fn open_class(
 pub fn publish_one(
     book: &mut PriceBook,
     calendar: u32,
-    moment: i64,
+    seconds: u64,
     class: u32,
     cents: u64,
 ) -> Result<u32, Fail> {
     let prices = [(class, nav(cents)?)];
+    let moment = moment(seconds)?;
     book.reserve(1)?;
     book.test(calendar, moment, &prices, moment)?;
     if book.sheets().len() >= 4_294_967_295 {

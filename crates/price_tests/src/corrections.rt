@@ -1,6 +1,6 @@
 //! Corrections of prices: on trial, and made.
 use crate::books::{FIRST, SECOND, THIRD, two_sheets};
-use crate::fixtures::nav;
+use crate::fixtures::{moment, nav};
 use forward_price::{NoSheet, Patch};
 use money_units::Nav;
 use std::process::Abort;
@@ -37,16 +37,16 @@ fn a_correction_on_trial_changes_its_price_alone(rt: HostRuntime) -> Result<(), 
 #[test]
 fn the_last_price_before_a_moment_is_found(rt: HostRuntime) -> Result<(), Fail> {
     let book = two_sheets(rt.alloc())?;
-    expect_price(&rt, book.last_before(None, 14, FIRST), None);
-    expect_price(&rt, book.last_before(None, 14, SECOND), Some(1000));
+    expect_price(&rt, book.last_before(None, 14, moment(FIRST)?), None);
+    expect_price(&rt, book.last_before(None, 14, moment(SECOND)?), Some(1000));
     expect_price(
         &rt,
-        book.last_before(patch(14, 900)?, 14, SECOND),
+        book.last_before(patch(14, 900)?, 14, moment(SECOND)?),
         Some(900),
     );
     expect_price(
         &rt,
-        book.last_before(patch(14, 900)?, 14, THIRD),
+        book.last_before(patch(14, 900)?, 14, moment(THIRD)?),
         Some(1100),
     );
     Ok(())
@@ -59,6 +59,6 @@ fn a_correction_changes_the_price_and_no_orders_sheet(rt: HostRuntime) -> Result
     expect_price(&rt, book.price(None, 1, 14), Some(1000));
     assert!(rt; book.correct(14, 1, nav(900)?).is_ok());
     expect_price(&rt, book.price(None, 1, 14), Some(900));
-    assert_eq!(rt; book.first_after(FIRST - 1, &[14]), Some(1));
+    assert_eq!(rt; book.first_after(moment(FIRST - 1)?, &[14]), Some(1));
     Ok(())
 }

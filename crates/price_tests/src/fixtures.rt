@@ -1,7 +1,7 @@
 //! Fixtures of the tests: dates, net asset values, and a load class of seven brackets.
 use class_terms::{Bracket, Brackets, Label, Schedule, Terms, TermsForm, check};
 use fund_calendar::{Day, read_day};
-use money_units::{Bps, Cents, Nav, NoMemory};
+use money_units::{Bps, Cents, Moment, Nav, NoMemory};
 use std::alloc::Global;
 use std::test::Fail;
 
@@ -23,6 +23,11 @@ pub fn day(text: &str) -> Result<Day, Fail> {
 /// A net asset value of so many cents.
 pub fn nav(cents: u64) -> Result<Nav, Fail> {
     Ok(Nav::new(cents).ok_or("no net asset value")?)
+}
+
+/// A moment of so many seconds.
+pub fn moment(seconds: u64) -> Result<Moment, Fail> {
+    Ok(Moment::new(seconds).ok_or("no moment")?)
 }
 
 fn brackets(alloc: Global) -> Result<Brackets, NoMemory> {

@@ -1,5 +1,5 @@
 //! Lists of prices: what a list has, and that it gives back its items.
-use crate::fixtures::nav;
+use crate::fixtures::{moment, nav};
 use forward_price::{NoSheet, Prices, PublishFault, lists_class, nav_on};
 use money_units::Nav;
 use std::alloc::Global;
@@ -40,13 +40,14 @@ fn a_list_gives_back_its_items(rt: HostRuntime) -> Result<(), Fail> {
 
 #[test]
 fn faults_are_told_in_words(rt: HostRuntime) -> Result<(), Fail> {
-    let turn = PublishFault::SheetOutOfTurn(1719864000, 1);
+    let first = moment(1719864000)?;
+    let turn = PublishFault::SheetOutOfTurn(first, 1);
     let told = format!(in rt.alloc(); "{turn}; {}; {NoSheet}", PublishFault::SheetIncomplete(13))?;
     let wanted =
         "the sheet of calendar 1 at 1719864000 is expected; class 13 is missing or too many; \
         the sheet doesn't list the class";
     assert_eq!(rt; told.as_str(), wanted);
-    let soon = format!(in rt.alloc(); "{}", PublishFault::TooSoon(1719864000))?;
+    let soon = format!(in rt.alloc(); "{}", PublishFault::TooSoon(first))?;
     assert_eq!(rt; soon.as_str(), "the moment 1719864000 is to come");
     Ok(())
 }

@@ -3,31 +3,33 @@ use crate::books::{
     FIRST, FOURTH, OPENED, SECOND, THIRD, enter_calendar, new_york, one_class, open_class,
     publish_one, two_calendars, two_sheets,
 };
-use crate::fixtures::{day, nav};
+use crate::fixtures::{day, moment, nav};
 use forward_price::{PriceBook, PublishFault};
 use fund_calendar::Calendar;
+use money_units::Moment;
 use std::alloc::Global;
 use std::process::Abort;
 use std::test::Fail;
 
 // What is due of one class, and expected.
-fn expect_dues(rt: &impl Abort, book: &PriceBook) {
-    for (receipt, moment) in [
+fn expect_dues(rt: &impl Abort, book: &PriceBook) -> Result<(), Fail> {
+    for (receipt, due) in [
         (FIRST - 1, FIRST),
         (FIRST, SECOND),
         (THIRD, FOURTH),
         (0, FIRST),
     ] {
-        assert_eq!(rt; book.due(&[14], receipt), Some(moment), "after {receipt}");
+        let found = book.due(&[14], moment(receipt)?);
+        assert_eq!(rt; found, Some(moment(due)?), "after {receipt}");
     }
-    assert_eq!(rt; book.expected(), Some((FIRST, 1)));
+    assert_eq!(rt; book.expected(), Some((moment(FIRST)?, 1)));
+    Ok(())
 }
 
 #[test]
 fn orders_are_due_over_a_holiday(rt: HostRuntime) -> Result<(), Fail> {
     let book = one_class(rt.alloc())?;
-    expect_dues(&rt, &book);
-    Ok(())
+    expect_dues(&rt, &book)
 }
 
 // What a closure behind the first sheet does.
@@ -42,10 +44,10 @@ fn expect_closure(rt: &impl Abort, book: &mut PriceBook) -> Result<(), Fail> {
     ];
     assert_eq!(rt; closed, [true, false, false]);
     assert_eq!(rt;
-        (book.due(&[14], FIRST), book.expected()),
-        (Some(THIRD), Some((THIRD, 1)))
+        (book.due(&[14], moment(FIRST)?), book.expected()),
+        (Some(moment(THIRD)?), Some((moment(THIRD)?, 1)))
     );
-    assert_eq!(rt; book.first_after(FIRST, &[14]), None);
+    assert_eq!(rt; book.first_after(moment(FIRST)?, &[14]), None);
     Ok(())
 }
 
@@ -58,10 +60,10 @@ fn a_closed_day_is_passed_over(rt: HostRuntime) -> Result<(), Fail> {
 // What is found of two sheets.
 fn expect_sheets(rt: &impl Abort, book: &PriceBook) -> Result<(), Fail> {
     let found = [
-        book.first_after(FIRST - 1, &[14]),
-        book.first_after(FIRST, &[14]),
-        book.sheet_at(1, THIRD),
-        book.sheet_at(1, SECOND),
+        book.first_after(moment(FIRST - 1)?, &[14]),
+        book.first_after(moment(FIRST)?, &[14]),
+        book.sheet_at(1, moment(THIRD)?),
+        book.sheet_at(1, moment(SECOND)?),
     ];
     assert_eq!(rt; found, [Some(1), Some(2), None, Some(2)]);
     let tuesday = day("2024-07-02")?;
@@ -90,15 +92,13 @@ fn publish_late(rt: &impl Abort, book: &mut PriceBook, late: Calendar) -> Result
 }
 
 // The cents of a class on the last sheet before a moment.
-fn cents_before(book: &PriceBook, class: u32, moment: i64) -> Option<u64> {
-    match book.last_before(None, class, moment) {
-        Some(nav) => Some(nav.cents()),
-        None => None,
-    }
+fn cents_before(book: &PriceBook, class: u32, seconds: u64) -> Option<u64> {
+    let nav = book.last_before(None, class, Moment::new(seconds)?)?;
+    Some(nav.cents())
 }
 
 // Which sheets are found of two calendars, and which prices.
-fn expect_out_of_order(rt: &impl Abort, book: &PriceBook) {
+fn expect_out_of_order(rt: &impl Abort, book: &PriceBook) -> Result<(), Fail> {
     for (receipt, class, number) in [
         (FIRST - 1, 14, Some(1)),
         (FIRST, 14, Some(2)),
@@ -107,20 +107,21 @@ fn expect_out_of_order(rt: &impl Abort, book: &PriceBook) {
         (FIRST, 24, Some(4)),
     ] {
         assert_eq!(rt;
-            book.first_after(receipt, &[class]),
+            book.first_after(moment(receipt)?, &[class]),
             number,
             "{class} after {receipt}"
         );
     }
-    for (class, moment, cents) in [
+    for (class, seconds, cents) in [
         (14, SECOND, Some(1000)),
         (14, THIRD, Some(1100)),
         (24, FIRST, None),
         (24, THIRD, Some(600)),
     ] {
-        let found = cents_before(book, class, moment);
-        assert_eq!(rt; found, cents, "{class} before {moment}");
+        let found = cents_before(book, class, seconds);
+        assert_eq!(rt; found, cents, "{class} before {seconds}");
     }
+    Ok(())
 }
 
 // A calendar that comes late has moments before those of the sheets that are published.
@@ -129,27 +130,34 @@ fn sheets_out_of_order_are_looked_up(rt: HostRuntime) -> Result<(), Fail> {
     let mut book = two_sheets(rt.alloc())?;
     let late = new_york(rt.alloc(), 2)?;
     publish_late(&rt, &mut book, late)?;
-    expect_out_of_order(&rt, &book);
-    Ok(())
+    expect_out_of_order(&rt, &book)
 }
 
 // An empty book expects and takes no sheet.
-fn expect_none_taken(rt: &impl Abort, empty: &PriceBook) {
+fn expect_none_taken(rt: &impl Abort, empty: &PriceBook) -> Result<(), Fail> {
     assert_eq!(rt; empty.expected(), None);
-    let refused = empty.test(1, FIRST, &[], FIRST).err();
-    assert_eq!(rt; refused, Some(PublishFault::SheetOutOfTurn(0, 0)));
+    let first = moment(FIRST)?;
+    let refused = empty.test(1, first, &[], first).err();
+    assert_eq!(rt;
+        refused,
+        Some(PublishFault::SheetOutOfTurn(Moment::start(), 0))
+    );
+    Ok(())
 }
 
 // Which sheets of two calendars are refused.
 fn expect_refused(rt: &impl Abort, book: &PriceBook) -> Result<(), Fail> {
     let prices = [(14, nav(1000)?)];
-    for (calendar, moment, fault) in [
-        (1, SECOND, PublishFault::SheetOutOfTurn(FIRST, 1)),
-        (2, FIRST, PublishFault::SheetOutOfTurn(FIRST, 1)),
-        (1, FIRST, PublishFault::TooSoon(FIRST)),
+    let first = moment(FIRST)?;
+    for (calendar, seconds, fault) in [
+        (1, SECOND, PublishFault::SheetOutOfTurn(first, 1)),
+        (2, FIRST, PublishFault::SheetOutOfTurn(first, 1)),
+        (1, FIRST, PublishFault::TooSoon(first)),
     ] {
-        let refused = book.test(calendar, moment, &prices, FIRST - 1).err();
-        assert_eq!(rt; refused, Some(fault), "calendar {calendar} at {moment}");
+        let refused = book
+            .test(calendar, moment(seconds)?, &prices, moment(FIRST - 1)?)
+            .err();
+        assert_eq!(rt; refused, Some(fault), "calendar {calendar} at {seconds}");
     }
     Ok(())
 }
@@ -157,7 +165,7 @@ fn expect_refused(rt: &impl Abort, book: &PriceBook) -> Result<(), Fail> {
 #[test]
 fn a_sheet_out_of_turn_is_refused(rt: HostRuntime) -> Result<(), Fail> {
     let empty = PriceBook::new(rt.alloc())?;
-    expect_none_taken(&rt, &empty);
+    expect_none_taken(&rt, &empty)?;
     let book = two_calendars(rt.alloc())?;
     expect_refused(&rt, &book)
 }
@@ -166,13 +174,15 @@ fn a_sheet_out_of_turn_is_refused(rt: HostRuntime) -> Result<(), Fail> {
 fn expect_lists(rt: &impl Abort, book: &mut PriceBook) -> Result<(), Fail> {
     let one = [(14, nav(1000)?)];
     let two = [(13, nav(2000)?), (14, nav(1000)?)];
-    let refused = book.test(1, FIRST, &two, FIRST).err();
+    let first = moment(FIRST)?;
+    let second = moment(SECOND)?;
+    let refused = book.test(1, first, &two, first).err();
     assert_eq!(rt; refused, Some(PublishFault::SheetIncomplete(13)));
     publish_one(book, 1, FIRST, 14, 1000)?;
     publish_one(book, 2, FIRST, 24, 1000)?;
-    let refused = book.test(1, SECOND, &one, SECOND).err();
+    let refused = book.test(1, second, &one, second).err();
     assert_eq!(rt; refused, Some(PublishFault::SheetIncomplete(13)));
-    assert!(rt; book.test(1, SECOND, &two, SECOND).is_ok());
+    assert!(rt; book.test(1, second, &two, second).is_ok());
     Ok(())
 }
 
@@ -185,10 +195,10 @@ fn a_sheet_lists_the_classes_that_are_open(rt: HostRuntime) -> Result<(), Fail> 
 // In which order the sheets of two calendars come.
 fn expect_order(rt: &impl Abort, book: &mut PriceBook) -> Result<(), Fail> {
     let first = publish_one(book, 1, FIRST, 14, 1000)?;
-    assert_eq!(rt; (first, book.expected()), (1, Some((FIRST, 2))));
+    assert_eq!(rt; (first, book.expected()), (1, Some((moment(FIRST)?, 2))));
     let second = publish_one(book, 2, FIRST, 24, 1000)?;
-    assert_eq!(rt; (second, book.expected()), (2, Some((SECOND, 1))));
-    assert_eq!(rt; book.first_after(0, &[13, 14]), None);
+    assert_eq!(rt; (second, book.expected()), (2, Some((moment(SECOND)?, 1))));
+    assert_eq!(rt; book.first_after(Moment::start(), &[13, 14]), None);
     Ok(())
 }
 
@@ -199,18 +209,18 @@ fn sheets_go_by_moment_and_calendar(rt: HostRuntime) -> Result<(), Fail> {
 }
 
 // What is left of two sheets where each is withdrawn.
-fn expect_withdrawn(rt: &impl Abort, book: &mut PriceBook) {
+fn expect_withdrawn(rt: &impl Abort, book: &mut PriceBook) -> Result<(), Fail> {
     assert!(rt; book.withdraw());
-    assert_eq!(rt; book.expected(), Some((SECOND, 1)));
+    assert_eq!(rt; book.expected(), Some((moment(SECOND)?, 1)));
     assert_eq!(rt; (book.withdraw(), book.withdraw()), (true, false));
-    assert_eq!(rt; book.first_after(0, &[14]), None);
+    assert_eq!(rt; book.first_after(Moment::start(), &[14]), None);
+    Ok(())
 }
 
 #[test]
 fn the_last_sheet_is_withdrawn(rt: HostRuntime) -> Result<(), Fail> {
     let mut book = two_sheets(rt.alloc())?;
-    expect_withdrawn(&rt, &mut book);
-    Ok(())
+    expect_withdrawn(&rt, &mut book)
 }
 
 // Two calendars that price every weekday from 1970 at midnight, with a class each.
@@ -221,7 +231,7 @@ fn book_of_weekdays(alloc: Global) -> Result<PriceBook, Fail> {
     for number in 1..3_u32 {
         let calendar = Calendar::new(alloc, number, "UTC0", 0, first, last, &[])?;
         enter_calendar(&mut book, calendar)?;
-        open_class(&mut book, 10 + number, number, -1)?;
+        open_class(&mut book, 10 + number, number, 0)?;
     }
     Ok(book)
 }
@@ -230,31 +240,32 @@ fn publish_all(book: &mut PriceBook) -> Result<(), Fail> {
     for _ in 0..3660 {
         let (moment, calendar) = book.expected().ok_or("none is expected")?;
         let class = if calendar == 1 { 11 } else { 12 };
-        publish_one(book, calendar, moment, class, 1000)?;
+        publish_one(book, calendar, moment.seconds(), class, 1000)?;
     }
     Ok(())
 }
 
 // What is found of 3,660 sheets.
-fn expect_many(rt: &impl Abort, book: &PriceBook) {
-    // 1,830 weekdays from Thursday, 1970-01-01, end with Wednesday, 1977-01-05, 2,561 days later.
-    let wednesday = 221_270_400;
+fn expect_many(rt: &impl Abort, book: &PriceBook) -> Result<(), Fail> {
+    // The classes open at the first moment of all, so that the first sheet is that of Friday, 1970-01-02. 1,830 weekdays
+    // from there end with Thursday, 1977-01-06, 2,561 days later.
+    let thursday = moment(221_356_800)?;
     let found = [
-        book.sheet_at(1, wednesday),
-        book.sheet_at(2, wednesday),
-        book.first_after(wednesday - 1, &[12]),
-        book.first_after(wednesday, &[12]),
-        book.first_after(-1, &[11]),
+        book.sheet_at(1, thursday),
+        book.sheet_at(2, thursday),
+        book.first_after(thursday.earlier(1), &[12]),
+        book.first_after(thursday, &[12]),
+        book.first_after(Moment::start(), &[11]),
     ];
     assert_eq!(rt; found, [Some(3659), Some(3660), Some(3660), None, Some(1)]);
-    assert_eq!(rt; book.expected(), Some((wednesday + 86400, 1)));
-    assert_eq!(rt; cents_before(book, 12, wednesday), Some(1000));
+    assert_eq!(rt; book.expected(), Some((thursday.later(86_400), 1)));
+    assert_eq!(rt; cents_before(book, 12, 221_356_800), Some(1000));
+    Ok(())
 }
 
 #[test]
 fn many_sheets_are_published_and_looked_up(rt: HostRuntime) -> Result<(), Fail> {
     let mut book = book_of_weekdays(rt.alloc())?;
     publish_all(&mut book)?;
-    expect_many(&rt, &book);
-    Ok(())
+    expect_many(&rt, &book)
 }

@@ -19,7 +19,6 @@ use Rattle.register_machine.specs.pricing.CorrectedBook.{Book, book_of}
 use Rattle.register_machine.specs.pricing.CorrectedOrders.{orders_of}
 use Rattle.register_machine.specs.pricing.CorrectedPrices.{fixes_price, price_as_corrected, sheet_as_corrected, table_as_corrected}
 use Rattle.register_machine.specs.pricing.DividendRates.{rates_of}
-use Rattle.register_machine.specs.pricing.PublishedTable.{moment_of}
 use Rattle.register_machine.specs.replay.Replay.{replay}
 use Rattle.register_machine.specs.run.Replies.{fix_reply, reply_by, reply_of}
 
@@ -55,7 +54,7 @@ prices-again fixes more moment (price ∷ prices) =
 sheets-again : (fixes more : List FixPriceForm) (sheets : List Sheet) → map (sheet_as_corrected (fixes ++ more)) (map (sheet_as_corrected fixes) sheets) ≡ map (sheet_as_corrected (fixes ++ more)) sheets
 sheets-again fixes more [] = refl
 sheets-again fixes more (sheet ∷ sheets) =
-    ap (λ prices. with_prices sheet prices ∷ map (sheet_as_corrected (fixes ++ more)) (map (sheet_as_corrected fixes) sheets)) (prices-again fixes more (moment_of sheet) sheet.prices)
+    ap (λ prices. with_prices sheet prices ∷ map (sheet_as_corrected (fixes ++ more)) (map (sheet_as_corrected fixes) sheets)) (prices-again fixes more sheet.moment sheet.prices)
     ∙ ap (λ all. sheet_as_corrected (fixes ++ more) sheet ∷ all) (sheets-again fixes more sheets)
 
 pub table-again : (journal events : Journal) (table : Table) → table_as_corrected (journal ++ events) (table_as_corrected journal table) ≡ table_as_corrected (journal ++ events) table

@@ -1,12 +1,12 @@
 -- How far a correction reaches.
-use Rattle.std.proofs.Common.{All, Bool, List, None, Option, Some, [], ap, cond, false, filter, find, arith, fold, get_or, length, map, not, option_and_then, option_map, option_to_list, refl, subst, sym, take, true, ℕ, ℤ, pos, ◌&&◌, ◌<◌, ◌≤◌, ◌==◌, ◌∙◌, ◌∷◌, ◌≡◌}
+use Rattle.std.proofs.Common.{All, Bool, List, None, Option, Some, [], ap, cond, false, filter, find, arith, fold, get_or, length, map, not, option_and_then, option_map, option_to_list, refl, subst, sym, take, true, ℕ, ◌&&◌, ◌<◌, ◌≤◌, ◌==◌, ◌∙◌, ◌∷◌, ◌≡◌}
 use Rattle.std.proofs.lemmas.Bool.{and_from, and_parts, and_right, eqb-true, ltb-true, ne_eqb, or_parts, true≢false}
 use Rattle.std.proofs.lemmas.List.{map-id, take-map}
 use Rattle.std.proofs.lemmas.List.Elements.{All-head, All-tail, All-take, All-weaker}
 use Rattle.std.proofs.lemmas.List.Folds.{list_any_at, map_fixed}
 use Rattle.std.specs.List.{list_any}
 use Rattle.std.specs.Option.{option_map_or}
-use Rattle.std.specs.Prelude.{int_lt}
+use Rattle.std.specs.Prelude.{nat_lt}
 use Rattle.register_laws.proofs.Choosing.{none_some}
 use Rattle.register_laws.proofs.Comparisons.{eq-yes}
 use Rattle.agent_events.specs.declared.order.OrderRow.{OrderRow}
@@ -25,7 +25,7 @@ use Rattle.register_laws.proofs.ReplayedAlone.{replayed_alone}
 use Rattle.register_laws.proofs.StepsAlike.{Counts}
 use Rattle.register_laws.proofs.TablesAreOrderly.{lists-corrected}
 use Rattle.register_laws.proofs.Tests.{last-of-more, not-true}
-use Rattle.register_laws.specs.CorrectionReach.{AreDated, IsBeforePrice, PriceLeavesBefore, RateLeavesBefore, book_with_price, book_with_rate, names_class, LeavesPart}
+use Rattle.register_laws.specs.CorrectionReach.{IsBeforePrice, PriceLeavesBefore, RateLeavesBefore, book_with_price, book_with_rate, names_class, LeavesPart}
 use Rattle.register_laws.specs.Households.{own_book, part_of}
 use Rattle.register_machine.specs.journal.Choices.{last_of}
 use Rattle.register_machine.specs.pricing.CorrectedBook.{Book, sheet_of}
@@ -33,7 +33,6 @@ use Rattle.register_machine.specs.pricing.CorrectedOrders.{stands}
 use Rattle.register_machine.specs.pricing.CorrectedPrices.{fixes_price, price_as_corrected, sheet_as_corrected}
 use Rattle.register_machine.specs.pricing.DividendRates.{fixes_rate, rate_at, rate_declared}
 use Rattle.register_machine.specs.pricing.OrderClasses.{class_of, classes_in, target_of}
-use Rattle.register_machine.specs.pricing.PublishedTable.{moment_of}
 use Rattle.register_machine.specs.rules.NamedThings.{lists_at}
 use Rattle.register_machine.specs.replay.Replay.{Priced, orders_on, priced_in, priced_orders, replay, replay_over}
 use Rattle.agent_events.specs.declared.request.AccountForm.{AccountForm}
@@ -78,7 +77,7 @@ leaves-part book other household corrected accounts listed front alike =
 
 -- the price that a sheet has under the correction
 abbrev fixed : FixPriceForm → Sheet → ℕ × ℕ → ℕ × ℕ
-fixed form sheet price = price_as_corrected (form ∷ []) (moment_of sheet) price
+fixed form sheet price = price_as_corrected (form ∷ []) sheet.moment price
 
 unfixed : (form : FixPriceForm) (moment : ℕ) (price : ℕ × ℕ) → fixes_price price.0 moment form ≡ false → price_as_corrected (form ∷ []) moment price ≡ price
 unfixed form moment price e =
@@ -92,10 +91,10 @@ turned class other e =
     ] refl
 
 -- what is found by moment and classes is found under the correction, with its price
-found-before : (form : FixPriceForm) (sheets : List Sheet) (class : ℕ) (moment : ℤ) → sheet_before (map (sheet_as_corrected (form ∷ [])) sheets) class moment ≡ option_map (sheet_as_corrected (form ∷ [])) (sheet_before sheets class moment)
+found-before : (form : FixPriceForm) (sheets : List Sheet) (class : ℕ) (moment : ℕ) → sheet_before (map (sheet_as_corrected (form ∷ [])) sheets) class moment ≡ option_map (sheet_as_corrected (form ∷ [])) (sheet_before sheets class moment)
 found-before form sheets class moment =
     best-kept (sheet_as_corrected (form ∷ [])) (is_before class moment) is_later
-    (λ sheet. ap (λ b. int_lt sheet.moment moment && b) (lists-corrected (form ∷ []) (moment_of sheet) class sheet.prices)) (λ x y. refl) sheets
+    (λ sheet. ap (λ b. nat_lt sheet.moment moment && b) (lists-corrected (form ∷ []) sheet.moment class sheet.prices)) (λ x y. refl) sheets
 
 lists-all-corrected : (form : FixPriceForm) (moment : ℕ) (prices : List (ℕ × ℕ)) (asked : List ℕ) → lists_all (map (price_as_corrected (form ∷ []) moment) prices) asked ≡ lists_all prices asked
 lists-all-corrected form moment prices [] = refl
@@ -105,8 +104,8 @@ lists-all-corrected form moment prices (class ∷ asked) =
 
 found-next : (form : FixPriceForm) (sheets : List Sheet) (row : OrderRow) → sheet_of (map (sheet_as_corrected (form ∷ [])) sheets) row ≡ option_map (sheet_as_corrected (form ∷ [])) (sheet_of sheets row)
 found-next form sheets row =
-    best-kept (sheet_as_corrected (form ∷ [])) (prices_order (classes_in row.order.body) (pos row.receipt)) is_earlier
-    (λ sheet. ap (λ b. int_lt (pos row.receipt) sheet.moment && b) (lists-all-corrected form (moment_of sheet) sheet.prices (classes_in row.order.body))) (λ x y. refl) sheets
+    best-kept (sheet_as_corrected (form ∷ [])) (prices_order (classes_in row.order.body) row.receipt) is_earlier
+    (λ sheet. ap (λ b. nat_lt row.receipt sheet.moment && b) (lists-all-corrected form sheet.moment sheet.prices (classes_in row.order.body))) (λ x y. refl) sheets
 
 -- so each order has the sheet that it had
 pub price-orders : (form : FixPriceForm) (book : Book) → priced_orders (book_with_price form book) ≡ priced_orders book
@@ -132,13 +131,13 @@ nav-apart form moment class off (price ∷ prices) =
       | false ↦ λ t. nav-apart form moment class off prices
     ] refl
 
-price-before-apart : (form : FixPriceForm) (sheets : List Sheet) (class : ℕ) (moment : ℤ) → (form.class == class) ≡ false → price_before (map (sheet_as_corrected (form ∷ [])) sheets) class moment ≡ price_before sheets class moment
+price-before-apart : (form : FixPriceForm) (sheets : List Sheet) (class : ℕ) (moment : ℕ) → (form.class == class) ≡ false → price_before (map (sheet_as_corrected (form ∷ [])) sheets) class moment ≡ price_before sheets class moment
 price-before-apart form sheets class moment off =
     ap (λ found. option_and_then (λ (sheet : Sheet). nav_on sheet.prices class) found) (found-before form sheets class moment) ∙ by (sheet_before sheets class moment)
   where
     by : (found : Option Sheet) → option_and_then (λ (sheet : Sheet). nav_on sheet.prices class) (option_map (sheet_as_corrected (form ∷ [])) found) ≡ option_and_then (λ (sheet : Sheet). nav_on sheet.prices class) found
     by None = refl
-    by (Some sheet) = nav-apart form (moment_of sheet) class off sheet.prices
+    by (Some sheet) = nav-apart form sheet.moment class off sheet.prices
 
 terms-price : (form : FixPriceForm) (book : Book) → TermsAlike book (book_with_price form book)
 terms-price form book = record { front = λ class. refl; schedule = λ class. refl; counted = λ class. refl; household = λ account. refl }
@@ -154,7 +153,7 @@ price-replay form book nowhere sheets =
     reads sheet = record {
       before = λ class on. sym (price-before-apart form book.table.sheets class sheet.moment (turned form.class class on));
       prices = λ k d short. record {
-        same = λ on. unfixed form (moment_of sheet) (get_or sheet.prices k d) (ap (λ b. b && form.moment == moment_of sheet) (turned form.class (get_or sheet.prices k d).0 on));
+        same = λ on. unfixed form sheet.moment (get_or sheet.prices k d) (ap (λ b. b && form.moment == sheet.moment) (turned form.class (get_or sheet.prices k d).0 on));
         rate = λ on. refl;
       };
       orders = ap (λ priced. orders_on priced sheet) (price-orders form book);
@@ -177,7 +176,7 @@ rate-replay form book nowhere sheets =
       before = λ class on. refl;
       prices = λ i e within. record {
         same = λ on. refl;
-        rate = λ on. rate-apart form book (get_or (get_or sheets k d).prices i e).0 (moment_of (get_or sheets k d)) (turned form.class (get_or (get_or sheets k d).prices i e).0 on);
+        rate = λ on. rate-apart form book (get_or (get_or sheets k d).prices i e).0 (get_or sheets k d).moment (turned form.class (get_or (get_or sheets k d).prices i e).0 on);
       };
       orders = refl;
     })
@@ -191,59 +190,52 @@ rate-replay form book nowhere sheets =
 
 -- ---- before the corrected price, and before the corrected rate
 
--- what is there passes, and has what all have
-abbrev PassesThere : {X : Type 0} → (X → Type 0) → (X → Bool) → Option X → Type 0
-PassesThere P p None = Unit {0}
-PassesThere P p (Some x) = P x × (p x ≡ true)
-
 -- the best one is one of those that pass
-best-passes : {X : Type 0} (P : X → Type 0) (p : X → Bool) (better : X → X → Bool) (found : Option X) (xs : List X) → All P xs → PassesThere P p found → PassesThere P p (fold (best_so_far p better) found xs)
-best-passes P p better found [] all fine = fine
-best-passes {X = X} P p better found (x ∷ xs) all fine =
-    best-passes P p better (best_so_far p better found x) xs (All-tail P x xs all) (by (p x) refl found fine)
+abbrev PassesThere : {X : Type 0} → (X → Bool) → Option X → Type 0
+PassesThere p None = Unit {0}
+PassesThere p (Some x) = p x ≡ true
+
+best-passes : {X : Type 0} (p : X → Bool) (better : X → X → Bool) (found : Option X) (xs : List X) → PassesThere p found → PassesThere p (fold (best_so_far p better) found xs)
+best-passes p better found [] fine = fine
+best-passes {X = X} p better found (x ∷ xs) fine =
+    best-passes p better (best_so_far p better found x) xs (by (p x) refl found fine)
   where
-    prefer : p x ≡ true → (b : Bool) (y : X) → P y × (p y ≡ true) → PassesThere P p (cond b (Some x) (Some y))
-    prefer is true y fine = (All-head P x xs all, is)
+    prefer : p x ≡ true → (b : Bool) (y : X) → p y ≡ true → PassesThere p (cond b (Some x) (Some y))
+    prefer is true y fine = is
     prefer is false y fine = fine
 
-    by : (b : Bool) → p x ≡ b → (found : Option X) → PassesThere P p found → PassesThere P p (cond b (found_or_better better found x) found)
-    by true is None fine = (All-head P x xs all, is)
+    by : (b : Bool) → p x ≡ b → (found : Option X) → PassesThere p found → PassesThere p (cond b (found_or_better better found x) found)
+    by true is None fine = is
     by true is (Some y) fine = prefer is (better x y) y fine
     by false is found fine = fine
 
-sheets-unfixed : (form : FixPriceForm) (sheet : Sheet) → (form.moment == moment_of sheet) ≡ false → sheet_as_corrected (form ∷ []) sheet ≡ sheet
+sheets-unfixed : (form : FixPriceForm) (sheet : Sheet) → (form.moment == sheet.moment) ≡ false → sheet_as_corrected (form ∷ []) sheet ≡ sheet
 sheets-unfixed form sheet off =
     ap (with_prices sheet)
-    (map_fixed (price_as_corrected (form ∷ []) (moment_of sheet)) sheet.prices
-    (λ k d short. unfixed form (moment_of sheet) (get_or sheet.prices k d) (and_right (form.class == (get_or sheet.prices k d).0) (form.moment == moment_of sheet) off)))
+    (map_fixed (price_as_corrected (form ∷ []) sheet.moment) sheet.prices
+    (λ k d short. unfixed form sheet.moment (get_or sheet.prices k d) (and_right (form.class == (get_or sheet.prices k d).0) (form.moment == sheet.moment) off)))
 
 -- a price that is read before a moment isn't later than it
-price-before-dated : (form : FixPriceForm) (sheets : List Sheet) (class : ℕ) (sheet : Sheet) → AreDated sheets → sheet.moment ≡ pos (moment_of sheet) → moment_of sheet ≤ form.moment → price_before (map (sheet_as_corrected (form ∷ [])) sheets) class sheet.moment ≡ price_before sheets class sheet.moment
-price-before-dated form sheets class sheet dated at early =
+price-before-fixed : (form : FixPriceForm) (sheets : List Sheet) (class : ℕ) (sheet : Sheet) → sheet.moment ≤ form.moment → price_before (map (sheet_as_corrected (form ∷ [])) sheets) class sheet.moment ≡ price_before sheets class sheet.moment
+price-before-fixed form sheets class sheet early =
     ap (λ found. option_and_then (λ (s : Sheet). nav_on s.prices class) found) (found-before form sheets class sheet.moment)
-    ∙ by (sheet_before sheets class sheet.moment) (best-passes (λ (s : Sheet). s.moment ≡ pos (moment_of s)) (is_before class sheet.moment) is_later None sheets dated tt)
+    ∙ by (sheet_before sheets class sheet.moment) (best-passes (is_before class sheet.moment) is_later None sheets tt)
   where
-    sooner : (s : Sheet) → s.moment ≡ pos (moment_of s) → is_before class sheet.moment s ≡ true → moment_of s < moment_of sheet
-    sooner s is e =
-        ltb-true (moment_of s) (moment_of sheet)
-        (subst (λ m. int_lt (pos (moment_of s)) m ≡ true) at
-        (subst (λ m. int_lt m sheet.moment ≡ true) is (and_parts (int_lt s.moment sheet.moment) (lists_class s.prices class) e).0))
-
-    by : (found : Option Sheet) → PassesThere (λ (s : Sheet). s.moment ≡ pos (moment_of s)) (is_before class sheet.moment) found → option_and_then (λ (s : Sheet). nav_on s.prices class) (option_map (sheet_as_corrected (form ∷ [])) found) ≡ option_and_then (λ (s : Sheet). nav_on s.prices class) found
+    by : (found : Option Sheet) → PassesThere (is_before class sheet.moment) found → option_and_then (λ (s : Sheet). nav_on s.prices class) (option_map (sheet_as_corrected (form ∷ [])) found) ≡ option_and_then (λ (s : Sheet). nav_on s.prices class) found
     by None fine = refl
     by (Some s) fine =
-        let less = sooner s fine.0 fine.1 in
-        ap (λ (x : Sheet). nav_on x.prices class) (sheets-unfixed form s (ne_eqb form.moment (moment_of s) (λ same. omega (arith, same, less, early))))
+        let less = ltb-true s.moment sheet.moment (and_parts (nat_lt s.moment sheet.moment) (lists_class s.prices class) fine).0 in
+        ap (λ (x : Sheet). nav_on x.prices class) (sheets-unfixed form s (ne_eqb form.moment s.moment (λ same. omega (arith, same, less, early))))
 
 any-row : (row : OrderRow) → BodyCounts (Counts (λ class. true)) row.order.body
 any-row row = record { own = refl; target = λ to _. refl }
 
 -- a sheet that doesn't list the class at that moment has no price that is fixed
-none-fixed : (class moment : ℕ) (sheet : Sheet) → lists_at class moment sheet ≡ false → (price : ℕ × ℕ) → list_any (λ (p : ℕ × ℕ). p.0 == price.0) sheet.prices ≡ true → (class == price.0 && moment == moment_of sheet) ≡ false
+none-fixed : (class moment : ℕ) (sheet : Sheet) → lists_at class moment sheet ≡ false → (price : ℕ × ℕ) → list_any (λ (p : ℕ × ℕ). p.0 == price.0) sheet.prices ≡ true → (class == price.0 && moment == sheet.moment) ≡ false
 none-fixed class moment sheet off price listed =
-    elim (class == price.0) as (λ b. (class == price.0) ≡ b → (b && moment == moment_of sheet) ≡ false) [
-      | true ↦ λ t. elim (moment == moment_of sheet) as (λ b. (moment == moment_of sheet) ≡ b → b ≡ false) [
-        | true ↦ λ u. absurd (true≢false (sym (and_from (moment_of sheet == moment) (lists_class sheet.prices class) (eq-yes (moment_of sheet) moment (sym (eqb-true moment (moment_of sheet) u))) (ap (λ n. lists_class sheet.prices n) (eqb-true class price.0 t) ∙ listed)) ∙ off))
+    elim (class == price.0) as (λ b. (class == price.0) ≡ b → (b && moment == sheet.moment) ≡ false) [
+      | true ↦ λ t. elim (moment == sheet.moment) as (λ b. (moment == sheet.moment) ≡ b → b ≡ false) [
+        | true ↦ λ u. absurd (true≢false (sym (and_from (sheet.moment == moment) (lists_class sheet.prices class) (eq-yes sheet.moment moment (sym (eqb-true moment sheet.moment u))) (ap (λ n. lists_class sheet.prices n) (eqb-true class price.0 t) ∙ listed)) ∙ off))
         | false ↦ λ u. refl
       ] refl
       | false ↦ λ t. refl
@@ -254,18 +246,18 @@ listed-there prices k d short =
     list_any_at (λ (p : ℕ × ℕ). p.0 == (get_or prices k d).0) prices k d short (eq-yes (get_or prices k d).0 (get_or prices k d).0 refl)
 
 pub price_leaves_before : (book : Book) (form : FixPriceForm) (number : ℕ) → PriceLeavesBefore book form number
-price_leaves_before book form number dated before =
+price_leaves_before book form number before =
     ap (replay_over (book_with_price form book)) (take-map (sheet_as_corrected (form ∷ [])) number book.table.sheets)
     ∙ sym
     (classes-replay book (book_with_price form book) (λ class. true) (terms-price form book) (fixed form) (λ sheet price. refl)
     (λ k d short. any-row (get_or (filter stands book.orders) k d)) (take number book.table.sheets)
-    (λ k d short. reads (get_or (take number book.table.sheets) k d) (before k d short) (All-take (λ (s : Sheet). s.moment ≡ pos (moment_of s)) number book.table.sheets dated k d short)))
+    (λ k d short. reads (get_or (take number book.table.sheets) k d) (before k d short)))
   where
-    reads : (sheet : Sheet) → IsBeforePrice form sheet → sheet.moment ≡ pos (moment_of sheet) → SheetReads book (book_with_price form book) (λ class. true) (fixed form) sheet
-    reads sheet early at = record {
-      before = λ class on. sym (price-before-dated form book.table.sheets class sheet dated at early.1);
+    reads : (sheet : Sheet) → IsBeforePrice form sheet → SheetReads book (book_with_price form book) (λ class. true) (fixed form) sheet
+    reads sheet early = record {
+      before = λ class on. sym (price-before-fixed form book.table.sheets class sheet early.1);
       prices = λ k d short. record {
-        same = λ on. unfixed form (moment_of sheet) (get_or sheet.prices k d) (none-fixed form.class form.moment sheet early.0 (get_or sheet.prices k d) (listed-there sheet.prices k d short));
+        same = λ on. unfixed form sheet.moment (get_or sheet.prices k d) (none-fixed form.class form.moment sheet early.0 (get_or sheet.prices k d) (listed-there sheet.prices k d short));
         rate = λ on. refl;
       };
       orders = ap (λ priced. orders_on priced sheet) (price-orders form book);
@@ -290,7 +282,7 @@ rate_leaves_before book form number before =
       before = λ class on. refl;
       prices = λ i e within. record {
         same = λ on. refl;
-        rate = λ on. rate-unfixed (get_or sheet.prices i e).0 (moment_of sheet) (none-fixed form.class form.moment sheet off (get_or sheet.prices i e) (listed-there sheet.prices i e within));
+        rate = λ on. rate-unfixed (get_or sheet.prices i e).0 sheet.moment (none-fixed form.class form.moment sheet off (get_or sheet.prices i e) (listed-there sheet.prices i e within));
       };
       orders = refl;
     }

@@ -1,12 +1,12 @@
 -- An order is accepted with its due moment, and its reply says so.
-use Rattle.std.proofs.Common.{Bool, Contains, List, None, Option, Some, [], ap, append-nil, arith, cond, false, filter, find, fold, is_none, is_some, length, map, min, not, option_map, option_to_list, pos, refl, subst, suc, sym, true, unwrap_or, zero, ℕ, ⊎_elim, ◌&&◌, ◌++◌, ◌+◌, ◌==◌, ◌||◌, ◌∙◌, ◌∷◌, ◌≡◌}
+use Rattle.std.proofs.Common.{Bool, Contains, List, None, Option, Some, [], ap, append-nil, arith, cond, false, filter, find, fold, is_none, is_some, length, map, min, not, option_map, option_to_list, refl, subst, suc, sym, true, unwrap_or, zero, ℕ, ⊎_elim, ◌&&◌, ◌++◌, ◌+◌, ◌==◌, ◌||◌, ◌∙◌, ◌∷◌, ◌≡◌}
 use Rattle.std.proofs.lemmas.Bool.{and_from, and_parts, eqb-true, false_from_ne_true, not-false, or_parts, true≢false}
 use Rattle.std.proofs.lemmas.Bool.Decides.{Decides-eqb}
 use Rattle.std.proofs.lemmas.List.Elements.{Contains-append_cases, filter_map-append}
 use Rattle.std.specs.Cmp.Lexicographic.{pointwise}
 use Rattle.std.specs.List.{cons_option, list_all, list_any}
 use Rattle.std.specs.Option.{option_map_or}
-use Rattle.std.specs.Prelude.{nat_abs, nat_eq}
+use Rattle.std.specs.Prelude.{nat_eq}
 use Rattle.agent_events.specs.declared.request.LineForm.{LineForm}
 use Rattle.agent_events.specs.Events.{Event, event_of, order_request, placed_by_dealer, placed_now, request_of}
 use Rattle.agent_events.specs.declared.event.EventKind.{EventKind}
@@ -278,7 +278,7 @@ due_replied journal event lawful placed e = record {
   due = due;
   replied = ap (reply_by (table_of journal) journal event) e;
   stands = (begins_anew journal event lawful).orders ∙ ap (orders_after (length journal) (orders_of journal)) e;
-  still_due = ap (λ (t : Table). option_map nat_abs (due_of t (classes_in placed.order.body) (pos placed.receipt))) (table-one journal event ∙ ap (table_by (table_of journal) event.moment) e) ∙ due;
+  still_due = ap (λ (t : Table). due_of t (classes_in placed.order.body) placed.receipt) (table-one journal event ∙ ap (table_by (table_of journal) event.moment) e) ∙ due;
 }
   where
     last : IsLawful journal × IsBrought journal event

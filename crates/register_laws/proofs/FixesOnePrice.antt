@@ -1,7 +1,6 @@
 -- A correction of a price in a lawful journal is that of one sheet: a class has one sheet a moment, and sheets are numbered.
-use Rattle.std.proofs.Common.{Bool, List, None, Some, [], ap, arith, cond, false, get_or, inl, inr, int_lt, length, map, negsuc, pos, refl, subst, suc, sym, true, ℕ, ℤ, ◌&&◌, ◌+◌, ◌<ℤ◌, ◌<◌, ◌==◌, ◌||◌, ◌∙◌, ◌∷◌, ◌≡◌, ◌≢◌, ◌≤◌, ◌⊎◌}
+use Rattle.std.proofs.Common.{Bool, List, None, Some, [], ap, arith, cond, false, get_or, inl, inr, nat_lt, length, map, negsuc, pos, refl, subst, suc, sym, true, ℕ, ◌&&◌, ◌+◌, ◌<◌, ◌==◌, ◌||◌, ◌∙◌, ◌∷◌, ◌≡◌, ◌≢◌, ◌≤◌, ◌⊎◌}
 use Rattle.std.proofs.lemmas.Bool.{and_parts, cases_lt, eq-eqb, eqb-true, true≢false}
-use Rattle.std.proofs.lemmas.Int.{ints}
 use Rattle.std.proofs.lemmas.List.Elements.{All-contains}
 use Rattle.std.specs.List.{list_any}
 use Rattle.std.specs.Option.{option_map_or}
@@ -10,7 +9,6 @@ use Rattle.agent_events.specs.Events.{Event, request_of}
 use Rattle.agent_events.specs.Fields.{prices, within}
 use Rattle.agent_events.specs.declared.request.FixPriceForm.{FixPriceForm}
 use Rattle.agent_events.specs.declared.request.Request.{Request}
-use Rattle.forward_price.proofs.TurnFacts.{none_negative}
 use Rattle.forward_price.specs.PriceTables.{AreNumbered, Table, corrected_price, corrected_sheet, with_prices, with_sheets, with_correction}
 use Rattle.forward_price.specs.Sheets.{lists_class}
 use Rattle.forward_price.specs.Turns.{is_offered_at, must_list, pricing_pairs}
@@ -29,7 +27,6 @@ use Rattle.forward_price.specs.Orderly.{IsOrderly}
 use Rattle.register_machine.specs.journal.Journals.{Journal, with_event}
 use Rattle.register_machine.specs.journal.Lawful.{IsLawful}
 use Rattle.register_machine.specs.pricing.CorrectedPrices.{price_as_corrected, sheet_as_corrected}
-use Rattle.register_machine.specs.pricing.PublishedTable.{moment_of}
 use Rattle.register_machine.specs.rules.InOrder.{Rule, broken_rule}
 use Rattle.register_machine.specs.rules.NamedThings.{lists_at, things_named}
 use Rattle.agent_events.specs.declared.event.EventKind.{EventKind}
@@ -63,7 +60,7 @@ one-opening class one other classes differ first second =
     j = any-place (opens class other) classes second
 
     d : Opening
-    d = record { class = 0; calendar = 0; opened = pos 0 }
+    d = record { class = 0; calendar = 0; opened = 0 }
 
     at_i : (((get_or classes i.0 d).class == class) ≡ true) × (((get_or classes i.0 d).calendar == one) ≡ true)
     at_i = and_parts ((get_or classes i.0 d).class == class) ((get_or classes i.0 d).calendar == one) (i.2 d)
@@ -87,22 +84,17 @@ one-opening class one other classes differ first second =
     by_place (inl less) = absurd (differ i.0 j.0 d less j.1 same)
     by_place (inr back) = by_later (cases_lt j.0 i.0) back
 
-must-open : (classes : List Opening) (calendar : ℕ) (moment : ℤ) (class : ℕ) → must_list classes calendar moment class ≡ true → list_any (opens class calendar) classes ≡ true
+must-open : (classes : List Opening) (calendar : ℕ) (moment : ℕ) (class : ℕ) → must_list classes calendar moment class ≡ true → list_any (opens class calendar) classes ≡ true
 must-open classes calendar moment class e =
     let found = any-with (λ (o : Opening). o.class == class && is_offered_at calendar moment o) classes e in
     let both = and_parts (found.0.class == class) (is_offered_at calendar moment found.0) found.1 in
-    let of = and_parts (found.0.calendar == calendar) (int_lt found.0.opened moment) both.1 in
+    let of = and_parts (found.0.calendar == calendar) (nat_lt found.0.opened moment) both.1 in
     found.2 (opens class calendar) (ap (λ b. b && found.0.calendar == calendar) both.0 ∙ of.0)
 
-same-moment : (a b : ℤ) → negsuc 0 <ℤ a → negsuc 0 <ℤ b → nat_abs a ≡ nat_abs b → a ≡ b
-same-moment (pos a) (pos b) one other same = ap pos same
-same-moment (pos a) (negsuc b) one other same = absurd (omega (arith, ints, other))
-same-moment (negsuc a) b one other same = absurd (omega (arith, ints, one))
-
-pub one-sheet : (t : Table) (class : ℕ) (i j : ℕ) (d : Sheet) → IsOrderly t → i < j → j < length t.sheets → lists_class (get_or t.sheets i d).prices class ≡ true → lists_class (get_or t.sheets j d).prices class ≡ true → moment_of (get_or t.sheets i d) ≡ moment_of (get_or t.sheets j d) → ⊥
+pub one-sheet : (t : Table) (class : ℕ) (i j : ℕ) (d : Sheet) → IsOrderly t → i < j → j < length t.sheets → lists_class (get_or t.sheets i d).prices class ≡ true → lists_class (get_or t.sheets j d).prices class ≡ true → (get_or t.sheets i d).moment ≡ (get_or t.sheets j d).moment → ⊥
 one-sheet t class i j d orderly less within first second same =
     irreflexive
-    (subst (λ moment. moment <ℤ (get_or t.sheets j d).moment) moments
+    (subst (λ moment. moment < (get_or t.sheets j d).moment) same
     (orderly.rises i j d less within calendars))
   where
     before : i < length t.sheets
@@ -117,16 +109,8 @@ one-sheet t class i j d orderly less within first second same =
         one-opening class (get_or t.sheets i d).calendar (get_or t.sheets j d).calendar t.classes orderly.classes_differ
         (opened i before first) (opened j within second)
 
-    from_1970 : (k : ℕ) → k < length t.sheets → negsuc 0 <ℤ (get_or t.sheets k d).moment
-    from_1970 k short =
-        All-contains (λ (pair : ℤ × ℕ). negsuc 0 <ℤ pair.0) (pricing_pairs t.calendars) ((get_or t.sheets k d).moment, (get_or t.sheets k d).calendar)
-        (none_negative t.calendars) (orderly.on_pricing_days k d short)
-
-    moments : (get_or t.sheets i d).moment ≡ (get_or t.sheets j d).moment
-    moments = same-moment (get_or t.sheets i d).moment (get_or t.sheets j d).moment (from_1970 i before) (from_1970 j within) same
-
-    irreflexive : (get_or t.sheets j d).moment <ℤ (get_or t.sheets j d).moment → ⊥
-    irreflexive h = omega (arith, ints, h)
+    irreflexive : (get_or t.sheets j d).moment < (get_or t.sheets j d).moment → ⊥
+    irreflexive h = omega (arith, h)
 
 -- ---- the prices of a sheet
 
@@ -164,11 +148,11 @@ sheet-fixed t form number orderly numbers listed k d short =
     own : (((get_or t.sheets place.0 d).number == number) ≡ true) × (lists_at form.class form.moment (get_or t.sheets place.0 d) ≡ true)
     own = and_parts ((get_or t.sheets place.0 d).number == number) (lists_at form.class form.moment (get_or t.sheets place.0 d)) (place.2 d)
 
-    shows : ((moment_of (get_or t.sheets place.0 d) == form.moment) ≡ true) × (lists_class (get_or t.sheets place.0 d).prices form.class ≡ true)
-    shows = and_parts (moment_of (get_or t.sheets place.0 d) == form.moment) (lists_class (get_or t.sheets place.0 d).prices form.class) own.1
+    shows : (((get_or t.sheets place.0 d).moment == form.moment) ≡ true) × (lists_class (get_or t.sheets place.0 d).prices form.class ≡ true)
+    shows = and_parts ((get_or t.sheets place.0 d).moment == form.moment) (lists_class (get_or t.sheets place.0 d).prices form.class) own.1
 
-    at_moment : moment_of (get_or t.sheets place.0 d) ≡ form.moment
-    at_moment = eqb-true (moment_of (get_or t.sheets place.0 d)) form.moment shows.0
+    at_moment : (get_or t.sheets place.0 d).moment ≡ form.moment
+    at_moment = eqb-true (get_or t.sheets place.0 d).moment form.moment shows.0
 
     its_number : place.0 + 1 ≡ number
     its_number = sym (numbers.each place.0 d place.1) ∙ eqb-true (get_or t.sheets place.0 d).number number own.0
@@ -181,14 +165,14 @@ sheet-fixed t form number orderly numbers listed k d short =
         true≢false
         (sym (eq-eqb (get_or t.sheets k d).number number (this_number ∙ (ap (λ n. n + 1) same ∙ its_number))) ∙ other)
 
-    twice : ((get_or t.sheets k d).number == number) ≡ false → (moment_of (get_or t.sheets k d) == form.moment && lists_class (get_or t.sheets k d).prices form.class) ≡ true → ⊥
+    twice : ((get_or t.sheets k d).number == number) ≡ false → ((get_or t.sheets k d).moment == form.moment && lists_class (get_or t.sheets k d).prices form.class) ≡ true → ⊥
     twice other e = by_side (cases_lt k place.0)
       where
-        parts : ((moment_of (get_or t.sheets k d) == form.moment) ≡ true) × (lists_class (get_or t.sheets k d).prices form.class ≡ true)
-        parts = and_parts (moment_of (get_or t.sheets k d) == form.moment) (lists_class (get_or t.sheets k d).prices form.class) e
+        parts : (((get_or t.sheets k d).moment == form.moment) ≡ true) × (lists_class (get_or t.sheets k d).prices form.class ≡ true)
+        parts = and_parts ((get_or t.sheets k d).moment == form.moment) (lists_class (get_or t.sheets k d).prices form.class) e
 
-        moments : moment_of (get_or t.sheets k d) ≡ moment_of (get_or t.sheets place.0 d)
-        moments = eqb-true (moment_of (get_or t.sheets k d)) form.moment parts.0 ∙ sym at_moment
+        moments : (get_or t.sheets k d).moment ≡ (get_or t.sheets place.0 d).moment
+        moments = eqb-true (get_or t.sheets k d).moment form.moment parts.0 ∙ sym at_moment
 
         by_back : (place.0 < k) ⊎ (k ≤ place.0) → place.0 ≤ k → ⊥
         by_back (inl less) up = one-sheet t form.class place.0 k d orderly less short shows.1 parts.1 (sym moments)
@@ -203,12 +187,12 @@ sheet-fixed t form number orderly numbers listed k d short =
         let numbers_are : k + 1 ≡ place.0 + 1 = sym this_number ∙ (eqb-true (get_or t.sheets k d).number number e ∙ sym its_number) in
         let same : place.0 ≡ k = omega (arith, numbers_are) in
         ap (with_prices (get_or t.sheets k d))
-        (fixed-prices form (moment_of (get_or t.sheets k d)) (get_or t.sheets k d).prices (sym at_moment ∙ ap (λ n. moment_of (get_or t.sheets n d)) same))
+        (fixed-prices form (get_or t.sheets k d).moment (get_or t.sheets k d).prices (sym at_moment ∙ ap (λ n. (get_or t.sheets n d).moment) same))
     by_number false e =
         ap (with_prices (get_or t.sheets k d))
-        (prices-kept (form ∷ []) (moment_of (get_or t.sheets k d)) (get_or t.sheets k d).prices
+        (prices-kept (form ∷ []) (get_or t.sheets k d).moment (get_or t.sheets k d).prices
         (ap (λ b. b || false)
-        (is-false (moment_of (get_or t.sheets k d) == form.moment && lists_class (get_or t.sheets k d).prices form.class) (twice e))))
+        (is-false ((get_or t.sheets k d).moment == form.moment && lists_class (get_or t.sheets k d).prices form.class) (twice e))))
 
 -- a correction of a price is brought for a sheet that lists its class at its moment, and this has a number
 pub has-sheet : (journal : Journal) (event : Event) → IsLawful (with_event journal event) → (form : FixPriceForm) → event.kind ≡ EventKind.FixPrice form → (number : ℕ) × (list_any (λ sheet. sheet.number == number && lists_at form.class form.moment sheet) (corrected_table journal).sheets ≡ true)

@@ -1,5 +1,5 @@
 -- An order that has its sheet has the next price after its receipt.
-use Rattle.std.proofs.Common.{All, IfSome, List, None, Some, [], filter, option_map, pos, refl, ◌∷◌, ◌≡◌}
+use Rattle.std.proofs.Common.{All, IfSome, List, None, Some, [], filter, option_map, refl, ◌∷◌, ◌≡◌}
 use Rattle.std.proofs.lemmas.List.Elements.{All-cons, All-map, All-nil}
 use Rattle.agent_events.specs.declared.order.OrderRow.{OrderRow}
 use Rattle.forward_price.proofs.PricingFacts.{next_sheet-next}
@@ -13,9 +13,9 @@ use Rattle.register_machine.specs.replay.Replay.{priced_in, priced_orders}
 
 forward : (sheets : List Sheet) (row : OrderRow) → IsForwardPriced sheets (priced_in sheets row)
 forward sheets row =
-    elim (next_sheet sheets (classes_in row.order.body) (pos row.receipt)) as (λ found. next_sheet sheets (classes_in row.order.body) (pos row.receipt) ≡ found → IfSome (option_map (λ sheet. sheet.number) found) (IsPricedBy sheets (classes_in row.order.body) (pos row.receipt))) [
+    elim (next_sheet sheets (classes_in row.order.body) row.receipt) as (λ found. next_sheet sheets (classes_in row.order.body) row.receipt ≡ found → IfSome (option_map (λ sheet. sheet.number) found) (IsPricedBy sheets (classes_in row.order.body) row.receipt)) [
       | None ↦ λ _. tt
-      | Some sheet ↦ λ e. (sheet, refl, next_sheet-next sheets (classes_in row.order.body) (pos row.receipt) sheet e)
+      | Some sheet ↦ λ e. (sheet, refl, next_sheet-next sheets (classes_in row.order.body) row.receipt sheet e)
     ] refl
 
 pub orders_are_forward_priced : (book : Book) → All (IsForwardPriced book.table.sheets) (priced_orders book)

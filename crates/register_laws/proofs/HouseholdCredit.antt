@@ -1,6 +1,6 @@
 -- The credit of a household is at most 10^21: it has at most 64 accounts, each a position in at most 1,000 classes, and each of
 -- these is worth 10^16 cents at most.
-use Rattle.std.proofs.Common.{All, Bool, List, None, Option, Some, [], ap, arith, cond, count_by, false, filter, find, fold, get_or, length, map, option_and_then, option_map, refl, sum_by, sym, true, ℕ, ℤ, ◌*◌, ◌==◌, ◌^◌, ◌∷◌, ◌≡◌, ◌≤◌}
+use Rattle.std.proofs.Common.{All, Bool, List, None, Option, Some, [], ap, arith, cond, count_by, false, filter, find, fold, get_or, length, map, option_and_then, option_map, refl, sum_by, sym, true, ℕ, ◌*◌, ◌==◌, ◌^◌, ◌∷◌, ◌≡◌, ◌≤◌}
 use Rattle.std.proofs.Math.Nat.{mul-le-mul, mul-le-mul_right}
 use Rattle.std.proofs.lemmas.Bool.{and_parts, eqb-true, true≢false}
 use Rattle.std.proofs.lemmas.List.Elements.{All-filter, All-head, All-tail}
@@ -83,7 +83,7 @@ best-as {X = X} P passes better found (x ∷ xs) is all =
 abbrev LowPrice : Option ℕ → Type 0
 LowPrice found = FoundAs (λ nav. nav ≤ most_nav) found
 
-price-low : (sheets : List Sheet) (class : ℕ) (moment : ℤ) → All SheetInRange sheets → LowPrice (price_before sheets class moment)
+price-low : (sheets : List Sheet) (class : ℕ) (moment : ℕ) → All SheetInRange sheets → LowPrice (price_before sheets class moment)
 price-low sheets class moment all =
     by_sheet (sheet_before sheets class moment) (best-as SheetInRange (is_before class moment) is_later None sheets tt all)
   where

@@ -16,7 +16,6 @@ use Rattle.register_laws.specs.HouseholdSheets.{QuietLeavesPart, is_paid_at, is_
 use Rattle.register_laws.specs.Households.{own_book, own_orders, part_of}
 use Rattle.register_machine.specs.pricing.CorrectedBook.{Book}
 use Rattle.register_machine.specs.pricing.DividendRates.{rate_at}
-use Rattle.register_machine.specs.pricing.PublishedTable.{moment_of}
 use Rattle.register_machine.specs.replay.DayStep.{day_step}
 use Rattle.register_machine.specs.replay.Dividend.{day_after_class, day_after_dividend, day_after_dividends, day_after_payment, day_after_rate, is_of_class, keys_of_class, payment_on}
 use Rattle.register_machine.specs.replay.Letter.{day_after_letter_end, day_after_letter_ends, has_letter_over}
@@ -67,7 +66,7 @@ module _ (book : Book) (sheet : Sheet) (day : Day) (unpaid : list_any (is_paid_o
       nothing-paid p (payment_on rate price.1 p) (unpaid-at rate price p some ((same-place key.account key.class p found.1).1 ∙ is.0) found.0)
 
   idle-class : (price : ℕ × ℕ) → All (λ p. is_paid_in book sheet p price ≡ false) day.register → day_after_class book.rates sheet day price ≡ day
-  idle-class price none = by (rate_at book.rates price.0 (moment_of sheet)) none
+  idle-class price none = by (rate_at book.rates price.0 sheet.moment) none
     where
       there : All (λ (p : Position). list_any (is_position p.account p.class) day.register ≡ true) day.register
       there k d short =

@@ -1,5 +1,5 @@
 -- The book of a lawful journal is orderly and within limits, and in range where its events are.
-use Rattle.std.proofs.Common.{All, Bool, List, None, Option, Some, [], cond, false, filter, fold, is_none, pos, refl, sym, true, ℕ, ◌∷◌, ◌≡◌, ◌≤◌}
+use Rattle.std.proofs.Common.{All, Bool, List, None, Option, Some, [], cond, false, filter, fold, is_none, refl, sym, true, ℕ, ◌∷◌, ◌≡◌, ◌≤◌}
 use Rattle.std.proofs.lemmas.Bool.{and_parts, true≢false}
 use Rattle.std.proofs.lemmas.List.Elements.{All-cons, All-filter, All-head, All-map, All-nil, All-push, All-tail, All-weaker}
 use Rattle.std.specs.List.{cons_option, list_all}
@@ -29,7 +29,7 @@ use Rattle.register_machine.specs.journal.Kinds.{classes_of, each_in, price_fix_
 use Rattle.register_machine.specs.journal.Lawful.{IsLawful}
 use Rattle.register_machine.specs.pricing.CorrectedOrders.{orders_of, stands}
 use Rattle.register_machine.specs.pricing.CorrectedPrices.{fixes_price, price_as_corrected, sheet_as_corrected}
-use Rattle.register_machine.specs.pricing.PublishedTable.{empty_table, moment_of, table_after, table_behind, table_by, table_of}
+use Rattle.register_machine.specs.pricing.PublishedTable.{empty_table, table_after, table_behind, table_by, table_of}
 use Rattle.register_machine.specs.run.Answers.{says}
 
 -- ---- limits
@@ -69,7 +69,7 @@ FixInRange form = form.nav ≤ most_nav
 -- the sheets of a table
 table-ranges : (table : Table) (moment : ℕ) (kind : EventKind) → SaysInRange kind → All SheetInRange table.sheets → All SheetInRange (table_by table moment kind).sheets
 table-ranges table moment (EventKind.Sheet form) says all =
-    All-push SheetInRange table.sheets (sheet_published table form.calendar (pos form.moment) form.prices) all says
+    All-push SheetInRange table.sheets (sheet_published table form.calendar form.moment form.prices) all says
 table-ranges table moment kind says all = all
 
 tables-range : (table : Table) (events : Journal) → All EventInRange events → All SheetInRange table.sheets → All SheetInRange (fold table_after table events).sheets
@@ -105,8 +105,8 @@ price-ranges fixes moment price all is =
 
 sheet-ranges : (fixes : List FixPriceForm) (sheet : Sheet) → All FixInRange fixes → SheetInRange sheet → SheetInRange (sheet_as_corrected fixes sheet)
 sheet-ranges fixes sheet all is =
-    All-map PriceInRange (price_as_corrected fixes (moment_of sheet)) sheet.prices
-    (All-weaker PriceInRange (λ price. PriceInRange (price_as_corrected fixes (moment_of sheet) price)) (λ price low. price-ranges fixes (moment_of sheet) price all low) sheet.prices is)
+    All-map PriceInRange (price_as_corrected fixes sheet.moment) sheet.prices
+    (All-weaker PriceInRange (λ price. PriceInRange (price_as_corrected fixes sheet.moment price)) (λ price low. price-ranges fixes sheet.moment price all low) sheet.prices is)
 
 prices-range : (journal : Journal) → All EventInRange journal → All SheetInRange (book_behind journal).table.sheets
 unfolding table_behind

@@ -75,6 +75,5 @@ pub mod SeenAlike
 pub mod Isolation
 pub mod HouseholdsIsolated
 pub mod BrokenByParts
-pub mod SheetsDated
 pub mod SheetsClimb
 pub mod Unreached

@@ -1,13 +1,12 @@
 -- No calendar, no closure and no sheet stands twice in a lawful journal: what the price table has of them.
-use Rattle.std.proofs.Common.{Bool, Err, List, None, Ok, Option, Result, Some, [], ap, arith, cond, false, filter, find, fold, inl, inr, is_some, map, not, pos, refl, subst, sym, true, ℕ, ℤ, ⊎_elim, ◌&&◌, ◌++◌, ◌==◌, ◌||◌, ◌∙◌, ◌∷◌, ◌≡◌}
+use Rattle.std.proofs.Common.{Bool, Err, List, None, Ok, Option, Result, Some, [], ap, arith, cond, false, filter, find, fold, inl, inr, is_some, map, not, pos, refl, subst, sym, true, ℕ, ⊎_elim, ◌&&◌, ◌++◌, ◌==◌, ◌||◌, ◌∙◌, ◌∷◌, ◌≡◌}
 use Rattle.std.proofs.Math.Bool.{or-false, or_assoc}
 use Rattle.std.proofs.lemmas.Bool.{and_left, and_parts, and_right, eqb-true, false_from_ne_true, not-false, not-true, or_cases, or_from, or_left, or_parts, true≢false}
-use Rattle.std.proofs.lemmas.Bool.Decides.{Decides-int_eq, eqb_tells}
+use Rattle.std.proofs.lemmas.Bool.Decides.{Decides-eqb, eqb_tells}
 use Rattle.std.proofs.lemmas.List.Elements.{filter_map-append}
 use Rattle.std.proofs.lemmas.List.Folds.{list_any-append}
 use Rattle.std.specs.List.{cons_option, list_any}
 use Rattle.std.specs.Option.{option_map_or}
-use Rattle.std.specs.Ordering.{int_eq}
 use Rattle.agent_events.specs.Events.{Event, request_of}
 use Rattle.agent_events.specs.Fields.{pair}
 use Rattle.agent_events.specs.declared.event.EventKind.{EventKind}
@@ -143,23 +142,11 @@ no_calendar_twice journal lawful number =
 -- ---- sheets
 
 abbrev sees_sheet : ℕ → ℕ → Table → Bool
-sees_sheet calendar moment table = list_any (is_sheet_at calendar (pos moment)) table.sheets
-
--- whole numbers are equal as signed numbers
-equal-signed : (a b : ℕ) → int_eq (pos a) (pos b) ≡ (a == b)
-equal-signed a b =
-    elim (eqb_tells a b) [
-      | inl (is, same) ↦ (Decides-int_eq (pos a) (pos b)).1 (ap pos same) ∙ sym is
-      | inr (is, apart) ↦ false_from_ne_true (int_eq (pos a) (pos b)) (λ e. apart (pos_same ((Decides-int_eq (pos a) (pos b)).0 e))) ∙ sym is
-    ]
-  where
-    pos_same : pos a ≡ pos b → a ≡ b
-    pos_same h = cc
+sees_sheet calendar moment table = list_any (is_sheet_at calendar moment) table.sheets
 
 sheet-step : (calendar at : ℕ) (table : Table) (moment : ℕ) (kind : EventKind) → sees_sheet calendar at (table_by table moment kind) ≡ (sees_sheet calendar at table || option_map_or (publishes calendar at) (sheet_in kind) false)
 sheet-step calendar at table moment (EventKind.Sheet form) =
-    any-more (is_sheet_at calendar (pos at)) table.sheets (sheet_published table form.calendar (pos form.moment) form.prices)
-    ∙ ap (λ b. sees_sheet calendar at table || (form.calendar == calendar && b)) (equal-signed form.moment at)
+    any-more (is_sheet_at calendar at) table.sheets (sheet_published table form.calendar form.moment form.prices)
 sheet-step calendar at table moment _ = sym (or-false (sees_sheet calendar at table))
 
 sheets-seen : (calendar moment : ℕ) (journal : Journal) → sees_sheet calendar moment (table_of journal) ≡ list_any (publishes calendar moment) (each_in sheet_in journal)
@@ -167,45 +154,45 @@ sheets-seen calendar moment journal =
     table-sees (sees_sheet calendar moment) sheet_in (publishes calendar moment) (sheet-step calendar moment) refl journal
 
 -- a correction of prices keeps whose sheet it is
-pub corrected-sheets : (fixes : List FixPriceForm) (calendar : ℕ) (moment : ℤ) (sheets : List Sheet) → list_any (is_sheet_at calendar moment) (map (sheet_as_corrected fixes) sheets) ≡ list_any (is_sheet_at calendar moment) sheets
+pub corrected-sheets : (fixes : List FixPriceForm) (calendar : ℕ) (moment : ℕ) (sheets : List Sheet) → list_any (is_sheet_at calendar moment) (map (sheet_as_corrected fixes) sheets) ≡ list_any (is_sheet_at calendar moment) sheets
 corrected-sheets fixes calendar moment [] = refl
 corrected-sheets fixes calendar moment (sheet ∷ sheets) =
     ap (λ b. is_sheet_at calendar moment sheet || b) (corrected-sheets fixes calendar moment sheets)
 
 -- a sheet in its turn is the expected one
-in_its_turn : (expected : Option (ℤ × ℕ)) (wrong : Option ℕ) (calendar : ℕ) (moment now : ℤ) → out_of_turn (fault_of expected wrong calendar moment now) ≡ None → (pair : ℤ × ℕ) × (expected ≡ Some pair) × (is_pair calendar moment pair ≡ true)
+in_its_turn : (expected : Option (ℕ × ℕ)) (wrong : Option ℕ) (calendar : ℕ) (moment now : ℕ) → out_of_turn (fault_of expected wrong calendar moment now) ≡ None → (pair : ℕ × ℕ) × (expected ≡ Some pair) × (is_pair calendar moment pair ≡ true)
 in_its_turn None wrong calendar moment now e = absurd (some_none e)
   where
-    some_none : out_of_turn (Some (publish_fault.SheetOutOfTurn (pos 0) 0)) ≡ None → ⊥
+    some_none : out_of_turn (Some (publish_fault.SheetOutOfTurn 0 0)) ≡ None → ⊥
     some_none h = cc
 in_its_turn (Some pair) wrong calendar moment now e = by_pair (is_pair calendar moment pair) refl e
   where
     some_none : out_of_turn (Some (publish_fault.SheetOutOfTurn pair.0 pair.1)) ≡ None → ⊥
     some_none h = cc
 
-    by_pair : (is : Bool) → is_pair calendar moment pair ≡ is → out_of_turn (cond is (list_fault wrong moment now) (Some (publish_fault.SheetOutOfTurn pair.0 pair.1))) ≡ None → (other : ℤ × ℕ) × (Some pair ≡ Some other) × (is_pair calendar moment other ≡ true)
+    by_pair : (is : Bool) → is_pair calendar moment pair ≡ is → out_of_turn (cond is (list_fault wrong moment now) (Some (publish_fault.SheetOutOfTurn pair.0 pair.1))) ≡ None → (other : ℕ × ℕ) × (Some pair ≡ Some other) × (is_pair calendar moment other ≡ true)
     by_pair true is h = (pair, refl, is)
     by_pair false is h = absurd (some_none h)
 
 -- and that isn't published
-unpublished : (table : Table) (calendar : ℕ) (moment : ℤ) (pair : ℤ × ℕ) → expected_of table ≡ Some pair → is_pair calendar moment pair ≡ true → list_any (is_sheet_at calendar moment) table.sheets ≡ false
+unpublished : (table : Table) (calendar : ℕ) (moment : ℕ) (pair : ℕ × ℕ) → expected_of table ≡ Some pair → is_pair calendar moment pair ≡ true → list_any (is_sheet_at calendar moment) table.sheets ≡ false
 unpublished table calendar moment pair e same =
-    let parts = and_parts (int_eq pair.0 moment) (pair.1 == calendar) same in
+    let parts = and_parts (pair.0 == moment) (pair.1 == calendar) same in
     let awaited = and_parts (list_any (is_offered_at pair.1 pair.0) table.classes) (not (list_any (is_sheet_at pair.1 pair.0) table.sheets)) (expected_best table pair e).here in
     subst (λ c. list_any (is_sheet_at c moment) table.sheets ≡ false) (eqb-true pair.1 calendar parts.1)
-    (subst (λ m. list_any (is_sheet_at pair.1 m) table.sheets ≡ false) ((Decides-int_eq pair.0 moment).0 parts.0)
+    (subst (λ m. list_any (is_sheet_at pair.1 m) table.sheets ≡ false) ((Decides-eqb pair.0 moment).0 parts.0)
     (not-true (list_any (is_sheet_at pair.1 pair.0) table.sheets) awaited.1))
 
 sheet_new : (journal : Journal) (now : ℕ) (caller : Caller) (calendar moment : ℕ) (kind : EventKind) → out_of_turn (sheet_fault (own_at journal now caller) (request_of kind)) ≡ None → option_map_or (publishes calendar moment) (sheet_in kind) false ≡ true → list_any (publishes calendar moment) (each_in sheet_in journal) ≡ false
 sheet_new journal now caller calendar moment (EventKind.Sheet form) turn here =
     let table = (own_at journal now caller).book.table in
-    let found = in_its_turn (expected_of table) (wrong_class table.classes form.calendar (pos form.moment) form.prices) form.calendar (pos form.moment) (pos now) turn in
+    let found = in_its_turn (expected_of table) (wrong_class table.classes form.calendar form.moment form.prices) form.calendar form.moment now turn in
     let same = and_parts (form.calendar == calendar) (form.moment == moment) here in
     subst (λ c. list_any (publishes c moment) (each_in sheet_in journal) ≡ false) (eqb-true form.calendar calendar same.0)
     (subst (λ m. list_any (publishes form.calendar m) (each_in sheet_in journal) ≡ false) (eqb-true form.moment moment same.1)
     (sym (sheets-seen form.calendar form.moment journal)
-    ∙ (sym (corrected-sheets (each_in price_fix_in journal) form.calendar (pos form.moment) (table_of journal).sheets)
-    ∙ unpublished table form.calendar (pos form.moment) found.0 found.1 found.2)))
+    ∙ (sym (corrected-sheets (each_in price_fix_in journal) form.calendar form.moment (table_of journal).sheets)
+    ∙ unpublished table form.calendar form.moment found.0 found.1 found.2)))
 sheet_new journal now caller calendar moment _ turn here = absurd (true≢false (sym here))
 
 pub no_sheet_twice : (journal : Journal) → IsLawful journal → NoSheetTwice journal

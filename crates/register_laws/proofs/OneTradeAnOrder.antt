@@ -1,6 +1,6 @@
 -- An order is traded once, on the sheet of its next price.
 use Rattle.register_laws.proofs.OrdersInTurn.{NumberedFrom, numbered-first, numbered-rest, turns-count}
-use Rattle.std.proofs.Common.{All, Bool, Contains, List, None, Option, Some, [], ap, append-nil, append_assoc, arith, cond, count_by, false, filter, find, flat_map, fold, get_or, inl, inr, is_some, length, map, not, option_map, option_to_list, pos, position, refl, suc, sym, true, zero, ℕ, ◌&&◌, ◌*◌, ◌++◌, ◌+◌, ◌<◌, ◌==◌, ◌∙◌, ◌∷◌, ◌≡◌, ◌≤◌}
+use Rattle.std.proofs.Common.{All, Bool, Contains, List, None, Option, Some, [], ap, append-nil, append_assoc, arith, cond, count_by, false, filter, find, flat_map, fold, get_or, inl, inr, is_some, length, map, not, option_map, option_to_list, position, refl, suc, sym, true, zero, ℕ, ◌&&◌, ◌*◌, ◌++◌, ◌+◌, ◌<◌, ◌==◌, ◌∙◌, ◌∷◌, ◌≡◌, ◌≤◌}
 use Rattle.std.proofs.lemmas.Bool.{and_from, and_parts, and_right, cases_lt, eqb-true, false_from_ne_true, true≢false}
 use Rattle.std.proofs.lemmas.Bool.Decides.{Decides-eqb}
 use Rattle.std.proofs.lemmas.List.{length-map, map-append}
@@ -39,7 +39,6 @@ use Rattle.register_machine.specs.pricing.CorrectedBook.{Book, front_of, schedul
 use Rattle.register_machine.specs.pricing.CorrectedOrders.{is_named, order_begun, orders_begun, orders_of, replaces, row_as_corrected, row_as_sent, stands, struck_in}
 use Rattle.register_machine.specs.pricing.DividendRates.{Rates, rate_at}
 use Rattle.register_machine.specs.pricing.OrderClasses.{class_of, classes_in}
-use Rattle.register_machine.specs.pricing.PublishedTable.{moment_of}
 use Rattle.register_machine.specs.replay.DayStep.{day_after_body, day_after_order, day_after_orders, day_step}
 use Rattle.register_machine.specs.replay.Dividend.{cash_dividend_trade, day_after_class, day_after_dividend, day_after_dividends, day_after_payment, day_after_rate, dividend_trade, keys_of_class, payment_on}
 use Rattle.register_machine.specs.replay.Exchange.{day_after_exchange, exchange_reasons, exchange_trade, position_with_pieces}
@@ -280,7 +279,7 @@ payment-same p q tells sheet day position (pays.Shares cash mils) =
 
 class-same : (p : Trade → Bool) (q : ℕ → ℕ → Bool) → Tells p q → (rates : Rates) (sheet : Sheet) (day : Day) (price : ℕ × ℕ) → marks p (day_after_class rates sheet day price).trades ≡ marks p day.trades
 class-same p q tells rates sheet day price =
-    by_rate (rate_at rates price.0 (moment_of sheet)) (rate_at rates price.0 (moment_of sheet) == 0)
+    by_rate (rate_at rates price.0 sheet.moment) (rate_at rates price.0 sheet.moment == 0)
   where
     by_rate : (rate : ℕ) (none : Bool) → marks p (cond none day (day_after_rate sheet rate price day)).trades ≡ marks p day.trades
     by_rate rate true = refl
@@ -568,7 +567,7 @@ traded book row p are few there tells =
     by_sheet : (found : Option Sheet) → sheet_of book.table.sheets row ≡ found → ((sheet : Sheet) → executed_on (is_own row.order.account row.order.ref_no) (priced_orders book) sheet ≡ cond (option_map_or (λ number. number == sheet.number) (option_map (λ (s : Sheet). s.number) found) false) 1 0) → numbers_on (executed_on (is_own row.order.account row.order.ref_no) (priced_orders book)) book.table.sheets ≡ option_to_list (option_map (λ (s : Sheet). s.number) found)
     by_sheet None is executed = none-numbered (executed_on (is_own row.order.account row.order.ref_no) (priced_orders book)) executed book.table.sheets
     by_sheet (Some sheet) is executed =
-        let within = its-number book.table.sheets sheet are (next_sheet-next book.table.sheets (classes_in row.order.body) (pos row.receipt) sheet is).among in
+        let within = its-number book.table.sheets sheet are (next_sheet-next book.table.sheets (classes_in row.order.body) row.receipt sheet is).among in
         once-numbered sheet.number 1 (executed_on (is_own row.order.account row.order.ref_no) (priced_orders book)) book.table.sheets executed are.each within.0 within.1
 
     by_struck : (struck : Bool) → row.struck ≡ struck → numbers_on (executed_on (is_own row.order.account row.order.ref_no) (priced_orders book)) book.table.sheets ≡ option_to_list (cond struck None (priced_in book.table.sheets row).sheet)

@@ -22,7 +22,6 @@ use Rattle.register_laws.proofs.HouseholdSheets.{none-all}
 use Rattle.register_laws.proofs.ListParts.{filter-all, filter-map, filter-swap, fold-known, maps-agree}
 use Rattle.register_laws.proofs.LawfulJournals.{lawful-before}
 use Rattle.register_laws.proofs.SheetsClimb.{sheets-before}
-use Rattle.register_laws.proofs.SheetsDated.{dated}
 use Rattle.register_laws.proofs.StepsAlike.{books_step_alike}
 use Rattle.register_laws.specs.CorrectionReach.{IsOnNone, LawfulEventReach, LeavesPart, TriedEventReach, book_with_price, book_with_rate, is_on_sheet, order_changed}
 use Rattle.register_laws.specs.Households.{is_of_household, own_book, own_orders}
@@ -257,13 +256,13 @@ tried_event_reach journal event before_lawful touches =
           (rate-replay form (own_book household book) nowhere));
       price_before = λ form is number early. subst (λ b. replay_to b number ≡ replay_to book number)
           (behind journal event touches (book_with_price form book) (ap (book_after (length journal) book event.moment) is ∙ price-book (length journal) book event.moment form))
-          (price_leaves_before book form number (dated journal) early);
+          (price_leaves_before book form number early);
       rate_before = λ form is number early. subst (λ b. replay_to b number ≡ replay_to book number)
           (behind journal event touches (book_with_rate form book) (ap (book_after (length journal) book event.moment) is ∙ rate-book (length journal) book event.moment form))
           (rate_leaves_before book form number early);
       price_numbered = λ form is fixed of number early. subst (λ b. replay_to b number ≡ replay_to book number)
           (behind journal event touches (book_with_price form book) (ap (book_after (length journal) book event.moment) is ∙ price-book (length journal) book event.moment form))
-          (price_leaves_before book form number (dated journal) (sheets-before journal before_lawful form.class form.moment fixed number of early));
+          (price_leaves_before book form number (sheets-before journal before_lawful form.class form.moment fixed number of early));
       rate_numbered = λ form is fixed of number early. subst (λ b. replay_to b number ≡ replay_to book number)
           (behind journal event touches (book_with_rate form book) (ap (book_after (length journal) book event.moment) is ∙ rate-book (length journal) book event.moment form))
           (rate_leaves_before book form number (λ k d short. (sheets-before journal before_lawful form.class form.moment fixed number of early k d short).0));

@@ -1,7 +1,7 @@
 -- No price of a sheet was corrected before a lawful journal publishes it: what is corrected stands on a published sheet, and a
 -- class has one sheet a moment.
 use Rattle.std.proofs.lemmas.List.Folds.{list_any_none}
-use Rattle.std.proofs.Common.{Bool, List, None, Option, Some, [], ap, arith, cond, false, filter, inl, inr, int_lt, length, map, not, option_to_list, pos, refl, subst, sym, true, ℕ, ℤ, ⊎_elim, ◌&&◌, ◌++◌, ◌==◌, ◌||◌, ◌∙◌, ◌∷◌, ◌≡◌, ◌≤◌, ◌⊎◌}
+use Rattle.std.proofs.Common.{Bool, List, None, Option, Some, [], ap, arith, cond, false, filter, inl, inr, nat_lt, length, map, not, option_to_list, refl, subst, sym, true, ℕ, ⊎_elim, ◌&&◌, ◌++◌, ◌==◌, ◌||◌, ◌∙◌, ◌∷◌, ◌≡◌, ◌≤◌, ◌⊎◌}
 use Rattle.std.proofs.Math.Bool.{or-false}
 use Rattle.std.proofs.lemmas.Bool.{and_parts, eq-eqb, eqb-true, true≢false}
 use Rattle.std.proofs.lemmas.List.Folds.{list_any-append}
@@ -39,7 +39,7 @@ use Rattle.register_machine.specs.journal.Journals.{Journal, with_event}
 use Rattle.register_machine.specs.journal.Kinds.{class_in, classes_of, each_in, price_fix_in, sheet_in}
 use Rattle.register_machine.specs.journal.Lawful.{IsLawful}
 use Rattle.register_machine.specs.pricing.CorrectedPrices.{fixes_price, price_as_corrected, sheet_as_corrected}
-use Rattle.register_machine.specs.pricing.PublishedTable.{empty_table, moment_of, table_behind, table_by, table_of}
+use Rattle.register_machine.specs.pricing.PublishedTable.{empty_table, table_behind, table_by, table_of}
 use Rattle.agent_events.specs.declared.verdict.Caller.{Caller}
 use Rattle.register_machine.specs.rules.InOrder.{Rule, broken_rule}
 use Rattle.register_machine.specs.rules.NamedThings.{has_price, lists_at, things_named}
@@ -72,7 +72,7 @@ prices_class class moment form = form.moment == moment && lists_class form.price
 
 sheet-step : (class at : ℕ) (table : Table) (moment : ℕ) (kind : EventKind) → list_any (lists_at class at) (table_by table moment kind).sheets ≡ (list_any (lists_at class at) table.sheets || option_map_or (prices_class class at) (sheet_in kind) false)
 sheet-step class at table moment (EventKind.Sheet form) =
-    list_any-append (lists_at class at) table.sheets (sheet_published table form.calendar (pos form.moment) form.prices ∷ [])
+    list_any-append (lists_at class at) table.sheets (sheet_published table form.calendar form.moment form.prices ∷ [])
     ∙ ap (λ b. list_any (lists_at class at) table.sheets || b) (or-false (form.moment == at && lists_class form.prices class))
 sheet-step class at table moment (EventKind.Calendar form) = sym (or-false (list_any (lists_at class at) table.sheets))
 sheet-step class at table moment _ = sym (or-false (list_any (lists_at class at) table.sheets))
@@ -85,7 +85,7 @@ sheets-seen class at journal lawful =
 corrected-seen : (fixes : List FixPriceForm) (class at : ℕ) (sheets : List Sheet) → list_any (lists_at class at) (map (sheet_as_corrected fixes) sheets) ≡ list_any (lists_at class at) sheets
 corrected-seen fixes class at [] = refl
 corrected-seen fixes class at (sheet ∷ sheets) =
-    ap (λ b. (moment_of sheet == at && b) || list_any (lists_at class at) (map (sheet_as_corrected fixes) sheets)) (any-of-map (λ price. price.0 == class) (price_as_corrected fixes (moment_of sheet)) sheet.prices)
+    ap (λ b. (sheet.moment == at && b) || list_any (lists_at class at) (map (sheet_as_corrected fixes) sheets)) (any-of-map (λ price. price.0 == class) (price_as_corrected fixes sheet.moment) sheet.prices)
     ∙ ap (λ b. lists_at class at sheet || b) (corrected-seen fixes class at sheets)
 
 -- a class of a calendar
@@ -97,7 +97,7 @@ is_of class calendar form = form.class == class && form.calendar == calendar
 
 class-step : (class calendar : ℕ) (table : Table) (moment : ℕ) (kind : EventKind) → list_any (opens class calendar) (table_by table moment kind).classes ≡ (list_any (opens class calendar) table.classes || option_map_or (is_of class calendar) (class_in kind) false)
 class-step class calendar table moment (EventKind.Class form) =
-    list_any-append (opens class calendar) table.classes (record { class = form.class; calendar = form.calendar; opened = pos moment } ∷ [])
+    list_any-append (opens class calendar) table.classes (record { class = form.class; calendar = form.calendar; opened = moment } ∷ [])
     ∙ ap (λ b. list_any (opens class calendar) table.classes || b) (or-false (form.class == class && form.calendar == calendar))
 class-step class calendar table moment _ = sym (or-false (list_any (opens class calendar) table.classes))
 
@@ -147,7 +147,7 @@ faultless (Some (publish_fault.SheetOutOfTurn moment calendar)) turn list soon =
 faultless (Some (publish_fault.SheetIncomplete class)) turn list soon = absurd (some_none list)
 faultless (Some (publish_fault.TooSoon moment)) turn list soon = absurd (some_none soon)
 
-complete-list : (expected : Option (ℤ × ℕ)) (wrong : Option ℕ) (calendar : ℕ) (moment now : ℤ) → fault_of expected wrong calendar moment now ≡ None → wrong ≡ None
+complete-list : (expected : Option (ℕ × ℕ)) (wrong : Option ℕ) (calendar : ℕ) (moment now : ℕ) → fault_of expected wrong calendar moment now ≡ None → wrong ≡ None
 complete-list None wrong calendar moment now e = absurd (some_none e)
 complete-list (Some pair) wrong calendar moment now e = by_turn (is_pair calendar moment pair) wrong e
   where
@@ -156,7 +156,7 @@ complete-list (Some pair) wrong calendar moment now e = by_turn (is_pair calenda
     by_turn true (Some class) h = absurd (some_none h)
     by_turn false found h = absurd (some_none h)
 
-listed-opened : (classes : List Opening) (calendar : ℕ) (moment : ℤ) (prices : List (ℕ × ℕ)) (class : ℕ) → wrong_class classes calendar moment prices ≡ None → lists_class prices class ≡ true → list_any (opens class calendar) classes ≡ true
+listed-opened : (classes : List Opening) (calendar : ℕ) (moment : ℕ) (prices : List (ℕ × ℕ)) (class : ℕ) → wrong_class classes calendar moment prices ≡ None → lists_class prices class ≡ true → list_any (opens class calendar) classes ≡ true
 listed-opened classes calendar moment prices class complete lists = opened must
   where
     right : list_any (λ (price : ℕ × ℕ). is_wrong classes calendar moment prices price.0) prices ≡ false
@@ -186,14 +186,14 @@ listed-opened classes calendar moment prices class complete lists = opened must
     opened e =
         let found = any-with (λ (o : Opening). o.class == class && is_offered_at calendar moment o) classes e in
         let both = and_parts (found.0.class == class) (is_offered_at calendar moment found.0) found.1 in
-        let of = and_parts (found.0.calendar == calendar) (int_lt found.0.opened moment) both.1 in
+        let of = and_parts (found.0.calendar == calendar) (nat_lt found.0.opened moment) both.1 in
         found.2 (opens class calendar) (ap (λ b. b && found.0.calendar == calendar) both.0 ∙ of.0)
 
 pub sheet-complete : (journal : Journal) (now : ℕ) (caller : Caller) (form : SheetForm) (class : ℕ) → IsLawful journal → broken_rule (own_at journal now caller) (Request.Sheet form) ≡ None → lists_class form.prices class ≡ true → list_any (is_of class form.calendar) (classes_of journal) ≡ true
 sheet-complete journal now caller form class lawful clear lists =
     sym (classes-seen class form.calendar journal lawful)
-    ∙ listed-opened (table_of journal).classes form.calendar (pos form.moment) form.prices class
-    (complete-list (expected_of (own_at journal now caller).book.table) (wrong_class (table_of journal).classes form.calendar (pos form.moment) form.prices) form.calendar (pos form.moment) (pos now)
+    ∙ listed-opened (table_of journal).classes form.calendar form.moment form.prices class
+    (complete-list (expected_of (own_at journal now caller).book.table) (wrong_class (table_of journal).classes form.calendar form.moment form.prices) form.calendar form.moment now
     (faultless (sheet_fault (own_at journal now caller) (Request.Sheet form))
     (not_broken (own_at journal now caller) (Request.Sheet form) clear Rule.SheetOutOfTurn)
     (not_broken (own_at journal now caller) (Request.Sheet form) clear Rule.SheetIncomplete)

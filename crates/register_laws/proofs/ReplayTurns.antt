@@ -10,7 +10,6 @@ use Rattle.register_laws.proofs.DayTurns.{KeyTurns, Turn, day_after_turn, divide
 use Rattle.register_laws.specs.OrderTurns.{OrderTurn, day_at, day_before_orders}
 use Rattle.register_machine.specs.pricing.CorrectedBook.{Book}
 use Rattle.register_machine.specs.pricing.DividendRates.{rate_at}
-use Rattle.register_machine.specs.pricing.PublishedTable.{moment_of}
 use Rattle.register_machine.specs.replay.DayStep.{day_after_order, day_after_orders, day_step}
 use Rattle.register_machine.specs.replay.Dividend.{day_after_class, day_after_dividend, day_after_dividends, day_after_rate, is_of_class, keys_of_class}
 use Rattle.register_machine.specs.replay.Letter.{day_after_letter_end, day_after_letter_ends, has_letter_over, keys_of_letters_over}
@@ -57,10 +56,10 @@ classes-kept : (book : Book) (R : Sheet → OrderRow → Type 0) (P : PositionKe
 classes-kept book R P K keeps sheet sheet_published done day [] kept = kept
 classes-kept book R P K keeps sheet sheet_published done day (price ∷ prices) kept =
     classes-kept book R P K keeps sheet sheet_published done (day_after_class book.rates sheet day price) prices
-    (elim (rate_at book.rates price.0 (moment_of sheet) == 0) as (λ b. K done (cond b day (day_after_rate sheet (rate_at book.rates price.0 (moment_of sheet)) price day))) [
+    (elim (rate_at book.rates price.0 sheet.moment == 0) as (λ b. K done (cond b day (day_after_rate sheet (rate_at book.rates price.0 sheet.moment) price day))) [
       | true ↦ kept
       | false ↦
-          let rate = rate_at book.rates price.0 (moment_of sheet) in
+          let rate = rate_at book.rates price.0 sheet.moment in
           keys-kept book R P K keeps sheet sheet_published (day_after_dividend sheet rate price.1) (dividend-turns book sheet rate price.1) done day (keys_of_class price.0 day.register)
           (chosen-keys P (is_of_class price.0) day.register (keeps.keys done day kept)) kept
     ])

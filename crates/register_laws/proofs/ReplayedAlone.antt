@@ -20,7 +20,6 @@ use Rattle.register_machine.specs.journal.Kinds.{household_of}
 use Rattle.register_machine.specs.pricing.CorrectedBook.{Book, counts}
 use Rattle.register_machine.specs.pricing.CorrectedOrders.{stands}
 use Rattle.register_machine.specs.pricing.DividendRates.{rate_at}
-use Rattle.register_machine.specs.pricing.PublishedTable.{moment_of}
 use Rattle.register_machine.specs.replay.DayStep.{day_after_order, day_step}
 use Rattle.register_machine.specs.replay.Dividend.{day_after_class, day_after_dividend, day_after_dividends, day_after_rate, is_of_class}
 use Rattle.register_machine.specs.replay.Letter.{day_after_letter_end, day_after_letter_ends, has_letter_over}
@@ -218,7 +217,7 @@ module _ (book : Book) (household : ℕ) (sheet : Sheet) where
       (fold-part (IsPart own) (is_own_key own) step step_too steps skips d e (map key_of (filter test d.register)) is)
 
   class-part : (d e : Day) (price : ℕ × ℕ) → IsPart (is_of_household book.accounts household) d e → IsPart (is_of_household book.accounts household) (day_after_class book.rates sheet d price) (day_after_class book.rates sheet e price)
-  class-part d e price is = by_rate (rate_at book.rates price.0 (moment_of sheet))
+  class-part d e price is = by_rate (rate_at book.rates price.0 sheet.moment)
     where
       by_rate : (rate : ℕ) → IsPart (is_of_household book.accounts household) (cond (rate == 0) d (day_after_rate sheet rate price d)) (cond (rate == 0) e (day_after_rate sheet rate price e))
       by_rate rate = elim (rate == 0) as (λ b. IsPart (is_of_household book.accounts household) (cond b d (day_after_rate sheet rate price d)) (cond b e (day_after_rate sheet rate price e))) [

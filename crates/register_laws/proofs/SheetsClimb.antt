@@ -1,9 +1,8 @@
 -- The moments of a lawful journal's sheets never fall: a sheet has the least pricing moment that is awaited, and a class that is
 -- opened later awaits later ones alone. So what is published before a sheet isn't later than it.
 use Rattle.std.specs.Prelude.{AllPairs}
-use Rattle.std.proofs.Common.{All, Bool, List, None, Some, [], ap, append-nil, append_assoc, arith, cond, false, filter, find, get_or, inl, inr, int_lt, is_some, length, map, not, option_map, pos, refl, subst, sym, take, true, ℕ, ℤ, ◌&&◌, ◌++◌, ◌<ℤ◌, ◌<◌, ◌==◌, ◌||◌, ◌∙◌, ◌∷◌, ◌≡◌, ◌≤ℤ◌, ◌≤◌}
+use Rattle.std.proofs.Common.{All, Bool, List, None, Some, [], ap, append-nil, append_assoc, arith, cond, false, filter, find, get_or, inl, inr, nat_lt, is_some, length, map, not, option_map, pos, refl, subst, sym, take, true, ℕ, ◌&&◌, ◌++◌, ◌<◌, ◌==◌, ◌||◌, ◌∙◌, ◌∷◌, ◌≡◌, ◌≤◌}
 use Rattle.std.proofs.lemmas.Bool.{and_from, and_parts, eqb-true, or_cases, true≢false}
-use Rattle.std.proofs.lemmas.Int.{ints}
 use Rattle.std.proofs.lemmas.List.{get_or-map, get_or-take, length-map, length-take}
 use Rattle.std.proofs.lemmas.List.Elements.{All-append, All-contains, All-filter, All-map, All-nil, All-push, All-weaker}
 use Rattle.std.proofs.lemmas.List.Folds.{list_any-append}
@@ -33,14 +32,13 @@ use Rattle.register_laws.proofs.NoPricingTwice.{listing-number}
 use Rattle.register_laws.proofs.RulesByName.{not_broken}
 use Rattle.register_laws.proofs.Runs.{table-one}
 use Rattle.register_laws.proofs.FixesOnePrice.{any-place, one-sheet}
-use Rattle.register_laws.proofs.SheetsDated.{dated}
 use Rattle.register_laws.proofs.TablesAreOrderly.{calendar-unknown, expected-corrected, kept, numbered, orderly_tables, without-fault}
 use Rattle.register_laws.specs.CorrectionReach.{LawfulSheetsNeverFall}
 use Rattle.register_laws.proofs.Tests.{any-after, any-of-map, find-any}
 use Rattle.register_laws.specs.Lawful.{IsBrought, book_behind, own_at}
 use Rattle.register_machine.specs.journal.Journals.{Journal, last_moment, with_event}
 use Rattle.register_machine.specs.journal.Lawful.{IsLawful}
-use Rattle.register_machine.specs.pricing.PublishedTable.{listing_of, moment_of, table_behind, table_by, table_of}
+use Rattle.register_machine.specs.pricing.PublishedTable.{listing_of, table_behind, table_by, table_of}
 use Rattle.register_machine.specs.journal.Kinds.{each_in, price_fix_in}
 use Rattle.register_machine.specs.pricing.CorrectedPrices.{sheet_as_corrected}
 use Rattle.register_machine.specs.rules.NamedThings.{lists_at}
@@ -49,8 +47,8 @@ use Rattle.register_machine.specs.rules.InOrder.{Rule, broken_rule}
 
 -- what is awaited isn't before any sheet, sheets don't fall, and each class has its calendar
 pub record Climbs (t : Table) : Type 0 where
-  pub ahead : All (λ (s : Sheet). All (λ (pair : ℤ × ℕ). is_awaited t.classes t.sheets pair ≡ true → s.moment ≤ℤ pair.0) (pricing_pairs t.calendars)) t.sheets
-  pub climbs : AllPairs (λ (a b : Sheet). a.moment ≤ℤ b.moment) t.sheets
+  pub ahead : All (λ (s : Sheet). All (λ (pair : ℕ × ℕ). is_awaited t.classes t.sheets pair ≡ true → s.moment ≤ pair.0) (pricing_pairs t.calendars)) t.sheets
+  pub climbs : AllPairs (λ (a b : Sheet). a.moment ≤ b.moment) t.sheets
   pub known : All (λ (x : Opening). is_some (calendar_numbered t.calendars x.calendar) ≡ true) t.classes
 
 -- ---- pairs of calendars
@@ -60,7 +58,7 @@ one-more-pairs [] c = append-nil (pairs_of c)
 one-more-pairs (x ∷ xs) c =
     ap (λ rest. pairs_of x ++ rest) (one-more-pairs xs c) ∙ sym (append_assoc (pairs_of x) (pricing_pairs xs) (pairs_of c))
 
-fewer-pairs : (P : ℤ × ℕ → Type 0) (calendar day : ℕ) (calendars : List Listing) → All P (pricing_pairs calendars) → All P (pricing_pairs (map (closed_in calendar day) calendars))
+fewer-pairs : (P : ℕ × ℕ → Type 0) (calendar day : ℕ) (calendars : List Listing) → All P (pricing_pairs calendars) → All P (pricing_pairs (map (closed_in calendar day) calendars))
 fewer-pairs P calendar day [] all = all
 fewer-pairs P calendar day (c ∷ cs) all =
     All-append P (pairs_of (closed_in calendar day c)) (pricing_pairs (map (closed_in calendar day) cs)) (one (c.number == calendar) (All-left P (pairs_of c) (pricing_pairs cs) all)) (fewer-pairs P calendar day cs (All-right P (pairs_of c) (pricing_pairs cs) all))
@@ -92,7 +90,7 @@ still-some n cs c e =
 climbs-calendar : (t : Table) (c : Listing) → calendar_numbered t.calendars c.number ≡ None → Climbs t → Climbs (with_calendar t c)
 climbs-calendar t c new is = record {
   ahead = λ k d short.
-      let P = λ (pair : ℤ × ℕ). is_awaited t.classes t.sheets pair ≡ true → (get_or t.sheets k d).moment ≤ℤ pair.0 in
+      let P = λ (pair : ℕ × ℕ). is_awaited t.classes t.sheets pair ≡ true → (get_or t.sheets k d).moment ≤ pair.0 in
       subst (All P) (sym (one-more-pairs t.calendars c))
       (All-append P (pricing_pairs t.calendars) (pairs_of c) (is.ahead k d short)
       (All-map P (pricing_pair c.number) c.days (λ i e within now. absurd (none (list_any (is_offered_at c.number (pricing_pair c.number (get_or c.days i e)).0) t.classes) (not (list_any (is_sheet_at c.number (pricing_pair c.number (get_or c.days i e)).0) t.sheets)) now (offered (pricing_pair c.number (get_or c.days i e)).0)))));
@@ -100,7 +98,7 @@ climbs-calendar t c new is = record {
   known = All-weaker (λ (x : Opening). is_some (calendar_numbered t.calendars x.calendar) ≡ true) (λ (x : Opening). is_some (calendar_numbered (t.calendars ++ c ∷ []) x.calendar) ≡ true) (λ x e. still-some x.calendar t.calendars c e) t.classes is.known;
 }
   where
-    offered : (moment : ℤ) → list_any (is_offered_at c.number moment) t.classes ≡ true → ⊥
+    offered : (moment : ℕ) → list_any (is_offered_at c.number moment) t.classes ≡ true → ⊥
     offered moment e =
         let found = found_in (is_offered_at c.number moment) t.classes e in
         let named = eqb-true found.0.calendar c.number (and_parts (found.0.calendar == c.number) _ found.2).0 in
@@ -113,13 +111,13 @@ climbs-calendar t c new is = record {
 
 climbs-closure : (t : Table) (calendar day : ℕ) → Climbs t → Climbs (without_day_of t calendar day)
 climbs-closure t calendar day is = record {
-  ahead = λ k d short. fewer-pairs (λ (pair : ℤ × ℕ). is_awaited t.classes t.sheets pair ≡ true → (get_or t.sheets k d).moment ≤ℤ pair.0) calendar day t.calendars (is.ahead k d short);
+  ahead = λ k d short. fewer-pairs (λ (pair : ℕ × ℕ). is_awaited t.classes t.sheets pair ≡ true → (get_or t.sheets k d).moment ≤ pair.0) calendar day t.calendars (is.ahead k d short);
   climbs = is.climbs;
   known = All-weaker (λ (x : Opening). is_some (calendar_numbered t.calendars x.calendar) ≡ true) (λ (x : Opening). is_some (calendar_numbered (map (closed_in calendar day) t.calendars) x.calendar) ≡ true) (λ x e. numbers-kept calendar day x.calendar t.calendars ∙ e) t.classes is.known;
 }
 
 -- a class awaits moments behind its opening, and no sheet is later than that
-climbs-class : (t : Table) (class calendar now : ℕ) → All (λ (s : Sheet). s.moment ≤ℤ pos now) t.sheets → is_some (calendar_numbered t.calendars calendar) ≡ true → Climbs t → Climbs (with_class t class calendar (pos now))
+climbs-class : (t : Table) (class calendar now : ℕ) → All (λ (s : Sheet). s.moment ≤ now) t.sheets → is_some (calendar_numbered t.calendars calendar) ≡ true → Climbs t → Climbs (with_class t class calendar now)
 climbs-class t class calendar now past there is = record {
   ahead = λ k d short i e within awaited.
       later (get_or t.sheets k d) (get_or (pricing_pairs t.calendars) i e) (past k d short) (is.ahead k d short i e within) awaited;
@@ -128,34 +126,34 @@ climbs-class t class calendar now past there is = record {
 }
   where
     added : Opening
-    added = record { class = class; calendar = calendar; opened = pos now }
+    added = record { class = class; calendar = calendar; opened = now }
 
-    later : (s : Sheet) (pair : ℤ × ℕ) → s.moment ≤ℤ pos now → (is_awaited t.classes t.sheets pair ≡ true → s.moment ≤ℤ pair.0) → is_awaited (t.classes ++ record { class = class; calendar = calendar; opened = pos now } ∷ []) t.sheets pair ≡ true → s.moment ≤ℤ pair.0
+    later : (s : Sheet) (pair : ℕ × ℕ) → s.moment ≤ now → (is_awaited t.classes t.sheets pair ≡ true → s.moment ≤ pair.0) → is_awaited (t.classes ++ record { class = class; calendar = calendar; opened = now } ∷ []) t.sheets pair ≡ true → s.moment ≤ pair.0
     later s pair at_most old now_awaited =
         let parts = and_parts (list_any (is_offered_at pair.1 pair.0) (t.classes ++ added ∷ [])) (not (list_any (is_sheet_at pair.1 pair.0) t.sheets)) now_awaited in
         elim (or_cases (list_any (is_offered_at pair.1 pair.0) t.classes) (is_offered_at pair.1 pair.0 added || false) (sym (list_any-append (is_offered_at pair.1 pair.0) t.classes (added ∷ [])) ∙ parts.0)) [
           | inl before ↦ old (and_from (list_any (is_offered_at pair.1 pair.0) t.classes) (not (list_any (is_sheet_at pair.1 pair.0) t.sheets)) before parts.1)
           | inr new ↦
-              let opened : pos now <ℤ pair.0 = lt_fact (pos now) pair.0 (opened-before new) in
-              omega (arith, ints, opened, at_most)
+              let opened : now < pair.0 = lt_fact now pair.0 (opened-before new) in
+              omega (arith, opened, at_most)
         ]
       where
-        opened-before : (is_offered_at pair.1 pair.0 (record { class = class; calendar = calendar; opened = pos now }) || false) ≡ true → int_lt (pos now) pair.0 ≡ true
-        opened-before e = elim (or_cases (is_offered_at pair.1 pair.0 (record { class = class; calendar = calendar; opened = pos now })) false e) [
-          | inl offered ↦ (and_parts (calendar == pair.1) (int_lt (pos now) pair.0) offered).1
+        opened-before : (is_offered_at pair.1 pair.0 (record { class = class; calendar = calendar; opened = now }) || false) ≡ true → nat_lt now pair.0 ≡ true
+        opened-before e = elim (or_cases (is_offered_at pair.1 pair.0 (record { class = class; calendar = calendar; opened = now })) false e) [
+          | inl offered ↦ (and_parts (calendar == pair.1) (nat_lt now pair.0) offered).1
           | inr no_more ↦ absurd (true≢false (sym no_more))
         ]
 
 -- a sheet has the least moment that is awaited
-climbs-sheet : (t : Table) (calendar : ℕ) (moment : ℤ) (prices : List (ℕ × ℕ)) → expected_of t ≡ Some (moment, calendar) → Climbs t → Climbs (with_published t calendar moment prices)
+climbs-sheet : (t : Table) (calendar : ℕ) (moment : ℕ) (prices : List (ℕ × ℕ)) → expected_of t ≡ Some (moment, calendar) → Climbs t → Climbs (with_published t calendar moment prices)
 climbs-sheet t calendar moment prices expected is = record {
-  ahead = All-push (λ (s : Sheet). All (λ (pair : ℤ × ℕ). is_awaited t.classes (t.sheets ++ p ∷ []) pair ≡ true → s.moment ≤ℤ pair.0) (pricing_pairs t.calendars)) t.sheets p
+  ahead = All-push (λ (s : Sheet). All (λ (pair : ℕ × ℕ). is_awaited t.classes (t.sheets ++ p ∷ []) pair ≡ true → s.moment ≤ pair.0) (pricing_pairs t.calendars)) t.sheets p
       (λ k d short i e within awaited. is.ahead k d short i e within (awaited_before t.classes t.sheets p (get_or (pricing_pairs t.calendars) i e) awaited))
       (λ i e within awaited.
       least (get_or (pricing_pairs t.calendars) i e)
       (told (get_or (pricing_pairs t.calendars) i e) (moment, calendar) false (best.best i e within (awaited_before t.classes t.sheets p (get_or (pricing_pairs t.calendars) i e) awaited))));
-  climbs = all_pairs_push (λ (a b : Sheet). a.moment ≤ℤ b.moment) t.sheets p is.climbs
-      (λ k d short. All-contains (λ (pair : ℤ × ℕ). is_awaited t.classes t.sheets pair ≡ true → (get_or t.sheets k d).moment ≤ℤ pair.0) (pricing_pairs t.calendars) (moment, calendar) (is.ahead k d short) best.among best.here);
+  climbs = all_pairs_push (λ (a b : Sheet). a.moment ≤ b.moment) t.sheets p is.climbs
+      (λ k d short. All-contains (λ (pair : ℕ × ℕ). is_awaited t.classes t.sheets pair ≡ true → (get_or t.sheets k d).moment ≤ pair.0) (pricing_pairs t.calendars) (moment, calendar) (is.ahead k d short) best.among best.here);
   known = is.known;
 }
   where
@@ -165,12 +163,12 @@ climbs-sheet t calendar moment prices expected is = record {
     best : IsBest (is_awaited t.classes t.sheets) is_sooner (pricing_pairs t.calendars) (moment, calendar)
     best = expected_best t (moment, calendar) expected
 
-    least : (pair : ℤ × ℕ) → Tells pair (moment, calendar) false → moment ≤ℤ pair.0
-    least pair (inl later) = omega (arith, ints, later)
-    least pair (inr same) = let at = same.0 in subst (λ m. m ≤ℤ pair.0) at (itself pair.0)
+    least : (pair : ℕ × ℕ) → Tells pair (moment, calendar) false → moment ≤ pair.0
+    least pair (inl later) = omega (arith, later)
+    least pair (inr same) = let at = same.0 in subst (λ m. m ≤ pair.0) at (itself pair.0)
       where
-        itself : (z : ℤ) → z ≤ℤ z
-        itself z = omega (arith, ints)
+        itself : (z : ℕ) → z ≤ z
+        itself z = omega arith
 
 -- the calendar of a class stands
 has-its-calendar : (journal : Journal) (now : ℕ) (caller : Caller) (form : ClassForm) → broken_rule (own_at journal now caller) (Request.Class form) ≡ None → is_some (calendar_numbered (table_of journal).calendars form.calendar) ≡ true
@@ -181,7 +179,7 @@ has-its-calendar journal now caller form clear =
     by true e = refl
     by false e = absurd (some_none e)
 
-climbs-kind : (journal : Journal) (now : ℕ) (caller : Caller) (kind : EventKind) → broken_rule (own_at journal now caller) (request_of kind) ≡ None → All (λ (s : Sheet). s.moment ≤ℤ pos now) (table_of journal).sheets → Climbs (table_of journal) → Climbs (table_by (table_of journal) now kind)
+climbs-kind : (journal : Journal) (now : ℕ) (caller : Caller) (kind : EventKind) → broken_rule (own_at journal now caller) (request_of kind) ≡ None → All (λ (s : Sheet). s.moment ≤ now) (table_of journal).sheets → Climbs (table_of journal) → Climbs (table_by (table_of journal) now kind)
 climbs-kind journal now caller (EventKind.Calendar form) clear past is =
     climbs-calendar (table_of journal) (listing_of form)
     (subst (λ n. calendar_numbered (table_of journal).calendars n ≡ None) (sym (listing-number form)) (calendar-unknown (table_of journal) form.calendar (number_free (own_at journal now caller) (Request.Calendar form) clear))) is
@@ -191,9 +189,9 @@ climbs-kind journal now caller (EventKind.Class form) clear past is =
 climbs-kind journal now caller (EventKind.Sheet form) clear past is =
     let situation = own_at journal now caller in
     let t = table_of journal in
-    let found = without-fault (expected_of (book_behind journal).table) (wrong_class t.classes form.calendar (pos form.moment) form.prices) form.calendar (pos form.moment) (pos now)
+    let found = without-fault (expected_of (book_behind journal).table) (wrong_class t.classes form.calendar form.moment form.prices) form.calendar form.moment now
     (not_broken situation (Request.Sheet form) clear Rule.SheetOutOfTurn) (not_broken situation (Request.Sheet form) clear Rule.SheetIncomplete) (not_broken situation (Request.Sheet form) clear Rule.TooSoon) in
-    climbs-sheet t form.calendar (pos form.moment) form.prices (sym (expected-corrected journal t) ∙ found.0) is
+    climbs-sheet t form.calendar form.moment form.prices (sym (expected-corrected journal t) ∙ found.0) is
 climbs-kind journal now caller kind clear past is = is
 
 climbs-more : (journal : Journal) (event : Event) → IsLawful journal → IsBrought journal event → Climbs (table_of journal) → Climbs (table_of (with_event journal event))
@@ -201,13 +199,13 @@ climbs-more journal event lawful brought is =
     subst Climbs (sym (table-one journal event))
     (climbs-kind journal event.moment brought.caller event.kind brought.clear (still (table_of journal).sheets (kept journal lawful).past) is)
   where
-    still : (sheets : List Sheet) → All (λ (s : Sheet). s.moment ≤ℤ pos (last_moment journal)) sheets → All (λ (s : Sheet). s.moment ≤ℤ pos event.moment) sheets
-    still sheets past k d short = let here = past k d short in let le = brought.not_before in omega (arith, ints, here, le)
+    still : (sheets : List Sheet) → All (λ (s : Sheet). s.moment ≤ last_moment journal) sheets → All (λ (s : Sheet). s.moment ≤ event.moment) sheets
+    still sheets past k d short = let here = past k d short in let le = brought.not_before in omega (arith, here, le)
 
 climbs-first : Climbs (table_of [])
 unfolding table_behind
 climbs-first = record {
-  ahead = All-nil (λ (s : Sheet). All (λ (pair : ℤ × ℕ). is_awaited [] [] pair ≡ true → s.moment ≤ℤ pair.0) []);
+  ahead = All-nil (λ (s : Sheet). All (λ (pair : ℕ × ℕ). is_awaited [] [] pair ≡ true → s.moment ≤ pair.0) []);
   climbs = λ i j d lt within. absurd (omega (arith, within));
   known = All-nil (λ (x : Opening). is_some (calendar_numbered [] x.calendar) ≡ true);
 }
@@ -217,44 +215,35 @@ sheets-climb = lawful-keeps (λ journal. Climbs (table_of journal)) climbs-more 
 
 -- ---- by the numbers of the sheets
 
-corrected-climb : (fixes : List FixPriceForm) (sheets : List Sheet) → AllPairs (λ (a b : Sheet). a.moment ≤ℤ b.moment) sheets → AllPairs (λ (a b : Sheet). a.moment ≤ℤ b.moment) (map (sheet_as_corrected fixes) sheets)
+corrected-climb : (fixes : List FixPriceForm) (sheets : List Sheet) → AllPairs (λ (a b : Sheet). a.moment ≤ b.moment) sheets → AllPairs (λ (a b : Sheet). a.moment ≤ b.moment) (map (sheet_as_corrected fixes) sheets)
 corrected-climb fixes sheets climb i j d lt within =
     let long : j < length sheets = subst (λ n. j < n) (length-map sheets (sheet_as_corrected fixes)) within in
     let first = get_or-map (sheet_as_corrected fixes) sheets i d d (omega (arith, lt, long)) in
     let second = get_or-map (sheet_as_corrected fixes) sheets j d d long in
-    subst (λ (s : Sheet). s.moment ≤ℤ (get_or (map (sheet_as_corrected fixes) sheets) j d).moment) (sym first)
-    (subst (λ (s : Sheet). (get_or sheets i d).moment ≤ℤ s.moment) (sym second) (climb i j d lt long))
+    subst (λ (s : Sheet). s.moment ≤ (get_or (map (sheet_as_corrected fixes) sheets) j d).moment) (sym first)
+    (subst (λ (s : Sheet). (get_or sheets i d).moment ≤ s.moment) (sym second) (climb i j d lt long))
 
--- and so by their moments from 1970 on
-pub moments-climb : (journal : Journal) → AllPairs (λ (a b : Sheet). a.moment ≤ℤ b.moment) (table_of journal).sheets → AllPairs (λ (a b : Sheet). moment_of a ≤ moment_of b) (book_behind journal).table.sheets
-moments-climb journal climb i j d lt within =
-    let sheets = (book_behind journal).table.sheets in
-    let le = corrected-climb (each_in price_fix_in journal) (table_of journal).sheets climb i j d lt within in
-    nats (moment_of (get_or sheets i d)) (moment_of (get_or sheets j d))
-    (subst (λ (m : ℤ). m ≤ℤ pos (moment_of (get_or sheets j d))) (dated journal i d (omega (arith, lt, within)))
-    (subst (λ (m : ℤ). (get_or sheets i d).moment ≤ℤ m) (dated journal j d within) le))
-  where
-    nats : (a b : ℕ) → pos a ≤ℤ pos b → a ≤ b
-    nats a b le = omega (arith, ints, le)
+pub moments-climb : (journal : Journal) → AllPairs (λ (a b : Sheet). a.moment ≤ b.moment) (table_of journal).sheets → AllPairs (λ (a b : Sheet). a.moment ≤ b.moment) (book_behind journal).table.sheets
+moments-climb journal = corrected-climb (each_in price_fix_in journal) (table_of journal).sheets
 
 pub sheets_never_fall : (journal : Journal) → LawfulSheetsNeverFall journal
 sheets_never_fall journal lawful = moments-climb journal (sheets-climb journal lawful).climbs
 
 -- a sheet numbered before that of a class at a moment isn't later, and doesn't list the class then
-pub sheets-before : (journal : Journal) → IsLawful journal → (class moment fixed number : ℕ) → list_any (λ sheet. sheet.number == fixed && lists_at class moment sheet) (book_behind journal).table.sheets ≡ true → number < fixed → All (λ (sheet : Sheet). (lists_at class moment sheet ≡ false) × (moment_of sheet ≤ moment)) (take number (book_behind journal).table.sheets)
+pub sheets-before : (journal : Journal) → IsLawful journal → (class moment fixed number : ℕ) → list_any (λ sheet. sheet.number == fixed && lists_at class moment sheet) (book_behind journal).table.sheets ≡ true → number < fixed → All (λ (sheet : Sheet). (lists_at class moment sheet ≡ false) × (sheet.moment ≤ moment)) (take number (book_behind journal).table.sheets)
 sheets-before journal lawful class moment fixed number listed early k d short =
     let sheets = (book_behind journal).table.sheets in
     let place = any-place (λ sheet. sheet.number == fixed && lists_at class moment sheet) sheets listed in
     let j = place.0 in
     let there = get_or sheets j d in
     let parts = and_parts (there.number == fixed) (lists_at class moment there) (place.2 d) in
-    let at = and_parts (moment_of there == moment) (lists_class there.prices class) parts.1 in
+    let at = and_parts (there.moment == moment) (lists_class there.prices class) parts.1 in
     let numbered = (numbered journal lawful).corrected.each j d place.1 in
     let few : k < number = omega (arith, short, length-take number sheets) in
     let before : k < j = omega (arith, few, early, numbered, eqb-true there.number fixed parts.0) in
-    subst (λ (sheet : Sheet). (lists_at class moment sheet ≡ false) × (moment_of sheet ≤ moment)) (sym (get_or-take number sheets k d few)) (
+    subst (λ (sheet : Sheet). (lists_at class moment sheet ≡ false) × (sheet.moment ≤ moment)) (sym (get_or-take number sheets k d few)) (
       never (lists_at class moment (get_or sheets k d)) (λ here.
-          let both = and_parts (moment_of (get_or sheets k d) == moment) (lists_class (get_or sheets k d).prices class) here in
-          one-sheet (book_behind journal).table class k j d (orderly_tables journal lawful).corrected before place.1 both.1 at.1 (eqb-true (moment_of (get_or sheets k d)) moment both.0 ∙ sym (eqb-true (moment_of there) moment at.0))),
-      omega (arith, sheets_never_fall journal lawful k j d before place.1, eqb-true (moment_of there) moment at.0),
+          let both = and_parts ((get_or sheets k d).moment == moment) (lists_class (get_or sheets k d).prices class) here in
+          one-sheet (book_behind journal).table class k j d (orderly_tables journal lawful).corrected before place.1 both.1 at.1 (eqb-true (get_or sheets k d).moment moment both.0 ∙ sym (eqb-true there.moment moment at.0))),
+      omega (arith, sheets_never_fall journal lawful k j d before place.1, eqb-true there.moment moment at.0),
     )

@@ -18,7 +18,6 @@ use Rattle.register_laws.specs.AlikeBooks.{AlikeBooksStepAlike, BooksAlike}
 use Rattle.register_machine.specs.journal.Kinds.{household_of}
 use Rattle.register_machine.specs.pricing.CorrectedBook.{Book, counts}
 use Rattle.register_machine.specs.pricing.DividendRates.{rate_at}
-use Rattle.register_machine.specs.pricing.PublishedTable.{moment_of}
 use Rattle.register_machine.specs.replay.DayStep.{day_after_order, day_step}
 use Rattle.register_machine.specs.replay.Dividend.{day_after_class, day_after_dividend, day_after_dividends, day_after_rate, is_of_class, keys_of_class}
 use Rattle.register_machine.specs.replay.Letter.{day_after_letter_end, day_after_letter_ends, has_letter_over, keys_of_letters_over, letter_is_over}
@@ -46,7 +45,7 @@ pub record RowCounts (known named : ℕ → Bool) (row : OrderRow) : Type 0 wher
 -- a price of a class that counts is the same in both, and so is its rate
 pub record PriceAlike (book other : Book) (sheet : Sheet) (named : ℕ → Bool) (fix : ℕ × ℕ → ℕ × ℕ) (price : ℕ × ℕ) : Type 0 where
   pub same : named price.0 ≡ true → fix price ≡ price
-  pub rate : named price.0 ≡ true → rate_at book.rates price.0 (moment_of sheet) ≡ rate_at other.rates price.0 (moment_of sheet)
+  pub rate : named price.0 ≡ true → rate_at book.rates price.0 sheet.moment ≡ rate_at other.rates price.0 sheet.moment
 
 pub record SheetAlike (book other : Book) (sheet : Sheet) (known named : ℕ → Bool) (fix : ℕ × ℕ → ℕ × ℕ) (R : Day → Day → Type 0) : Type 0 where
   pub same : (d e : Day) → R d e → d ≡ e
@@ -91,14 +90,14 @@ module _ (book other : Book) (sheet : Sheet) (known named : ℕ → Bool) (fix :
   class-after d e price here is =
       elim (named price.0) as (λ b. named price.0 ≡ b → R (day_after_class book.rates sheet d price) (day_after_class other.rates (with_prices sheet (map fix sheet.prices)) e (fix price))) [
         | true ↦ λ on.
-            let base = by_rate (rate_at book.rates price.0 (moment_of sheet)) in
+            let base = by_rate (rate_at book.rates price.0 sheet.moment) in
             let at_rate = subst (λ rate. R (day_after_class book.rates sheet d price) (cond (rate == 0) e (day_after_rate (with_prices sheet (map fix sheet.prices)) rate price e))) (here.rate on) base in
             subst (λ other_price. R (day_after_class book.rates sheet d price) (day_after_class other.rates (with_prices sheet (map fix sheet.prices)) e other_price)) (sym (here.same on)) at_rate
         | false ↦ λ off.
             let none = none-of price.0 d.register off (alike.counts d e is) in
-            let left = idle-class d sheet (rate_at book.rates price.0 (moment_of sheet)) price none in
+            let left = idle-class d sheet (rate_at book.rates price.0 sheet.moment) price none in
             let none_too = ap (λ class. keys_of_class class e.register) (alike.class price) ∙ (ap (λ (x : Day). keys_of_class price.0 x.register) (sym (alike.same d e is)) ∙ none) in
-            let right = idle-class e (with_prices sheet (map fix sheet.prices)) (rate_at other.rates (fix price).0 (moment_of sheet)) (fix price) none_too in
+            let right = idle-class e (with_prices sheet (map fix sheet.prices)) (rate_at other.rates (fix price).0 sheet.moment) (fix price) none_too in
             subst (λ x. R x (day_after_class other.rates (with_prices sheet (map fix sheet.prices)) e (fix price))) (sym left) (subst (R d) (sym right) is)
       ] refl
     where
@@ -169,7 +168,7 @@ module _ (book other : Book) (alike : BooksAlike book other) (sheet : Sheet) whe
       placed = λ d e p _ _ is. ap (λ x. with_position x p) is;
     };
     class = λ price. refl;
-    prices = λ k d short. record { same = λ _. refl; rate = λ _. alike.rate (get_or sheet.prices k d).0 (moment_of sheet) };
+    prices = λ k d short. record { same = λ _. refl; rate = λ _. alike.rate (get_or sheet.prices k d).0 sheet.moment };
   }
 
 pub books_step_alike : (book other : Book) (sheet : Sheet) (rows : List OrderRow) (day : Day) → AlikeBooksStepAlike book other sheet rows day

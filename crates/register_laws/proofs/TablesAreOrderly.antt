@@ -1,16 +1,14 @@
 -- The price table of a lawful journal is orderly, its sheets are numbered in turn, and they are few.
-use Rattle.std.proofs.Common.{All, Bool, Contains, Err, List, None, Ok, Option, Result, Some, [], ap, arith, cond, count_by, false, filter, find, fold, get_or, inl, inr, int_lt, is_some, length, length-append, map, nat_le, nat_lt, not, option_and_then, option_map, pos, refl, subst, suc, sym, true, zero, ℕ, ℤ, ◌&&◌, ◌*◌, ◌+◌, ◌-◌, ◌<ℤ◌, ◌<◌, ◌==◌, ◌||◌, ◌∙◌, ◌∷◌, ◌≡◌, ◌≢◌, ◌≤ℤ◌, ◌≤◌}
+use Rattle.std.proofs.Common.{All, Bool, Contains, Err, List, None, Ok, Option, Result, Some, [], ap, arith, cond, count_by, false, filter, find, fold, get_or, inl, inr, nat_lt, is_some, length, length-append, map, nat_le, not, option_and_then, option_map, pos, refl, subst, suc, sym, true, zero, ℕ, ◌&&◌, ◌*◌, ◌+◌, ◌-◌, ◌<◌, ◌==◌, ◌||◌, ◌∙◌, ◌∷◌, ◌≡◌, ◌≢◌, ◌≤◌}
 use Rattle.std.proofs.Math.Bool.{or-false}
 use Rattle.std.proofs.lemmas.Bool.{and_from, and_parts, eqb-true, false_from_ne_true, ltb-false, or_parts, true≢false}
-use Rattle.std.proofs.lemmas.Bool.Decides.{Decides-eqb, Decides-int_eq, leb_tells}
-use Rattle.std.proofs.lemmas.Int.{ints}
+use Rattle.std.proofs.lemmas.Bool.Decides.{Decides-eqb, leb_tells}
 use Rattle.std.proofs.lemmas.List.{get_or-map, length-map}
 use Rattle.std.proofs.lemmas.List.Elements.{All-contains, All-filter, All-map, All-nil, All-push, Contains-get_or, filter_passes}
 use Rattle.std.proofs.lemmas.List.Kept.{AllPairs-filter}
 use Rattle.std.proofs.lemmas.List.Sums.{count_by-le-length, length-filter, sum_by-cons}
 use Rattle.std.specs.List.{list_any}
 use Rattle.std.specs.Option.{option_map_or}
-use Rattle.std.specs.Ordering.{int_eq}
 use Rattle.std.specs.Prelude.{AllPairs, nat_abs}
 use Rattle.agent_events.specs.declared.event.EventKind.{EventKind}
 use Rattle.agent_events.specs.Events.{Event, request_of}
@@ -27,7 +25,7 @@ use Rattle.forward_price.specs.Choices.{best_so_far, found_or_better}
 use Rattle.forward_price.specs.Orderly.{AreOnPricingDays, IsOrderly}
 use Rattle.forward_price.specs.PriceTables.{Table, calendar_numbered, class_opened, closed_in, is_sheet_at, number_at, sheet_published, without_day_of}
 use Rattle.forward_price.specs.Sheets.{lists_class}
-use Rattle.forward_price.specs.Turns.{expected_of, fault_of, is_awaited, is_offered_at, is_pair, is_sooner, list_fault, moment_at, moments_of, must_list, pairs_of, pricing_pair, pricing_pairs, wrong_class}
+use Rattle.forward_price.specs.Turns.{expected_of, fault_of, is_awaited, is_offered_at, is_pair, is_sooner, list_fault, moments_of, must_list, pairs_of, pricing_pair, pricing_pairs, wrong_class}
 use Rattle.forward_price.specs.declared.price_sheet.Opening.{Opening}
 use Rattle.forward_price.specs.declared.price_sheet.Sheet.{Sheet}
 use Rattle.fund_calendar.proofs.LookUpLemmas.{IsListing-without, list_any-find}
@@ -53,7 +51,7 @@ use Rattle.register_machine.specs.journal.Kinds.{class_in, class_numbered, class
 use Rattle.register_machine.specs.journal.Lawful.{IsLawful}
 use Rattle.register_machine.specs.pricing.CorrectedPrices.{price_as_corrected, sheet_as_corrected, table_as_corrected}
 use Rattle.register_machine.specs.pricing.OrderClasses.{classes_in}
-use Rattle.register_machine.specs.pricing.PublishedTable.{calendar_terms, empty_table, listing_by, listing_of, moment_of, table_behind, table_by, table_of}
+use Rattle.register_machine.specs.pricing.PublishedTable.{calendar_terms, empty_table, listing_by, listing_of, table_behind, table_by, table_of}
 use Rattle.agent_events.specs.declared.verdict.Caller.{Caller}
 use Rattle.register_machine.specs.rules.InOrder.{Rule, broken_rule}
 use Rattle.register_machine.specs.rules.Sheets.{incomplete, out_of_turn, too_soon}
@@ -74,7 +72,7 @@ pub lists-corrected : (fixes : List FixPriceForm) (moment : ℕ) (class : ℕ) (
 lists-corrected fixes moment class [] = refl
 lists-corrected fixes moment class (price ∷ prices) = ap (λ b. price.0 == class || b) (lists-corrected fixes moment class prices)
 
-awaited-corrected : (fixes : List FixPriceForm) (classes : List Opening) (sheets : List Sheet) (pair : ℤ × ℕ) → is_awaited classes (map (sheet_as_corrected fixes) sheets) pair ≡ is_awaited classes sheets pair
+awaited-corrected : (fixes : List FixPriceForm) (classes : List Opening) (sheets : List Sheet) (pair : ℕ × ℕ) → is_awaited classes (map (sheet_as_corrected fixes) sheets) pair ≡ is_awaited classes sheets pair
 awaited-corrected fixes classes sheets pair =
     ap (λ b. list_any (is_offered_at pair.1 pair.0) classes && not b) (corrected-sheets fixes pair.1 pair.0 sheets)
 
@@ -84,15 +82,15 @@ orderly-corrected journal t o = record {
   classes_differ = o.classes_differ;
   on_pricing_days = All-map (λ (s : Sheet). Contains (pricing_pairs t.calendars) (s.moment, s.calendar)) f t.sheets o.on_pricing_days;
   complete = All-map (λ (s : Sheet). (n : ℕ) → lists_class s.prices n ≡ must_list t.classes s.calendar s.moment n) f t.sheets
-      (λ k d l n. lists-corrected (each_in price_fix_in journal) (moment_of (get_or t.sheets k d)) n (get_or t.sheets k d).prices ∙ o.complete k d l n);
-  none_passed = All-map (λ (s : Sheet). All (λ (pair : ℤ × ℕ). pair.1 ≡ s.calendar → pair.0 ≤ℤ s.moment → is_awaited t.classes (map f t.sheets) pair ≡ false) (pricing_pairs t.calendars)) f t.sheets
+      (λ k d l n. lists-corrected (each_in price_fix_in journal) (get_or t.sheets k d).moment n (get_or t.sheets k d).prices ∙ o.complete k d l n);
+  none_passed = All-map (λ (s : Sheet). All (λ (pair : ℕ × ℕ). pair.1 ≡ s.calendar → pair.0 ≤ s.moment → is_awaited t.classes (map f t.sheets) pair ≡ false) (pricing_pairs t.calendars)) f t.sheets
       (λ k d l i e m of upto. awaited-corrected (each_in price_fix_in journal) t.classes t.sheets (get_or (pricing_pairs t.calendars) i e) ∙ o.none_passed k d l i e m of upto);
   rises = λ i j d lt l same.
       let long : j < length t.sheets = subst (λ n. j < n) (length-map t.sheets f) l in
       let first = get_or-map f t.sheets i d d (omega (arith, lt, long)) in
       let second = get_or-map f t.sheets j d d long in
-      subst (λ (s : Sheet). s.moment <ℤ (get_or (map f t.sheets) j d).moment) (sym first)
-      (subst (λ (s : Sheet). (get_or t.sheets i d).moment <ℤ s.moment) (sym second)
+      subst (λ (s : Sheet). s.moment < (get_or (map f t.sheets) j d).moment) (sym first)
+      (subst (λ (s : Sheet). (get_or t.sheets i d).moment < s.moment) (sym second)
       (o.rises i j d lt long (ap (λ (s : Sheet). s.calendar) (sym first) ∙ (same ∙ ap (λ (s : Sheet). s.calendar) second))));
 }
   where
@@ -100,7 +98,7 @@ orderly-corrected journal t o = record {
     f = sheet_as_corrected (each_in price_fix_in journal)
 
 -- the sheet that is expected is the same, whether prices were corrected or not
-considered-same : (p q : ℤ × ℕ → Bool) → ((pair : ℤ × ℕ) → p pair ≡ q pair) → (pairs : List (ℤ × ℕ)) (found : Option (ℤ × ℕ)) → fold (best_so_far p is_sooner) found pairs ≡ fold (best_so_far q is_sooner) found pairs
+considered-same : (p q : ℕ × ℕ → Bool) → ((pair : ℕ × ℕ) → p pair ≡ q pair) → (pairs : List (ℕ × ℕ)) (found : Option (ℕ × ℕ)) → fold (best_so_far p is_sooner) found pairs ≡ fold (best_so_far q is_sooner) found pairs
 considered-same p q same [] found = refl
 considered-same p q same (pair ∷ pairs) found =
     ap (λ b. fold (best_so_far p is_sooner) (cond b (found_or_better is_sooner found pair) found) pairs) (same pair)
@@ -122,7 +120,6 @@ no-days : IsListing []
 no-days = record {
   days_rise = λ i j d lt l. absurd (omega (arith, l));
   moments_rise = λ i j d lt l. absurd (omega (arith, l));
-  within = λ k d l. absurd (omega (arith, l));
 }
 
 length-days_on : (f : ℕ → Option ℕ) (dates : List ℕ) (days : List PricingDay) → Ok days ≡ days_on f dates → length days ≤ length dates
@@ -177,7 +174,7 @@ sees_class number table = list_any (λ (class : Opening). class.class == number)
 
 class-step : (number : ℕ) (table : Table) (moment : ℕ) (kind : EventKind) → sees_class number (table_by table moment kind) ≡ (sees_class number table || option_map_or (is_class number) (class_in kind) false)
 class-step number table moment (EventKind.Class form) =
-    any-more (λ (class : Opening). class.class == number) table.classes (record { class = form.class; calendar = form.calendar; opened = pos moment })
+    any-more (λ (class : Opening). class.class == number) table.classes (record { class = form.class; calendar = form.calendar; opened = moment })
 class-step number table moment _ = sym (or-false (sees_class number table))
 
 pub classes-seen : (number : ℕ) (journal : Journal) → sees_class number (table_of journal) ≡ list_any (is_class number) (classes_of journal)
@@ -214,14 +211,14 @@ moment-of-day (x ∷ days) e rise (suc k, l, is) =
     (moment-of-day days e (λ i j d lt short. rise (suc i) (suc j) d (omega (arith, lt)) (omega (arith, short))) (k, omega arith, is))
 
 -- what a closure leaves of the moments
-kept-moment : (days : List PricingDay) (day : ℕ) (m : ℤ) → Contains (map moment_at days) m → ((e : PricingDay) → Contains days e → moment_at e ≡ m → (e.day == day) ≡ false) → Contains (map moment_at (filter (λ e. not (e.day == day)) days)) m
+kept-moment : (days : List PricingDay) (day : ℕ) (m : ℕ) → Contains (map (λ (e : PricingDay). e.moment) days) m → ((e : PricingDay) → Contains days e → e.moment ≡ m → (e.day == day) ≡ false) → Contains (map (λ (e : PricingDay). e.moment) (filter (λ e. not (e.day == day)) days)) m
 kept-moment [] day m (k, l, is) apart = absurd (omega arith)
 kept-moment (x ∷ days) day m (zero, l, is) apart = rw (apart x (0, omega arith, refl) is) (0, omega arith, is)
 kept-moment (x ∷ days) day m (suc k, l, is) apart =
     by_first (x.day == day)
     (kept-moment days day m (k, omega arith, is) (λ e there same. apart e (suc there.0, omega (arith, there.1), there.2) same))
   where
-    by_first : (b : Bool) → Contains (map moment_at (filter (λ e. not (e.day == day)) days)) m → Contains (map moment_at (cond (not b) (x ∷ filter (λ e. not (e.day == day)) days) (filter (λ e. not (e.day == day)) days))) m
+    by_first : (b : Bool) → Contains (map (λ (e : PricingDay). e.moment) (filter (λ e. not (e.day == day)) days)) m → Contains (map (λ (e : PricingDay). e.moment) (cond (not b) (x ∷ filter (λ e. not (e.day == day)) days) (filter (λ e. not (e.day == day)) days))) m
     by_first true rest = rest
     by_first false rest = (suc rest.0, omega (arith, rest.1), rest.2)
 
@@ -236,23 +233,23 @@ numbered-closed calendar day number (c ∷ calendars) =
     by_first false rest = rest
 
 -- the day to close has no sheet
-no-sheet-on : (sheets : List Sheet) (calendar : ℕ) (moment : ℤ) (s : Sheet) → is_some (number_at sheets calendar moment) ≡ false → Contains sheets s → is_sheet_at calendar moment s ≡ true → ⊥
+no-sheet-on : (sheets : List Sheet) (calendar : ℕ) (moment : ℕ) (s : Sheet) → is_some (number_at sheets calendar moment) ≡ false → Contains sheets s → is_sheet_at calendar moment s ≡ true → ⊥
 no-sheet-on sheets calendar moment s none there at = by_found (find (is_sheet_at calendar moment) sheets) refl none
   where
     by_found : (found : Option Sheet) → find (is_sheet_at calendar moment) sheets ≡ found → is_some (option_map (λ (sheet : Sheet). sheet.number) found) ≡ false → ⊥
     by_found None is e = true≢false (sym (any_from (is_sheet_at calendar moment) sheets s there at) ∙ (list_any-find (is_sheet_at calendar moment) sheets ∙ ap is_some is))
     by_found (Some sheet) is e = true≢false e
 
-unused-day : (journal : Journal) (now : ℕ) (caller : Caller) (form : CloseForm) (c : Listing) (moment : ℤ) → day_used (own_at journal now caller) (Request.Close form) ≡ None → calendar_numbered (table_of journal).calendars form.calendar ≡ Some c → moment_on c form.day ≡ Some moment → is_some (number_at (book_behind journal).table.sheets form.calendar moment) ≡ false
+unused-day : (journal : Journal) (now : ℕ) (caller : Caller) (form : CloseForm) (c : Listing) (moment : ℕ) → day_used (own_at journal now caller) (Request.Close form) ≡ None → calendar_numbered (table_of journal).calendars form.calendar ≡ Some c → moment_on c form.day ≡ Some moment → is_some (number_at (book_behind journal).table.sheets form.calendar moment) ≡ false
 unused-day journal now caller form c moment free numbered_so on =
-    (or_parts (is_some (number_at (book_behind journal).table.sheets form.calendar moment)) (list_any (is_declared_in (book_behind journal) form.calendar (nat_abs moment)) (book_behind journal).rates.declared)
+    (or_parts (is_some (number_at (book_behind journal).table.sheets form.calendar moment)) (list_any (is_declared_in (book_behind journal) form.calendar moment) (book_behind journal).rates.declared)
     (not_when (is_used_moment (book_behind journal) form.calendar moment) form.calendar
-    (sym (ap (λ found. option_and_then (λ (m : ℤ). when (is_used_moment (book_behind journal) form.calendar m) form.calendar) (option_and_then (λ listing. moment_on listing form.day) found)) numbered_so
-    ∙ ap (option_and_then (λ (m : ℤ). when (is_used_moment (book_behind journal) form.calendar m) form.calendar)) on)
+    (sym (ap (λ found. option_and_then (λ (m : ℕ). when (is_used_moment (book_behind journal) form.calendar m) form.calendar) (option_and_then (λ listing. moment_on listing form.day) found)) numbered_so
+    ∙ ap (option_and_then (λ (m : ℕ). when (is_used_moment (book_behind journal) form.calendar m) form.calendar)) on)
     ∙ free))).0
 
 -- a correction of prices keeps the numbers of sheets
-number_kept : (journal : Journal) (calendar : ℕ) (moment : ℤ) → is_some (number_at (book_behind journal).table.sheets calendar moment) ≡ is_some (number_at (table_of journal).sheets calendar moment)
+number_kept : (journal : Journal) (calendar : ℕ) (moment : ℕ) → is_some (number_at (book_behind journal).table.sheets calendar moment) ≡ is_some (number_at (table_of journal).sheets calendar moment)
 number_kept journal calendar moment = go (table_of journal).sheets
   where
     go : (sheets : List Sheet) → is_some (number_at (map (sheet_as_corrected (each_in price_fix_in journal)) sheets) calendar moment) ≡ is_some (number_at sheets calendar moment)
@@ -283,16 +280,16 @@ closed-keeps journal now caller form free o are k d short = here (get_or t.sheet
             numbered-closed form.calendar form.day s.calendar (table_of journal).calendars
             ∙ ap (option_map (closed_in form.calendar form.day)) known.1
 
-        is_used : (known.0.number == form.calendar) ≡ true → (e : PricingDay) → Contains known.0.days e → moment_at e ≡ s.moment → e.day ≡ form.day → ⊥
+        is_used : (known.0.number == form.calendar) ≡ true → (e : PricingDay) → Contains known.0.days e → e.moment ≡ s.moment → e.day ≡ form.day → ⊥
         is_used same e listed at day =
             let number : known.0.number ≡ form.calendar = eqb-true known.0.number form.calendar same in
             let own : calendar_numbered (table_of journal).calendars form.calendar ≡ Some known.0 = subst (λ n. calendar_numbered (table_of journal).calendars n ≡ Some known.0) (sym known.4 ∙ number) known.1 in
             let is = All-contains IsCalendar (table_of journal).calendars known.0 are known.2 in
-            let on_day : moment_on known.0 form.day ≡ Some (pos e.moment) = subst (λ day. moment_on known.0 day ≡ Some (pos e.moment)) day (ap (option_map moment_at) (moment-of-day known.0.days e is.listing.days_rise listed)) in
-            let none = unused-day journal now caller form known.0 (pos e.moment) free own on_day in
-            let place = number_kept journal form.calendar (pos e.moment) in
-            no-sheet-on (table_of journal).sheets form.calendar (pos e.moment) s (sym place ∙ none) there
-            (and_from (s.calendar == form.calendar) (int_eq s.moment (pos e.moment)) ((Decides-eqb s.calendar form.calendar).1 (sym known.4 ∙ number)) ((Decides-int_eq s.moment (pos e.moment)).1 (sym at)))
+            let on_day : moment_on known.0 form.day ≡ Some e.moment = subst (λ day. moment_on known.0 day ≡ Some e.moment) day (ap (option_map (λ (e : PricingDay). e.moment)) (moment-of-day known.0.days e is.listing.days_rise listed)) in
+            let none = unused-day journal now caller form known.0 e.moment free own on_day in
+            let place = number_kept journal form.calendar e.moment in
+            no-sheet-on (table_of journal).sheets form.calendar e.moment s (sym place ∙ none) there
+            (and_from (s.calendar == form.calendar) (s.moment == e.moment) ((Decides-eqb s.calendar form.calendar).1 (sym known.4 ∙ number)) ((Decides-eqb s.moment e.moment).1 (sym at)))
 
         by_calendar : (same : Bool) → (known.0.number == form.calendar) ≡ same → Contains (pricing_pairs (map (closed_in form.calendar form.day) (table_of journal).calendars)) (s.moment, s.calendar)
         by_calendar true same =
@@ -308,10 +305,10 @@ closed-keeps journal now caller form free o are k d short = here (get_or t.sheet
 -- ---- a sheet in its turn
 
 -- without a fault it is the expected one, its list is complete, and its moment has come
-pub without-fault : (expected : Option (ℤ × ℕ)) (wrong : Option ℕ) (calendar : ℕ) (moment now : ℤ) → out_of_turn (fault_of expected wrong calendar moment now) ≡ None → incomplete (fault_of expected wrong calendar moment now) ≡ None → too_soon (fault_of expected wrong calendar moment now) ≡ None → (expected ≡ Some (moment, calendar)) × (wrong ≡ None) × (int_lt now moment ≡ false)
+pub without-fault : (expected : Option (ℕ × ℕ)) (wrong : Option ℕ) (calendar : ℕ) (moment now : ℕ) → out_of_turn (fault_of expected wrong calendar moment now) ≡ None → incomplete (fault_of expected wrong calendar moment now) ≡ None → too_soon (fault_of expected wrong calendar moment now) ≡ None → (expected ≡ Some (moment, calendar)) × (wrong ≡ None) × (nat_lt now moment ≡ false)
 without-fault None wrong calendar moment now turn complete soon = absurd (none turn)
   where
-    none : out_of_turn (Some (publish_fault.SheetOutOfTurn (pos 0) 0)) ≡ None → ⊥
+    none : out_of_turn (Some (publish_fault.SheetOutOfTurn 0 0)) ≡ None → ⊥
     none h = cc
 without-fault (Some pair) wrong calendar moment now turn complete soon = by_pair (is_pair calendar moment pair) refl turn complete soon
   where
@@ -328,15 +325,15 @@ without-fault (Some pair) wrong calendar moment now turn complete soon = by_pair
     by_moment true h = absurd (some_soon h)
     by_moment false h = refl
 
-    by_list : (list : Option ℕ) → incomplete (list_fault list moment now) ≡ None → too_soon (list_fault list moment now) ≡ None → (list ≡ None) × (int_lt now moment ≡ false)
-    by_list None c s = (refl, by_moment (int_lt now moment) s)
+    by_list : (list : Option ℕ) → incomplete (list_fault list moment now) ≡ None → too_soon (list_fault list moment now) ≡ None → (list ≡ None) × (nat_lt now moment ≡ false)
+    by_list None c s = (refl, by_moment (nat_lt now moment) s)
     by_list (Some class) c s = absurd (some_class class c)
 
-    by_pair : (is : Bool) → is_pair calendar moment pair ≡ is → out_of_turn (cond is (list_fault wrong moment now) (Some (publish_fault.SheetOutOfTurn pair.0 pair.1))) ≡ None → incomplete (cond is (list_fault wrong moment now) (Some (publish_fault.SheetOutOfTurn pair.0 pair.1))) ≡ None → too_soon (cond is (list_fault wrong moment now) (Some (publish_fault.SheetOutOfTurn pair.0 pair.1))) ≡ None → (Some pair ≡ Some (moment, calendar)) × (wrong ≡ None) × (int_lt now moment ≡ false)
+    by_pair : (is : Bool) → is_pair calendar moment pair ≡ is → out_of_turn (cond is (list_fault wrong moment now) (Some (publish_fault.SheetOutOfTurn pair.0 pair.1))) ≡ None → incomplete (cond is (list_fault wrong moment now) (Some (publish_fault.SheetOutOfTurn pair.0 pair.1))) ≡ None → too_soon (cond is (list_fault wrong moment now) (Some (publish_fault.SheetOutOfTurn pair.0 pair.1))) ≡ None → (Some pair ≡ Some (moment, calendar)) × (wrong ≡ None) × (nat_lt now moment ≡ false)
     by_pair true is t c s =
-        let parts = and_parts (int_eq pair.0 moment) (pair.1 == calendar) is in
+        let parts = and_parts (pair.0 == moment) (pair.1 == calendar) is in
         let rest = by_list wrong c s in
-        (ap (λ (m : ℤ). Some (m, pair.1)) ((Decides-int_eq pair.0 moment).0 parts.0) ∙ ap (λ (n : ℕ). Some (moment, n)) (eqb-true pair.1 calendar parts.1), rest.0, rest.1)
+        (ap (λ (m : ℕ). Some (m, pair.1)) ((Decides-eqb pair.0 moment).0 parts.0) ∙ ap (λ (n : ℕ). Some (moment, n)) (eqb-true pair.1 calendar parts.1), rest.0, rest.1)
     by_pair false is t c s = absurd (some_turn t)
 
 -- ---- one event more
@@ -345,11 +342,11 @@ pub record IsKeptAt (t : Table) (now : ℕ) : Type 0 where
   pub orderly : IsOrderly t
   pub calendars : All IsCalendar t.calendars
   pub few : length t.calendars ≤ most_calendars
-  pub past : All (λ (s : Sheet). s.moment ≤ℤ pos now) t.sheets
+  pub past : All (λ (s : Sheet). s.moment ≤ now) t.sheets
 
-still-past : (sheets : List Sheet) (before now : ℕ) → before ≤ now → All (λ (s : Sheet). s.moment ≤ℤ pos before) sheets → All (λ (s : Sheet). s.moment ≤ℤ pos now) sheets
+still-past : (sheets : List Sheet) (before now : ℕ) → before ≤ now → All (λ (s : Sheet). s.moment ≤ before) sheets → All (λ (s : Sheet). s.moment ≤ now) sheets
 still-past sheets before now le past k d short =
-    let here = past k d short in omega (arith, ints, here, le)
+    let here = past k d short in omega (arith, here, le)
 
 kept-later : (t : Table) (before now : ℕ) → before ≤ now → IsKeptAt t before → IsKeptAt t now
 kept-later t before now le kept = record {
@@ -395,7 +392,7 @@ kept-kind journal now caller (EventKind.Class form) clear late kept =
     let t = table_of journal in
     let past = still-past t.sheets (last_moment journal) now late kept.past in
     record {
-      orderly = orderly_class t form.class form.calendar (pos now) kept.orderly (class-free journal form.class (number_free situation request clear)) (λ k d short same. past k d short);
+      orderly = orderly_class t form.class form.calendar now kept.orderly (class-free journal form.class (number_free situation request clear)) (λ k d short same. past k d short);
       calendars = kept.calendars;
       few = kept.few;
       past = past;
@@ -404,13 +401,13 @@ kept-kind journal now caller (EventKind.Sheet form) clear late kept =
     let situation = own_at journal now caller in
     let request = Request.Sheet form in
     let t = table_of journal in
-    let is = without-fault (expected_of (book_behind journal).table) (wrong_class t.classes form.calendar (pos form.moment) form.prices) form.calendar (pos form.moment) (pos now)
+    let is = without-fault (expected_of (book_behind journal).table) (wrong_class t.classes form.calendar form.moment form.prices) form.calendar form.moment now
     (not_broken situation request clear Rule.SheetOutOfTurn) (not_broken situation request clear Rule.SheetIncomplete) (not_broken situation request clear Rule.TooSoon) in
     record {
-      orderly = orderly_sheet t form.calendar (pos form.moment) form.prices kept.orderly (record { expected = sym (expected-corrected journal t) ∙ is.0; complete = is.1 });
+      orderly = orderly_sheet t form.calendar form.moment form.prices kept.orderly (record { expected = sym (expected-corrected journal t) ∙ is.0; complete = is.1 });
       calendars = kept.calendars;
       few = kept.few;
-      past = All-push (λ (s : Sheet). s.moment ≤ℤ pos now) t.sheets (sheet_published t form.calendar (pos form.moment) form.prices) (still-past t.sheets (last_moment journal) now late kept.past) (ge_fact (pos now) (pos form.moment) is.2);
+      past = All-push (λ (s : Sheet). s.moment ≤ now) t.sheets (sheet_published t form.calendar form.moment form.prices) (still-past t.sheets (last_moment journal) now late kept.past) (ge_fact now form.moment is.2);
     }
 kept-kind journal now caller kind clear late kept = kept-later (table_of journal) (last_moment journal) now late kept
 
@@ -426,7 +423,7 @@ kept-at-first = record {
   orderly = orderly_at_first;
   calendars = All-nil IsCalendar;
   few = omega arith;
-  past = All-nil (λ (s : Sheet). s.moment ≤ℤ pos 0);
+  past = All-nil (λ (s : Sheet). s.moment ≤ 0);
 }
 
 pub kept : (journal : Journal) → IsLawful journal → IsKeptAt (table_of journal) (last_moment journal)
@@ -439,8 +436,7 @@ orderly_tables journal lawful =
 
 pub priced_when_due_in : (journal : Journal) → IsLawful journal → (row : OrderRow) → IsPricedWhenDue (book_behind journal) row
 priced_when_due_in journal lawful row sheet e =
-    ap (option_map nat_abs)
-    (priced_when_due (book_behind journal).table (classes_in row.order.body) (pos row.receipt) sheet (orderly_tables journal lawful).corrected (omega arith) e)
+    priced_when_due (book_behind journal).table (classes_in row.order.body) row.receipt sheet (orderly_tables journal lawful).corrected (omega arith) e
 
 -- ---- no more than the pricing days
 
@@ -490,9 +486,9 @@ sheets-of-few t c o there =
     (λ i j d lt short same.
     let first = filter_passes (is_sheet_of c.number) t.sheets i d (omega (arith, lt, short)) in
     let second = filter_passes (is_sheet_of c.number) t.sheets j d short in
-    let rises = AllPairs-filter (λ (a b : Sheet). a.calendar ≡ b.calendar → a.moment <ℤ b.moment) (is_sheet_of c.number) t.sheets o.rises i j d lt short
+    let rises = AllPairs-filter (λ (a b : Sheet). a.calendar ≡ b.calendar → a.moment < b.moment) (is_sheet_of c.number) t.sheets o.rises i j d lt short
     (eqb-true (get_or own i d).calendar c.number first ∙ sym (eqb-true (get_or own j d).calendar c.number second)) in
-    omega (arith, ints, rises, same))
+    omega (arith, rises, same))
     (λ k d short.
     let s = get_or own k d in
     let number : s.calendar ≡ c.number = eqb-true s.calendar c.number (filter_passes (is_sheet_of c.number) t.sheets k d short) in
@@ -511,9 +507,9 @@ all-sheets-few : (t : Table) → IsOrderly t → length t.sheets ≤ length (pri
 all-sheets-few t o =
     few-distinct (λ (s : Sheet). (s.moment, s.calendar)) t.sheets (pricing_pairs t.calendars)
     (λ i j d lt short same.
-    let rises = o.rises i j d lt short (ap (λ (pair : ℤ × ℕ). pair.1) same) in
-    let moments = ap (λ (pair : ℤ × ℕ). pair.0) same in
-    omega (arith, ints, rises, moments))
+    let rises = o.rises i j d lt short (ap (λ (pair : ℕ × ℕ). pair.1) same) in
+    let moments = ap (λ (pair : ℕ × ℕ). pair.0) same in
+    omega (arith, rises, moments))
     o.on_pricing_days
 
 pairs-few : (calendars : List Listing) → All IsCalendar calendars → length (pricing_pairs calendars) ≤ length calendars * longest_span
@@ -536,7 +532,7 @@ keeps-few journal lawful =
           let c = get_or t.calendars k d in
           record {
             days = (is.calendars k d short).span;
-            each_day = omega (arith, sheets-of-few t c is.orderly (Contains-get_or t.calendars k d short), length-filter (is_sheet_of c.number) t.sheets, length-map c.days moment_at);
+            each_day = omega (arith, sheets-of-few t c is.orderly (Contains-get_or t.calendars k d short), length-filter (is_sheet_of c.number) t.sheets, length-map c.days (λ (e : PricingDay). e.moment));
           };
       of_all = few;
       in_range = omega (arith, few);

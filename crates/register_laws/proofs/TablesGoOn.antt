@@ -1,5 +1,5 @@
 -- What one event more does to the corrected prices.
-use Rattle.std.proofs.Common.{Bool, List, None, Option, Some, [], ap, append-nil, cond, false, map, option_to_list, pos, refl, sym, true, ℕ, ◌&&◌, ◌++◌, ◌+◌, ◌==◌, ◌||◌, ◌∙◌, ◌∷◌, ◌≡◌}
+use Rattle.std.proofs.Common.{Bool, List, None, Option, Some, [], ap, append-nil, cond, false, map, option_to_list, refl, sym, true, ℕ, ◌&&◌, ◌++◌, ◌+◌, ◌==◌, ◌||◌, ◌∙◌, ◌∷◌, ◌≡◌}
 use Rattle.std.proofs.lemmas.Bool.{and_parts, eq-eqb, eqb-true}
 use Rattle.std.proofs.lemmas.List.{length-map, map-append}
 use Rattle.std.specs.List.{list_any}
@@ -19,7 +19,7 @@ use Rattle.register_machine.specs.journal.Choices.{last_of}
 use Rattle.register_machine.specs.journal.Journals.{Journal, with_event}
 use Rattle.register_machine.specs.journal.Kinds.{each_in, price_fix_in}
 use Rattle.register_machine.specs.pricing.CorrectedPrices.{fixes_price, price_as_corrected, sheet_as_corrected, table_as_corrected}
-use Rattle.register_machine.specs.pricing.PublishedTable.{moment_of, table_by, table_of}
+use Rattle.register_machine.specs.pricing.PublishedTable.{table_by, table_of}
 
 -- one correction more
 price-fixed : (fixes : List FixPriceForm) (form : FixPriceForm) (moment : ℕ) (price : ℕ × ℕ) → price_as_corrected (fixes ++ form ∷ []) moment price ≡ price_as_corrected (form ∷ []) moment (price_as_corrected fixes moment price)
@@ -41,7 +41,7 @@ prices-fixed fixes form moment (price ∷ prices) =
 sheets-fixed : (fixes : List FixPriceForm) (form : FixPriceForm) (sheets : List Sheet) → map (sheet_as_corrected (fixes ++ form ∷ [])) sheets ≡ map (sheet_as_corrected (form ∷ [])) (map (sheet_as_corrected fixes) sheets)
 sheets-fixed fixes form [] = refl
 sheets-fixed fixes form (sheet ∷ sheets) =
-    ap (λ prices. with_prices sheet prices ∷ map (sheet_as_corrected (fixes ++ form ∷ [])) sheets) (prices-fixed fixes form (moment_of sheet) sheet.prices)
+    ap (λ prices. with_prices sheet prices ∷ map (sheet_as_corrected (fixes ++ form ∷ [])) sheets) (prices-fixed fixes form sheet.moment sheet.prices)
     ∙ ap (λ all. sheet_as_corrected (form ∷ []) (sheet_as_corrected fixes sheet) ∷ all) (sheets-fixed fixes form sheets)
 
 -- ---- a sheet that no correction names
@@ -85,10 +85,10 @@ corrected-by : (journal : Journal) (table : Table) (moment : ℕ) (kind : EventK
 corrected-by journal table moment (EventKind.FixPrice form) unfixed =
     ap (with_sheets table) (sheets-fixed (each_in price_fix_in journal) form table.sheets)
 corrected-by journal table moment (EventKind.Sheet form) unfixed =
-    ap (λ fixes. with_sheets table (map (sheet_as_corrected fixes) (table.sheets ++ sheet_published table form.calendar (pos form.moment) form.prices ∷ []))) (append-nil (each_in price_fix_in journal))
-    ∙ (ap (with_sheets table) (map-append (sheet_as_corrected (each_in price_fix_in journal)) table.sheets (sheet_published table form.calendar (pos form.moment) form.prices ∷ []))
-    ∙ (ap (λ prices. with_sheets table (map (sheet_as_corrected (each_in price_fix_in journal)) table.sheets ++ with_prices (sheet_published table form.calendar (pos form.moment) form.prices) prices ∷ [])) (prices-kept (each_in price_fix_in journal) form.moment form.prices (not-true (list_any (fixes_sheet form) (each_in price_fix_in journal)) unfixed))
-    ∙ ap (λ (count : ℕ). with_sheets table (map (sheet_as_corrected (each_in price_fix_in journal)) table.sheets ++ record { number = count + 1; calendar = form.calendar; moment = pos form.moment; day = date_priced table.calendars form.calendar (pos form.moment); prices = form.prices } ∷ [])) (sym (length-map table.sheets (sheet_as_corrected (each_in price_fix_in journal))))))
+    ap (λ fixes. with_sheets table (map (sheet_as_corrected fixes) (table.sheets ++ sheet_published table form.calendar form.moment form.prices ∷ []))) (append-nil (each_in price_fix_in journal))
+    ∙ (ap (with_sheets table) (map-append (sheet_as_corrected (each_in price_fix_in journal)) table.sheets (sheet_published table form.calendar form.moment form.prices ∷ []))
+    ∙ (ap (λ prices. with_sheets table (map (sheet_as_corrected (each_in price_fix_in journal)) table.sheets ++ with_prices (sheet_published table form.calendar form.moment form.prices) prices ∷ [])) (prices-kept (each_in price_fix_in journal) form.moment form.prices (not-true (list_any (fixes_sheet form) (each_in price_fix_in journal)) unfixed))
+    ∙ ap (λ (count : ℕ). with_sheets table (map (sheet_as_corrected (each_in price_fix_in journal)) table.sheets ++ record { number = count + 1; calendar = form.calendar; moment = form.moment; day = date_priced table.calendars form.calendar form.moment; prices = form.prices } ∷ [])) (sym (length-map table.sheets (sheet_as_corrected (each_in price_fix_in journal))))))
 corrected-by journal table moment kind unfixed =
     ap (λ fixes. with_fixes fixes (table_by table moment kind)) (append-nil (each_in price_fix_in journal))
 

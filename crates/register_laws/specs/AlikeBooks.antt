@@ -1,5 +1,5 @@
 -- Two books that agree on all that a sheet's step looks up.
-use Rattle.std.specs.Prelude.{List, ℕ, ℤ, ◌≡◌}
+use Rattle.std.specs.Prelude.{List, ℕ, ◌≡◌}
 use Rattle.agent_events.specs.declared.order.OrderRow.{OrderRow}
 use Rattle.forward_price.specs.PriceTables.{price_before}
 use Rattle.forward_price.specs.declared.price_sheet.Sheet.{Sheet}
@@ -11,7 +11,7 @@ use Rattle.register_machine.specs.replay.Trades.{Day}
 
 -- The terms of each class, the household of each account, each rate, and each price before a moment are the same.
 pub record BooksAlike (book other : Book) : Type 0 where
-  pub price : (class : ℕ) (moment : ℤ)
+  pub price : (class moment : ℕ)
       → price_before book.table.sheets class moment ≡ price_before other.table.sheets class moment
   pub front : (class : ℕ) → front_of book class ≡ front_of other class
   pub schedule : (class : ℕ) → schedule_of book class ≡ schedule_of other class

@@ -1,5 +1,5 @@
 -- What the laws of the whole machine say, in the trade's words.
-use Rattle.std.specs.Prelude.{Bool, IfSome, List, None, Some, [], false, pos, position, slice_get, take, true, ℕ, ◌∷◌, ◌≡◌, ◌⊎◌}
+use Rattle.std.specs.Prelude.{Bool, IfSome, List, None, Some, [], false, position, slice_get, take, true, ℕ, ◌∷◌, ◌≡◌, ◌⊎◌}
 use Rattle.agent_events.specs.Events.{Event, event_of, request_of}
 use Rattle.agent_events.specs.declared.event.EventKind.{EventKind}
 use Rattle.agent_events.specs.declared.reply.Refusal.{Refusal}
@@ -83,4 +83,4 @@ AnswersByTheJournal operator run now key request =
 -- Each order that has its sheet has the first price computed after its receipt (17 CFR 270.22c-1(a)).
 abbrev pub IsForwardPriced : List Sheet → Priced → Type 0
 IsForwardPriced sheets sheets_of_july =
-    IfSome sheets_of_july.sheet (IsPricedBy sheets (classes_in sheets_of_july.row.order.body) (pos sheets_of_july.row.receipt))
+    IfSome sheets_of_july.sheet (IsPricedBy sheets (classes_in sheets_of_july.row.order.body) sheets_of_july.row.receipt)

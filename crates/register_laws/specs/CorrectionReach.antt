@@ -1,6 +1,6 @@
 -- How far a correction reaches: which households it leaves as they were, and up to which sheet it changes nothing.
 use Rattle.std.specs.List.{list_any}
-use Rattle.std.specs.Prelude.{All, AllPairs, Bool, List, None, Option, Some, [], false, filter, pos, take, true, ℕ, ◌&&◌, ◌++◌, ◌==◌, ◌<◌, ◌∷◌, ◌≡◌, ◌≤◌}
+use Rattle.std.specs.Prelude.{All, AllPairs, Bool, List, None, Option, Some, [], false, filter, take, true, ℕ, ◌&&◌, ◌++◌, ◌==◌, ◌<◌, ◌∷◌, ◌≡◌, ◌≤◌}
 use Rattle.agent_events.specs.Events.{Event}
 use Rattle.agent_events.specs.declared.event.EventKind.{EventKind}
 use Rattle.agent_events.specs.declared.order.OrderRow.{OrderRow}
@@ -16,7 +16,6 @@ use Rattle.register_machine.specs.journal.Lawful.{IsLawful}
 use Rattle.register_machine.specs.pricing.CorrectedBook.{Book}
 use Rattle.register_machine.specs.pricing.CorrectedOrders.{is_named, stands}
 use Rattle.register_machine.specs.pricing.OrderClasses.{classes_in}
-use Rattle.register_machine.specs.pricing.PublishedTable.{moment_of}
 use Rattle.register_machine.specs.replay.Replay.{is_priced_on, priced_in, replay, replay_to}
 use Rattle.register_machine.specs.rules.NamedThings.{lists_at}
 
@@ -66,19 +65,15 @@ RateLeavesOthers book form household =
 -- The sheet doesn't list the class of a corrected price at its moment, and isn't later than it; and it doesn't list the class of a
 -- corrected rate at its moment.
 abbrev pub IsBeforePrice : FixPriceForm → Sheet → Type 0
-IsBeforePrice form sheet = (lists_at form.class form.moment sheet ≡ false) × (moment_of sheet ≤ form.moment)
+IsBeforePrice form sheet = (lists_at form.class form.moment sheet ≡ false) × (sheet.moment ≤ form.moment)
 
 abbrev pub IsBeforeRate : FixRateForm → Sheet → Type 0
 IsBeforeRate form sheet = lists_at form.class form.moment sheet ≡ false
 
--- the moments of sheets are seconds from the first one on
-abbrev pub AreDated : List Sheet → Type 0
-AreDated sheets = All (λ sheet. sheet.moment ≡ pos (moment_of sheet)) sheets
-
 -- Up to a sheet where all are before the corrected price, the whole register and all trades stay as they were, and so with a rate.
 abbrev pub PriceLeavesBefore : Book → FixPriceForm → ℕ → Type 0
 PriceLeavesBefore book form number =
-    AreDated book.table.sheets → All (IsBeforePrice form) (take number book.table.sheets)
+    All (IsBeforePrice form) (take number book.table.sheets)
     → replay_to (book_with_price form book) number ≡ replay_to book number
 
 abbrev pub RateLeavesBefore : Book → FixRateForm → ℕ → Type 0
@@ -115,7 +110,7 @@ IsOnNone book other named sheets =
 -- Their moments never fall, in the order of their numbers.
 abbrev pub LawfulSheetsNeverFall : Journal → Type 0
 LawfulSheetsNeverFall journal =
-    IsLawful journal → AllPairs (λ sheet later. moment_of sheet ≤ moment_of later) (book_behind journal).table.sheets
+    IsLawful journal → AllPairs (λ sheet later. sheet.moment ≤ later.moment) (book_behind journal).table.sheets
 
 -- the sheet of this number lists the class at that moment
 abbrev pub IsListedOn : Book → ℕ → ℕ → ℕ → Type 0

@@ -7,7 +7,6 @@ use Rattle.forward_price.specs.declared.price_sheet.Sheet.{Sheet}
 use Rattle.register_laws.specs.Households.{own_book, own_orders, part_of}
 use Rattle.register_machine.specs.pricing.CorrectedBook.{Book}
 use Rattle.register_machine.specs.pricing.DividendRates.{rate_at}
-use Rattle.register_machine.specs.pricing.PublishedTable.{moment_of}
 use Rattle.register_machine.specs.replay.Dividend.{payment_on}
 use Rattle.register_machine.specs.replay.Letter.{has_letter_over}
 use Rattle.register_machine.specs.replay.Positions.{Position, Register}
@@ -28,7 +27,7 @@ is_paid_at rate price position =
     position.class == price.0 && (not (rate == 0) && pays_something (payment_on rate price.1 position))
 
 abbrev pub is_paid_in : Book → Sheet → Position → ℕ × ℕ → Bool
-is_paid_in book sheet position price = is_paid_at (rate_at book.rates price.0 (moment_of sheet)) price position
+is_paid_in book sheet position price = is_paid_at (rate_at book.rates price.0 sheet.moment) price position
 
 -- some class of the sheet pays the position
 abbrev pub is_paid_on : Book → Sheet → Position → Bool

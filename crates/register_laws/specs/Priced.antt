@@ -21,7 +21,7 @@ use Rattle.register_machine.specs.corrections.Payments.{bearer_in}
 use Rattle.register_machine.specs.journal.Journals.{Journal, with_event}
 use Rattle.register_machine.specs.pricing.CorrectedBook.{Book, book_of, due_moment, sheet_of}
 use Rattle.register_machine.specs.pricing.CorrectedOrders.{row_as_sent}
-use Rattle.register_machine.specs.pricing.PublishedTable.{moment_of, table_of}
+use Rattle.register_machine.specs.pricing.PublishedTable.{table_of}
 use Rattle.register_machine.specs.replay.Replay.{orders_on, priced_in, priced_orders, replay}
 use Rattle.agent_events.specs.declared.trade.Trade.{Trade}
 use Rattle.agent_events.specs.declared.trade.TradeKind.{TradeKind}
@@ -70,7 +70,7 @@ pub record HasFewSheets (journal : Journal) : Type 0 where
 -- An order that has its sheet has the one of its due moment under the present calendars.
 abbrev pub IsPricedWhenDue : Book → OrderRow → Type 0
 IsPricedWhenDue book row =
-    (sheet : Sheet) → sheet_of book.table.sheets row ≡ Some sheet → due_moment book row ≡ Some (moment_of sheet)
+    (sheet : Sheet) → sheet_of book.table.sheets row ≡ Some sheet → due_moment book row ≡ Some sheet.moment
 
 -- the kinds of trades that an order brings, filled or not; dividends and ends of letters have none
 abbrev pub is_order_kind : TradeKind → Bool
@@ -151,7 +151,7 @@ order_traded trade = record {
 abbrev pub traded_as : Sheet → Order → TradeKind → OrderTraded
 traded_as sheet order kind = record {
   sheet = sheet.number;
-  moment = moment_of sheet;
+  moment = sheet.moment;
   day = sheet.day;
   account = order.account;
   ref_no = order.ref_no;

@@ -1,6 +1,6 @@
 -- What a request meets: the situation whose prices stand in a table that is corrected already.
 use Rattle.std.specs.Option.{option_map_or}
-use Rattle.std.specs.Prelude.{Bool, List, false, int_lt, length, pos, ℕ, ◌&&◌, ◌==◌, ◌≡◌}
+use Rattle.std.specs.Prelude.{Bool, List, false, nat_lt, length, ℕ, ◌&&◌, ◌==◌, ◌≡◌}
 use Rattle.agent_events.specs.declared.request.AccountForm.{AccountForm}
 use Rattle.agent_events.specs.declared.verdict.Caller.{Caller}
 use Rattle.forward_price.specs.Orderly.{IsOrderly}
@@ -42,7 +42,7 @@ calendar_prices_at calendars moment number = option_map_or (prices_at moment) (c
 
 abbrev pub opening_prices_at : List Listing → ℕ → Opening → Bool
 opening_prices_at calendars moment opening =
-    int_lt opening.opened (pos moment) && calendar_prices_at calendars moment opening.calendar
+    nat_lt opening.opened moment && calendar_prices_at calendars moment opening.calendar
 
 abbrev pub class_has_moment : Table → ℕ → ℕ → Bool
 class_has_moment table moment class =

@@ -1,7 +1,6 @@
 //! The rules on closures, sheets and dividends.
-ghost use Rattle.std.specs.Prelude.{◌≡◌, IfSome, pos};
+ghost use Rattle.std.specs.Prelude.{◌≡◌};
 ghost use Rattle.agent_events.specs.declared.request.Request.{Request};
-ghost use Rattle.forward_price.specs.Turns.{NamesMoment};
 ghost use Rattle.request_rules.specs.VerbRules.{rules_of};
 ghost use Rattle.register_machine.specs.journal.Choices.{first_some};
 ghost use Rattle.register_machine.specs.rules.NamedThings.{none_such};
@@ -27,7 +26,7 @@ fn close_absent(inquiry: &Inquiry, form: &CloseForm) -> Option<Refusal>
 
 /// Whether the pricing moment has its sheet, or a dividend.
 fn is_used_moment(inquiry: &Inquiry, calendar: Identifier, moment: Moment) -> bool
-    ensures { result ≡ is_used_moment inquiry.now.book calendar (pos moment) }
+    ensures { result ≡ is_used_moment inquiry.now.book calendar moment }
 {
     inquiry.is_published(calendar, moment) || is_declared_in(inquiry, calendar, moment)
 }
@@ -61,14 +60,12 @@ pub(crate) fn broken_by_close(inquiry: &Inquiry, form: &CloseForm) -> Option<Ref
 
 /// Refusal 12. The sheet isn't the expected one.
 fn out_of_turn(fault: &Option<PublishFault>) -> Option<Refusal>
-    requires { IfSome fault.now NamesMoment }
     ensures { result ≡ out_of_turn fault.now }
 {
     match fault {
-        Some(PublishFault::SheetOutOfTurn(moment, calendar)) => match Moment::new(*moment) {
-            Some(moment) => Some(Refusal::SheetOutOfTurn(moment, *calendar)),
-            None => None,
-        },
+        Some(PublishFault::SheetOutOfTurn(moment, calendar)) => {
+            Some(Refusal::SheetOutOfTurn(*moment, *calendar))
+        }
         _ => None,
     }
 }
@@ -85,14 +82,10 @@ fn incomplete(fault: &Option<PublishFault>) -> Option<Refusal>
 
 /// Refusal 18. The sheet's moment is to come.
 fn too_soon(fault: &Option<PublishFault>) -> Option<Refusal>
-    requires { IfSome fault.now NamesMoment }
     ensures { result ≡ too_soon fault.now }
 {
     match fault {
-        Some(PublishFault::TooSoon(moment)) => match Moment::new(*moment) {
-            Some(moment) => Some(Refusal::TooSoon(moment)),
-            None => None,
-        },
+        Some(PublishFault::TooSoon(moment)) => Some(Refusal::TooSoon(*moment)),
         _ => None,
     }
 }

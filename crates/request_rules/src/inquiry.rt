@@ -1,11 +1,11 @@
 //! What a request meets when it comes, and each look-up that a rule makes in it.
-ghost use Rattle.std.specs.Prelude.{◌≡◌, ◌==◌, ◌||◌, count_by, false, is_some, length, IfSome, ℕ, map, nat_abs, option_and_then, option_map, pos, slice_get};
+ghost use Rattle.std.specs.Prelude.{◌≡◌, ◌==◌, ◌||◌, count_by, false, is_some, length, ℕ, map, option_and_then, slice_get};
 ghost use Rattle.std.specs.List.{list_any};
 ghost use Rattle.std.specs.Option.{option_copied, option_map_or};
 ghost use Rattle.fund_calendar.specs.PricingDays.{lists_day, moment_on};
 ghost use Rattle.forward_price.specs.Orderly.{IsOrderly};
 ghost use Rattle.forward_price.specs.PriceTables.{calendar_numbered, number_at};
-ghost use Rattle.forward_price.specs.Turns.{NamesMoment, due_of};
+ghost use Rattle.forward_price.specs.Turns.{due_of};
 ghost use Rattle.request_rules.specs.Inquiries.{FitsJournal, calendar_lists_day, calendar_prices_at, account_is_of, account_names, class_has_moment, opening_prices_at, situation_with};
 ghost use Rattle.register_machine.specs.pricing.OrderClasses.{class_of, target_of};
 ghost use Rattle.register_machine.specs.journal.Kinds.{account_numbered, class_numbered, dealers_of, dealer_numbered, households_of};
@@ -273,14 +273,13 @@ impl<'a> Inquiry<'a> {
 
     /// Why the sheet may not be published, for the first of three causes.
     pub(crate) fn sheet_fault(&self, form: &SheetForm) -> Option<PublishFault>
-        ensures fault { result ≡ sheet_fault self.now (Request.Sheet form.now) }
-        ensures within { IfSome result NamesMoment }
+        ensures { result ≡ sheet_fault self.now (Request.Sheet form.now) }
     {
         let tested = self.prices.test(
             form.calendar.number(),
-            form.moment.seconds(),
+            form.moment,
             form.prices.as_slice(),
-            self.moment.seconds(),
+            self.moment,
         );
         match tested {
             Ok(()) => None,
@@ -355,7 +354,7 @@ impl<'a> Inquiry<'a> {
         match self.calendar_of(class) {
             Some(calendar) => self
                 .prices
-                .sheet_at(calendar.number(), moment.seconds())
+                .sheet_at(calendar.number(), moment)
                 .is_some(),
             None => false,
         }
@@ -380,24 +379,21 @@ impl<'a> Inquiry<'a> {
 
     /// The moment of a calendar's pricing day.
     pub(crate) fn moment_on(&self, calendar: Identifier, day: Day) -> Option<Moment>
-        ensures { option_map pos result ≡ option_and_then (λ listing. moment_on listing day)
+        ensures { result ≡ option_and_then (λ listing. moment_on listing day)
             (calendar_numbered self.now.book.table.calendars calendar) }
     {
         match self.prices.calendar(calendar.number()) {
-            Some(listing) => match listing.moment_of(day) {
-                Some(moment) => Moment::new(moment),
-                None => None,
-            },
+            Some(listing) => listing.moment_of(day),
             None => None,
         }
     }
 
     /// Whether the sheet of the calendar's pricing moment is published.
     pub(crate) fn is_published(&self, calendar: Identifier, moment: Moment) -> bool
-        ensures { result ≡ is_some (number_at self.now.book.table.sheets calendar (pos moment)) }
+        ensures { result ≡ is_some (number_at self.now.book.table.sheets calendar moment) }
     {
         self.prices
-            .sheet_at(calendar.number(), moment.seconds())
+            .sheet_at(calendar.number(), moment)
             .is_some()
     }
 
@@ -422,7 +418,7 @@ impl<'a> Inquiry<'a> {
     fn opening_has_moment(&self, opening: &Opening, moment: Moment) -> bool
         ensures { result ≡ opening_prices_at self.now.book.table.calendars moment opening.now }
     {
-        opening.opened < moment.seconds() && self.calendar_prices_at(opening.calendar, moment)
+        opening.opened < moment && self.calendar_prices_at(opening.calendar, moment)
     }
 
     fn calendar_prices_at(&self, calendar: u32, moment: Moment) -> bool
@@ -446,13 +442,9 @@ impl<'a> Inquiry<'a> {
 
     /// The due moment of an order of these classes with this receipt.
     fn due_of(&self, classes: &[u32], receipt: Moment) -> Option<Moment>
-        ensures { result
-            ≡ option_map nat_abs (due_of self.now.book.table classes.now (pos receipt)) }
+        ensures { result ≡ due_of self.now.book.table classes.now receipt }
     {
-        match self.prices.due(classes, receipt.seconds()) {
-            Some(due) => Moment::new(due),
-            None => None,
-        }
+        self.prices.due(classes, receipt)
     }
 
     /// The due moment of an order with this receipt.
@@ -478,14 +470,14 @@ fn lists_day(listing: &Calendar, day: Day) -> bool
 fn prices_at(listing: &Calendar, moment: Moment) -> bool
     ensures { result ≡ prices_at moment listing.now }
 {
-    listing.date_of(moment.seconds()).is_some()
+    listing.date_of(moment).is_some()
 }
 
 /// Whether a sheet of the moment lists the class.
 fn is_listed_at(class: u32, moment: Moment, sheet: &Sheet) -> bool
     ensures { result ≡ lists_at class moment sheet.now }
 {
-    sheet.moment.unsigned_abs() == moment.seconds() && lists_class(sheet.prices.as_slice(), class)
+    sheet.moment == moment && lists_class(sheet.prices.as_slice(), class)
 }
 
 /// The class of an order.

@@ -20,7 +20,6 @@ use Rattle.register_laws.specs.AlikeBooks.{BooksAlike}
 use Rattle.register_laws.specs.HouseholdSheets.{IsQuiet, is_paid_in, is_paid_on, pays_something}
 use Rattle.register_machine.specs.pricing.CorrectedBook.{Book}
 use Rattle.register_machine.specs.pricing.DividendRates.{rate_at}
-use Rattle.register_machine.specs.pricing.PublishedTable.{moment_of}
 use Rattle.register_machine.specs.replay.Dividend.{payment_on}
 use Rattle.register_machine.specs.replay.Letter.{has_letter_over}
 use Rattle.register_machine.specs.replay.Positions.{Position, Register, mils_of}
@@ -61,11 +60,11 @@ listed-at (price ∷ prices) class test lists passes = by (price.0 == class) ref
 paid-by-book : (known : Known) (book : Book) → BooksAlike (book_of_facts known) book → (position : Position) → is_paid known position ≡ true → is_paid_on book (sheet_at_hand known) position ≡ true
 paid-by-book known book alike position payment_of_cash =
     listed-at sheet.prices position.class (is_paid_in book sheet position) both.0
-    (λ price class nav. and_from (position.class == price.0) (not (rate_at book.rates price.0 (moment_of sheet) == 0) && pays_something (payment_on (rate_at book.rates price.0 (moment_of sheet)) price.1 position))
+    (λ price class nav. and_from (position.class == price.0) (not (rate_at book.rates price.0 sheet.moment == 0) && pays_something (payment_on (rate_at book.rates price.0 sheet.moment) price.1 position))
     (eq-yes position.class price.0 (sym class))
-    (subst (λ c. (not (rate_at book.rates c (moment_of sheet) == 0) && pays_something (payment_on (rate_at book.rates c (moment_of sheet)) price.1 position)) ≡ true) (sym class)
-    (subst (λ n. (not (rate_at book.rates position.class (moment_of sheet) == 0) && pays_something (payment_on (rate_at book.rates position.class (moment_of sheet)) n position)) ≡ true) (sym nav)
-    (subst (λ r. (not (r == 0) && pays_something (payment_on r (nav_of sheet position.class) position)) ≡ true) (alike.rate position.class (moment_of sheet))
+    (subst (λ c. (not (rate_at book.rates c sheet.moment == 0) && pays_something (payment_on (rate_at book.rates c sheet.moment) price.1 position)) ≡ true) (sym class)
+    (subst (λ n. (not (rate_at book.rates position.class sheet.moment == 0) && pays_something (payment_on (rate_at book.rates position.class sheet.moment) n position)) ≡ true) (sym nav)
+    (subst (λ r. (not (r == 0) && pays_something (payment_on r (nav_of sheet position.class) position)) ≡ true) (alike.rate position.class sheet.moment)
     (and_from (not (rate == 0)) (pays_something (payment_on rate (nav_of sheet position.class) position))
     (has-rate rate (nav_of sheet position.class) position both.1)
     (payments-alike (payment_on rate (nav_of sheet position.class) position) ∙ both.1))))))
@@ -74,7 +73,7 @@ paid-by-book known book alike position payment_of_cash =
     sheet = sheet_at_hand known
 
     rate : ℕ
-    rate = rate_at (book_of_facts known).rates position.class (moment_of sheet)
+    rate = rate_at (book_of_facts known).rates position.class sheet.moment
 
     both : (lists_class sheet.prices position.class ≡ true) × (is_payment (payment_of known position.class position) ≡ true)
     both = and_parts (lists_class sheet.prices position.class) (is_payment (payment_of known position.class position)) payment_of_cash

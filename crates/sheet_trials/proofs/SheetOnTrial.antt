@@ -1,6 +1,5 @@
 -- What a sheet on trial prices, what it makes of each household, and whom it reaches.
-use Rattle.std.proofs.Common.{All, AllPairs, Bool, List, None, Option, Some, [], ap, append-nil, arith, cond, false, find, get_or, length, option_to_list, pos, refl, subst, sym, true, ℕ, ◌+◌, ◌++◌, ◌<◌, ◌==◌, ◌||◌, ◌∙◌, ◌∷◌, ◌≡◌, ◌≤ℤ◌, ◌≤◌}
-use Rattle.std.proofs.lemmas.Int.{ints}
+use Rattle.std.proofs.Common.{All, AllPairs, Bool, List, None, Option, Some, [], ap, append-nil, arith, cond, false, find, get_or, length, option_to_list, refl, subst, sym, true, ℕ, ◌+◌, ◌++◌, ◌<◌, ◌==◌, ◌||◌, ◌∙◌, ◌∷◌, ◌≡◌, ◌≤◌}
 use Rattle.std.proofs.lemmas.List.{get_or_append_left, get_or_push, length-append, length-map}
 use Rattle.std.proofs.lemmas.List.Elements.{All-head, All-map, All-tail, All-weaker}
 use Rattle.agent_events.specs.Events.{Event}
@@ -51,7 +50,6 @@ use Rattle.register_machine.specs.journal.Kinds.{account_in, accounts_of, sheet_
 use Rattle.register_machine.specs.journal.Lawful.{IsLawful}
 use Rattle.register_machine.specs.pricing.CorrectedBook.{Book}
 use Rattle.register_machine.specs.pricing.CorrectedOrders.{orders_of}
-use Rattle.register_machine.specs.pricing.PublishedTable.{moment_of}
 use Rattle.register_machine.specs.replay.Replay.{orders_on, priced_orders, replay}
 use Rattle.register_machine.specs.replay.Trades.{Day}
 use Rattle.sheet_trials.proofs.MovedDays.{differences-by-days}
@@ -94,17 +92,17 @@ module _ (journal : Journal) (event : Event) (form : SheetForm) (lawful : IsLawf
   sheets-more = (adds_sheet journal event lawful form is).sheets
 
   -- no sheet before it is later, or of its number
-  never-after : (k : ℕ) (d : Sheet) → k < length (book_behind journal).table.sheets → (get_or (book_behind journal).table.sheets k d).moment ≤ℤ pos form.moment
+  never-after : (k : ℕ) (d : Sheet) → k < length (book_behind journal).table.sheets → (get_or (book_behind journal).table.sheets k d).moment ≤ form.moment
   never-after k d short =
       let sheets = (book_behind journal).table.sheets in
       let new = sheet_behind journal form in
-      let rise : AllPairs (λ (sheet later : Sheet). moment_of sheet ≤ moment_of later) (sheets ++ new ∷ []) = subst (λ all. AllPairs (λ (sheet later : Sheet). moment_of sheet ≤ moment_of later) all) sheets-more (sheets_never_fall (with_event journal event) lawful) in
-      let at : (get_or sheets k d).moment ≡ pos (moment_of (get_or sheets k d)) = dated journal k d short in
+      let rise : AllPairs (λ (sheet later : Sheet). sheet.moment ≤ later.moment) (sheets ++ new ∷ []) = subst (λ all. AllPairs (λ (sheet later : Sheet). sheet.moment ≤ later.moment) all) sheets-more (sheets_never_fall (with_event journal event) lawful) in
+      let at : (get_or sheets k d).moment ≡ (get_or sheets k d).moment = dated journal k d short in
       let low : get_or (sheets ++ new ∷ []) k d ≡ get_or sheets k d = get_or_append_left sheets (new ∷ []) d k short in
       let high : get_or (sheets ++ new ∷ []) (length sheets) d ≡ new = get_or_push sheets new d (length sheets) refl in
       let more : length sheets < length (sheets ++ new ∷ []) = (let all = length-append sheets (new ∷ []) in omega (arith, all)) in
-      let le : moment_of (get_or sheets k d) ≤ form.moment = subst (λ (s : Sheet). moment_of s ≤ form.moment) low (subst (λ (s : Sheet). moment_of (get_or (sheets ++ new ∷ []) k d) ≤ moment_of s) high (rise k (length sheets) d short more)) in
-      omega (arith, ints, at, le)
+      let le : (get_or sheets k d).moment ≤ form.moment = subst (λ (s : Sheet). s.moment ≤ form.moment) low (subst (λ (s : Sheet). (get_or (sheets ++ new ∷ []) k d).moment ≤ s.moment) high (rise k (length sheets) d short more)) in
+      omega (arith, at, le)
 
   another-number : (k : ℕ) (d : Sheet) → k < length (book_behind journal).table.sheets → (get_or (book_behind journal).table.sheets k d).number ≡ (sheet_behind journal form).number → ⊥
   another-number k d short alike =

@@ -1,5 +1,5 @@
 -- A sheet that follows the journal can be published in its books, which are then on trial.
-use Rattle.std.proofs.Common.{[], ap, arith, length, pos, subst, sym, ℕ, ◌+◌, ◌∙◌, ◌∷◌, ◌≡◌, ◌≤◌}
+use Rattle.std.proofs.Common.{[], ap, arith, length, subst, sym, ℕ, ◌+◌, ◌∙◌, ◌∷◌, ◌≡◌, ◌≤◌}
 use Rattle.std.proofs.lemmas.List.{length-append}
 use Rattle.agent_events.specs.Events.{Event}
 use Rattle.agent_events.specs.declared.event.EventKind.{EventKind}
@@ -23,10 +23,10 @@ comes-next journal event form table lawful is same =
 abbrev with_prices : DeskBooks → Book → DeskBooks
 with_prices books prices = record { book = books.book; tables = books.tables; prices = prices; orders = books.orders; classes = books.classes; ledger = books.ledger; cash = books.cash; kept = books.kept }
 
-pub on-trial : (books : DeskBooks) (event : Event) (form : SheetForm) (room prices : Book) (number : ℕ) → AreBooksOf books.book.journal books → IsLawful (with_event books.book.journal event) → event.kind ≡ EventKind.Sheet form → form.moment ≤ 7258118399 → room.table ≡ books.prices.table → number ≡ length room.table.sheets + 1 → prices.table ≡ with_published room.table form.calendar (pos form.moment) form.prices → IsOnTrial (with_prices books prices) number event
+pub on-trial : (books : DeskBooks) (event : Event) (form : SheetForm) (room prices : Book) (number : ℕ) → AreBooksOf books.book.journal books → IsLawful (with_event books.book.journal event) → event.kind ≡ EventKind.Sheet form → form.moment ≤ 7258118399 → room.table ≡ books.prices.table → number ≡ length room.table.sheets + 1 → prices.table ≡ with_published room.table form.calendar form.moment form.prices → IsOnTrial (with_prices books prices) number event
 on-trial books event form room prices number are lawful is moment same counted there =
     let journal = books.book.journal in
-    let brought : Table → Table = λ table. with_published table form.calendar (pos form.moment) form.prices in
+    let brought : Table → Table = λ table. with_published table form.calendar form.moment form.prices in
     record {
       form = form;
       sheet = is;
@@ -39,7 +39,7 @@ on-trial books event form room prices number are lawful is moment same counted t
           ∙ (changes_prices journal event lawful).leaves));
       last =
           let all = ap (λ (t : Table). length t.sheets) there in
-          let more = length-append room.table.sheets (sheet_published room.table form.calendar (pos form.moment) form.prices ∷ []) in
+          let more = length-append room.table.sheets (sheet_published room.table form.calendar form.moment form.prices ∷ []) in
           omega (arith, counted, all, more);
       tables = are.tables;
       index = are.index;

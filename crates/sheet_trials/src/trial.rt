@@ -1,5 +1,5 @@
 //! The trial of a sheet.
-ghost use Rattle.std.specs.Prelude.{◌≡◌, ◌≤◌, ◌+◌, IfOk, None, OnOk, Some, length, pos, true};
+ghost use Rattle.std.specs.Prelude.{◌≡◌, ◌≤◌, ◌+◌, IfOk, None, OnOk, Some, length, true};
 ghost use Rattle.agent_events.specs.declared.event.EventKind.{EventKind as Kind};
 ghost use Rattle.checkpoint_replay.specs.Moves.{households_of};
 ghost use Rattle.desk_books.specs.BooksOfJournals.{AreBooksOf, ShowTheSame};
@@ -106,12 +106,11 @@ fn publish(prices: &mut PriceBook, form: &SheetForm) -> u32
     requires room { length form.now.prices ≤ prices.old.list }
     ensures number { result ≡ length prices.old.table.sheets + 1 }
     ensures table { prices.new.table
-        ≡ with_published prices.old.table form.now.calendar (pos form.now.moment) form.now.prices }
-    ensures moment { form.now.moment ≤ 7258118399 }
+        ≡ with_published prices.old.table form.now.calendar form.now.moment form.now.prices }
 {
     prices.publish(
         form.calendar.number(),
-        form.moment.seconds(),
+        form.moment,
         form.prices.as_slice(),
     )
 }

@@ -1,7 +1,6 @@
 -- What a sheet prices that is published behind the others has waited until then.
-use Rattle.std.proofs.Common.{All, Bool, List, None, Option, Some, [], ap, arith, cond, false, filter, is_none, nat_le, not, option_map, pos, refl, slice_get, subst, sym, true, ℕ, ◌&&◌, ◌++◌, ◌==◌, ◌∙◌, ◌∷◌, ◌≡◌, ◌≢◌, ◌≤ℤ◌, ◌||◌}
+use Rattle.std.proofs.Common.{All, Bool, List, None, Option, Some, [], ap, arith, cond, false, filter, is_none, nat_le, not, option_map, refl, slice_get, subst, sym, true, ℕ, ◌&&◌, ◌++◌, ◌==◌, ◌∙◌, ◌∷◌, ◌≡◌, ◌≢◌, ◌≤◌, ◌||◌}
 use Rattle.std.proofs.lemmas.Bool.{and_parts, eqb-true, false≢true}
-use Rattle.std.proofs.lemmas.Int.{ints}
 use Rattle.std.proofs.lemmas.List.Elements.{All-contains}
 use Rattle.std.proofs.lemmas.List.Sums.{fold-append}
 use Rattle.std.specs.Option.{option_map_or}
@@ -22,14 +21,14 @@ use Rattle.standing_orders.specs.Places.{is_among, passes_at}
 use Rattle.standing_orders.specs.Rows.{could_price, is_settled, is_taken, is_within, sheet_number, stays, waits}
 use Rattle.standing_orders.specs.WaitingLaws.{AllLeftWait, IsNumbered, LastLeaves, LastTakes, PricedAfterWaiting}
 
-not-earlier : (a b : Sheet) → b.moment ≤ℤ a.moment → is_earlier a b ≡ false
+not-earlier : (a b : Sheet) → b.moment ≤ a.moment → is_earlier a b ≡ false
 not-earlier a b le = by_test (is_earlier a b) refl
   where
     by_test : (is : Bool) → is_earlier a b ≡ is → is ≡ false
     by_test false e = refl
-    by_test true e = let less = lt_fact a.moment b.moment e in absurd (omega (arith, ints))
+    by_test true e = let less = lt_fact a.moment b.moment e in absurd (omega arith)
 
-stays-first : (passes : Sheet → Bool) (s last : Sheet) → s.moment ≤ℤ last.moment → best_so_far passes is_earlier (Some s) last ≡ Some s
+stays-first : (passes : Sheet → Bool) (s last : Sheet) → s.moment ≤ last.moment → best_so_far passes is_earlier (Some s) last ≡ Some s
 stays-first passes s last le = by_test (passes last)
   where
     by_test : (is : Bool) → cond is (found_or_better is_earlier (Some s) last) (Some s) ≡ Some s
@@ -37,15 +36,15 @@ stays-first passes s last le = by_test (passes last)
     by_test true = ap (λ earlier. cond earlier (Some last) (Some s)) (not-earlier last s le)
 
 pub priced_after_waiting : (sheets : List Sheet) (last : Sheet) (row : OrderRow) → PricedAfterWaiting sheets last row
-priced_after_waiting sheets last row comes priced = by_before (next_sheet sheets (classes_in row.order.body) (pos row.receipt)) refl
+priced_after_waiting sheets last row comes priced = by_before (next_sheet sheets (classes_in row.order.body) row.receipt) refl
   where
     passes : Sheet → Bool
-    passes = prices_order (classes_in row.order.body) (pos row.receipt)
+    passes = prices_order (classes_in row.order.body) row.receipt
 
     before : Option Sheet
-    before = next_sheet sheets (classes_in row.order.body) (pos row.receipt)
+    before = next_sheet sheets (classes_in row.order.body) row.receipt
 
-    goes-on : next_sheet (sheets ++ last ∷ []) (classes_in row.order.body) (pos row.receipt) ≡ best_so_far passes is_earlier before last
+    goes-on : next_sheet (sheets ++ last ∷ []) (classes_in row.order.body) row.receipt ≡ best_so_far passes is_earlier before last
     goes-on = fold-append (best_so_far passes is_earlier) None sheets (last ∷ [])
 
     parts : (stands row ≡ true) × (option_map_or (λ (n : ℕ). n == last.number) (sheet_number (sheets ++ last ∷ []) row) false ≡ true)
@@ -57,7 +56,7 @@ priced_after_waiting sheets last row comes priced = by_before (next_sheet sheets
     never : (s : Sheet) → before ≡ Some s → ⊥
     never s e =
         let chosen : IsBest passes is_earlier sheets s = subst (IsChoice passes is_earlier sheets) e (best-choice passes is_earlier earlier-order sheets) in
-        let facts = All-contains (λ (sheet : Sheet). passes sheet ≡ true → (sheet.number ≢ last.number) × (sheet.moment ≤ℤ last.moment)) sheets s comes chosen.among chosen.here in
+        let facts = All-contains (λ (sheet : Sheet). passes sheet ≡ true → (sheet.number ≢ last.number) × (sheet.moment ≤ last.moment)) sheets s comes chosen.among chosen.here in
         let same : option_map_or (λ (n : ℕ). n == last.number) (option_map (λ (sheet : Sheet). sheet.number) (Some s)) false ≡ true =
         sym (ap (λ (found : Option Sheet). option_map_or (λ (n : ℕ). n == last.number) (option_map (λ (sheet : Sheet). sheet.number) found) false)
         (ap (λ (found : Option Sheet). best_so_far passes is_earlier found last) e ∙ stays-first passes s last facts.1)) ∙ on in
@@ -72,24 +71,24 @@ priced_after_waiting sheets last row comes priced = by_before (next_sheet sheets
 -- ---- what is settled stays settled
 
 -- a sheet that isn't earlier than any before it leaves each order its sheet
-number-stays : (sheets : List Sheet) (last : Sheet) (row : OrderRow) (n : ℕ) → All (λ (s : Sheet). s.moment ≤ℤ last.moment) sheets → sheet_number sheets row ≡ Some n → sheet_number (sheets ++ last ∷ []) row ≡ Some n
+number-stays : (sheets : List Sheet) (last : Sheet) (row : OrderRow) (n : ℕ) → All (λ (s : Sheet). s.moment ≤ last.moment) sheets → sheet_number sheets row ≡ Some n → sheet_number (sheets ++ last ∷ []) row ≡ Some n
 number-stays sheets last row n earlier has =
     ap (option_map (λ (sheet : Sheet). sheet.number)) (fold-append (best_so_far passes is_earlier) None sheets (last ∷ []))
-    ∙ by (next_sheet sheets (classes_in row.order.body) (pos row.receipt)) refl has
+    ∙ by (next_sheet sheets (classes_in row.order.body) row.receipt) refl has
   where
     passes : Sheet → Bool
-    passes = prices_order (classes_in row.order.body) (pos row.receipt)
+    passes = prices_order (classes_in row.order.body) row.receipt
 
-    by : (found : Option Sheet) → next_sheet sheets (classes_in row.order.body) (pos row.receipt) ≡ found → option_map (λ (sheet : Sheet). sheet.number) found ≡ Some n → option_map (λ (sheet : Sheet). sheet.number) (best_so_far passes is_earlier (next_sheet sheets (classes_in row.order.body) (pos row.receipt)) last) ≡ Some n
+    by : (found : Option Sheet) → next_sheet sheets (classes_in row.order.body) row.receipt ≡ found → option_map (λ (sheet : Sheet). sheet.number) found ≡ Some n → option_map (λ (sheet : Sheet). sheet.number) (best_so_far passes is_earlier (next_sheet sheets (classes_in row.order.body) row.receipt) last) ≡ Some n
     by None e is = cc
     by (Some s) e is =
         let chosen : IsBest passes is_earlier sheets s = subst (IsChoice passes is_earlier sheets) e (best-choice passes is_earlier earlier-order sheets) in
         ap (option_map (λ (sheet : Sheet). sheet.number))
         (ap (λ (found : Option Sheet). best_so_far passes is_earlier found last) e
-        ∙ stays-first passes s last (All-contains (λ (sheet : Sheet). sheet.moment ≤ℤ last.moment) sheets s earlier chosen.among))
+        ∙ stays-first passes s last (All-contains (λ (sheet : Sheet). sheet.moment ≤ last.moment) sheets s earlier chosen.among))
         ∙ is
 
-pub settled_more : (sheets : List Sheet) (last : Sheet) (number : ℕ) (row : OrderRow) → All (λ (s : Sheet). s.moment ≤ℤ last.moment) sheets → is_settled sheets number row ≡ true → is_settled (sheets ++ last ∷ []) number row ≡ true
+pub settled_more : (sheets : List Sheet) (last : Sheet) (number : ℕ) (row : OrderRow) → All (λ (s : Sheet). s.moment ≤ last.moment) sheets → is_settled sheets number row ≡ true → is_settled (sheets ++ last ∷ []) number row ≡ true
 settled_more sheets last number row earlier settled = by (stands row) (sheet_number sheets row) refl settled
   where
     by : (on : Bool) (found : Option ℕ) → sheet_number sheets row ≡ found → (not on || option_map_or (λ own. nat_le own number) found false) ≡ true → (not on || option_map_or (λ own. nat_le own number) (sheet_number (sheets ++ last ∷ []) row) false) ≡ true
@@ -99,16 +98,16 @@ settled_more sheets last number row earlier settled = by (stands row) (sheet_num
 
 -- ---- what the last sheet takes of those that wait for it
 
-none-found : (sheets : List Sheet) (row : OrderRow) → waits sheets row ≡ true → next_sheet sheets (classes_in row.order.body) (pos row.receipt) ≡ None
-none-found sheets row waiting = by_found (next_sheet sheets (classes_in row.order.body) (pos row.receipt)) (and_parts (stands row) (is_none (sheet_number sheets row)) waiting).1
+none-found : (sheets : List Sheet) (row : OrderRow) → waits sheets row ≡ true → next_sheet sheets (classes_in row.order.body) row.receipt ≡ None
+none-found sheets row waiting = by_found (next_sheet sheets (classes_in row.order.body) row.receipt) (and_parts (stands row) (is_none (sheet_number sheets row)) waiting).1
   where
     by_found : (found : Option Sheet) → is_none (option_map (λ (sheet : Sheet). sheet.number) found) ≡ true → found ≡ None
     by_found None h = refl
     by_found (Some s) h = absurd (false≢true h)
 
-alone-next : (sheets : List Sheet) (last : Sheet) (row : OrderRow) → waits sheets row ≡ true → next_sheet (sheets ++ last ∷ []) (classes_in row.order.body) (pos row.receipt) ≡ cond (could_price last row) (Some last) None
+alone-next : (sheets : List Sheet) (last : Sheet) (row : OrderRow) → waits sheets row ≡ true → next_sheet (sheets ++ last ∷ []) (classes_in row.order.body) row.receipt ≡ cond (could_price last row) (Some last) None
 alone-next sheets last row waiting =
-    let passes = prices_order (classes_in row.order.body) (pos row.receipt) in
+    let passes = prices_order (classes_in row.order.body) row.receipt in
     fold-append (best_so_far passes is_earlier) None sheets (last ∷ [])
     ∙ ap (λ (found : Option Sheet). best_so_far passes is_earlier found last) (none-found sheets row waiting)
 

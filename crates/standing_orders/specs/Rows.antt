@@ -1,7 +1,7 @@
 -- The rows of a book of orders: whose they are, and which of them wait for a price.
 use Rattle.std.specs.List.{slice_get}
 use Rattle.std.specs.Option.{option_map_or}
-use Rattle.std.specs.Prelude.{Bool, List, Option, Some, false, is_none, map, nat_le, not, option_map, pos, true, ℕ, ◌&&◌, ◌==◌, ◌||◌, ◌≡◌}
+use Rattle.std.specs.Prelude.{Bool, List, Option, Some, false, is_none, map, nat_le, not, option_map, true, ℕ, ◌&&◌, ◌==◌, ◌||◌, ◌≡◌}
 use Rattle.agent_events.specs.declared.order.OrderRow.{OrderRow}
 use Rattle.agent_events.specs.declared.request.AccountForm.{AccountForm}
 use Rattle.forward_price.specs.PriceTables.{prices_order, sheet_numbered}
@@ -35,7 +35,7 @@ is_settled sheets number row =
 
 -- the sheet lists the classes of an order, and its moment is greater than the receipt
 abbrev pub could_price : Sheet → OrderRow → Bool
-could_price sheet row = prices_order (classes_in row.order.body) (pos row.receipt) sheet
+could_price sheet row = prices_order (classes_in row.order.body) row.receipt sheet
 
 -- the sheet of this number could price an order
 abbrev pub is_within : ℕ → List Sheet → OrderRow → Bool

@@ -1,6 +1,6 @@
 -- What keeps the households those of the rows, and every order that waits among the waiting places.
 use Rattle.std.specs.List.{slice_get}
-use Rattle.std.specs.Prelude.{All, Bool, List, Some, [], filter, length, map, pos, true, ℕ, ◌++◌, ◌∷◌, ◌≡◌, ◌≢◌, ◌≤ℤ◌}
+use Rattle.std.specs.Prelude.{All, Bool, List, Some, [], filter, length, map, true, ℕ, ◌++◌, ◌∷◌, ◌≡◌, ◌≢◌, ◌≤◌}
 use Rattle.agent_events.specs.declared.order.OrderRow.{OrderRow}
 use Rattle.agent_events.specs.declared.request.AccountForm.{AccountForm}
 use Rattle.forward_price.specs.PriceTables.{prices_order, sheet_numbered}
@@ -64,8 +64,8 @@ OthersLeave test rows places = HasEach test rows places → HasEach test rows (f
 -- no sheet before that prices the order has its number, or is later
 abbrev pub ComesLast : List Sheet → Sheet → OrderRow → Type 0
 ComesLast sheets last row =
-    All (λ sheet. prices_order (classes_in row.order.body) (pos row.receipt) sheet ≡ true
-    → (sheet.number ≢ last.number) × (sheet.moment ≤ℤ last.moment)) sheets
+    All (λ sheet. prices_order (classes_in row.order.body) row.receipt sheet ≡ true
+    → (sheet.number ≢ last.number) × (sheet.moment ≤ last.moment)) sheets
 
 -- has waited until then
 abbrev pub PricedAfterWaiting : List Sheet → Sheet → OrderRow → Type 0

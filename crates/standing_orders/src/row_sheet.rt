@@ -1,5 +1,5 @@
 //! Which sheet prices an order.
-ghost use Rattle.std.specs.Prelude.{◌≡◌, false, option_map, pos};
+ghost use Rattle.std.specs.Prelude.{◌≡◌, false, option_map};
 ghost use Rattle.std.specs.Option.{option_copied, option_map_or};
 ghost use Rattle.forward_price.specs.PriceTables.{next_sheet};
 ghost use Rattle.forward_price.specs.Sheets.{lists_all, lists_class};
@@ -23,9 +23,9 @@ pub(crate) fn sheet_number(prices: &PriceBook, row: &OrderRow) -> Option<u32>
 
 fn sheet_after(prices: &PriceBook, classes: &[u32], receipt: Moment) -> Option<u32>
     ensures { result ≡ option_map (λ sheet. sheet.number)
-        (next_sheet prices.now.table.sheets classes.now (pos receipt)) }
+        (next_sheet prices.now.table.sheets classes.now receipt) }
 {
-    prices.first_after(receipt.seconds(), classes)
+    prices.first_after(receipt, classes)
 }
 
 /// Whether an order stands and no sheet prices it.
@@ -89,7 +89,7 @@ fn is_within(sheet: Option<&Sheet>, row: &OrderRow) -> bool
 fn could_price(sheet: &Sheet, row: &OrderRow) -> bool
     ensures { result ≡ could_price sheet.now row.now }
 {
-    row.receipt.seconds() < sheet.moment && lists_classes(sheet, &row.order.body)
+    row.receipt < sheet.moment && lists_classes(sheet, &row.order.body)
 }
 
 fn lists_classes(sheet: &Sheet, body: &Body) -> bool

@@ -1,5 +1,5 @@
 -- The sheets of a lawful journal are dated near their moments: each is published on a pricing day of its calendar.
-use Rattle.std.proofs.Common.{All, Bool, Contains, List, None, Option, Some, [], ap, arith, cond, false, find, get_or, map, option_and_then, option_map, pos, refl, subst, suc, sym, true, unwrap_or, zero, ℕ, ◌==◌, ◌∙◌, ◌∷◌, ◌≡◌, ◌≤◌}
+use Rattle.std.proofs.Common.{All, Bool, Contains, List, None, Option, Some, [], ap, arith, cond, false, find, get_or, map, option_and_then, option_map, refl, subst, suc, sym, true, unwrap_or, zero, ℕ, ◌==◌, ◌∙◌, ◌∷◌, ◌≡◌, ◌≤◌}
 use Rattle.std.proofs.lemmas.Bool.{eqb-true}
 use Rattle.std.proofs.lemmas.Bool.Decides.{Decides-eqb}
 use Rattle.std.proofs.lemmas.List.Elements.{All-contains, All-head, All-map, All-nil, All-push, All-tail, filter_map-append}
@@ -13,7 +13,7 @@ use Rattle.forward_price.proofs.OrderlyFacts.{pair_calendar}
 use Rattle.forward_price.proofs.TurnFacts.{All-left, All-right, expected_best}
 use Rattle.forward_price.specs.Orderly.{IsOrderly}
 use Rattle.forward_price.specs.PriceTables.{Table, closed_in, sheet_published}
-use Rattle.forward_price.specs.Turns.{expected_of, moment_at, wrong_class}
+use Rattle.forward_price.specs.Turns.{expected_of, wrong_class}
 use Rattle.fund_calendar.specs.PricingDays.{Listing, date_at}
 use Rattle.fund_calendar.specs.declared.pricing_day.PricingDay.{PricingDay}
 use Rattle.holder_statements.specs.Periods.{IsSheetNear}
@@ -48,7 +48,7 @@ record IsFoundAt (days : List PricingDay) (moment : ℕ) : Type 0 where
   near : IsDayNear day
   at : day.moment ≡ moment
 
-found_at : (days : List PricingDay) (moment : ℕ) → All IsDayNear days → Contains (map moment_at days) (pos moment) → IsFoundAt days moment
+found_at : (days : List PricingDay) (moment : ℕ) → All IsDayNear days → Contains (map (λ (e : PricingDay). e.moment) days) moment → IsFoundAt days moment
 found_at [] moment near (k, short, is) = absurd (omega arith)
 found_at (x ∷ xs) moment near (zero, short, is) =
     let same : x.moment ≡ moment = cc in
@@ -75,14 +75,14 @@ found_at (x ∷ xs) moment near (suc k, short, is) =
       at = later.at;
     }
 
-sheet_near : (t : Table) (calendar moment : ℕ) (prices : List (ℕ × ℕ)) → IsOrderly t → expected_of t ≡ Some (pos moment, calendar) → AreDaysNear t.calendars → IsSheetNear (sheet_published t calendar (pos moment) prices)
+sheet_near : (t : Table) (calendar moment : ℕ) (prices : List (ℕ × ℕ)) → IsOrderly t → expected_of t ≡ Some (moment, calendar) → AreDaysNear t.calendars → IsSheetNear (sheet_published t calendar moment prices)
 sheet_near t calendar moment prices orderly expected near =
-    let best = expected_best t (pos moment, calendar) expected in
-    let known = pair_calendar t.calendars (pos moment, calendar) orderly.calendars_differ best.among in
+    let best = expected_best t (moment, calendar) expected in
+    let known = pair_calendar t.calendars (moment, calendar) orderly.calendars_differ best.among in
     let days = All-contains (λ (c : Listing). All IsDayNear c.days) t.calendars known.0 near known.2 in
     let here = found_at known.0.days moment days known.3 in
-    let day : (sheet_published t calendar (pos moment) prices).day ≡ here.day.day =
-    ap (λ o. unwrap_or (option_and_then (λ (c : Listing). date_at c (pos moment)) o) 0) known.1
+    let day : (sheet_published t calendar moment prices).day ≡ here.day.day =
+    ap (λ o. unwrap_or (option_and_then (λ (c : Listing). date_at c moment) o) 0) known.1
     ∙ ap (λ (o : Option PricingDay). unwrap_or (option_map (λ (e : PricingDay). e.day) o) 0) here.found in
     let at = here.at in
     let after = here.near.not_after in
@@ -105,11 +105,11 @@ near_kind journal now caller (EventKind.Class form) orderly clear timely near = 
 near_kind journal now caller (EventKind.Sheet form) orderly clear timely near =
     let situation = own_at journal now caller in
     let t = table_of journal in
-    let is = without-fault (expected_of (book_behind journal).table) (wrong_class t.classes form.calendar (pos form.moment) form.prices) form.calendar (pos form.moment) (pos now)
+    let is = without-fault (expected_of (book_behind journal).table) (wrong_class t.classes form.calendar form.moment form.prices) form.calendar form.moment now
     (not_broken situation (Request.Sheet form) clear Rule.SheetOutOfTurn) (not_broken situation (Request.Sheet form) clear Rule.SheetIncomplete) (not_broken situation (Request.Sheet form) clear Rule.TooSoon) in
     record {
       days = near.days;
-      sheets = All-push IsSheetNear t.sheets (sheet_published t form.calendar (pos form.moment) form.prices) near.sheets
+      sheets = All-push IsSheetNear t.sheets (sheet_published t form.calendar form.moment form.prices) near.sheets
           (sheet_near t form.calendar form.moment form.prices orderly (sym (expected-corrected journal t) ∙ is.0) near.days);
     }
 near_kind journal now caller kind orderly clear timely near = near

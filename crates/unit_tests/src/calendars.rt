@@ -2,6 +2,7 @@
 ghost use Rattle.std.specs.Prelude.{◌<◌};
 
 use fund_calendar::{Calendar, CalendarFault, Day, add_months, anniversaries, read_day};
+use money_units::Moment;
 use std::alloc::Global;
 use std::process::Abort;
 use std::test::Fail;
@@ -21,19 +22,30 @@ fn new_york(alloc: Global) -> Result<Calendar, Fail> {
 }
 
 // A receipt, and the moment at which an order with it is due.
-const DUE: [(i64, Option<i64>); 6] = [
+const DUE: [(u64, Option<u64>); 6] = [
     (1719863999, Some(1719864000)),
     (1719864000, Some(1719950400)),
     (1720036800, Some(1720209600)),
     (1730491200, Some(1730754000)),
-    (-1, Some(1704142800)),
+    (0, Some(1704142800)),
     (1798750800, None),
 ];
 
+// The seconds of the pricing moment behind a moment of so many seconds.
+fn due_after(calendar: &Calendar, receipt: u64) -> Option<u64> {
+    let next = calendar.next_after(Moment::new(receipt)?)?;
+    Some(next.seconds())
+}
+
+// The day that is priced at a moment of so many seconds.
+fn date_at(calendar: &Calendar, seconds: u64) -> Option<Day> {
+    calendar.date_of(Moment::new(seconds)?)
+}
+
 // The calendar's number, and the first receipt that is due at another moment, with this moment.
-fn number_and_other_due(calendar: &Calendar) -> (u32, Option<(i64, Option<i64>)>) {
+fn number_and_other_due(calendar: &Calendar) -> (u32, Option<(u64, Option<u64>)>) {
     for (receipt, moment) in DUE {
-        let found = calendar.next_after(receipt);
+        let found = due_after(calendar, receipt);
         if found != moment {
             return (calendar.number(), Some((receipt, found)));
         }
@@ -52,8 +64,8 @@ fn expect_moments(rt: &impl Abort, calendar: &Calendar) -> Result<(), Fail> {
     let friday = day("2024-07-05")?;
     let holiday = day("2024-07-04")?;
     let moments = (calendar.moment_of(friday), calendar.moment_of(holiday));
-    assert_eq!(rt; moments, (Some(1720209600), None));
-    let dates = (calendar.date_of(1720209600), calendar.date_of(1720209601));
+    assert_eq!(rt; moments, (Moment::new(1720209600), None));
+    let dates = (date_at(calendar, 1720209600), date_at(calendar, 1720209601));
     assert_eq!(rt; dates, (Some(friday), None));
     Ok(())
 }
@@ -68,7 +80,7 @@ fn expect_closure(rt: &impl Abort, calendar: &mut Calendar) -> Result<(), Fail> 
     let friday = day("2024-07-05")?;
     let closed = (calendar.close_day(friday), calendar.close_day(friday));
     assert_eq!(rt; closed, (true, false));
-    assert_eq!(rt; calendar.next_after(1720036800), Some(1720468800));
+    assert_eq!(rt; due_after(calendar, 1720036800), Some(1720468800));
     Ok(())
 }
 
@@ -107,10 +119,10 @@ fn next_at_midnight(
     alloc: Global,
     first: Day,
     last: Day,
-    receipt: i64,
-) -> Result<Option<i64>, Fail> {
+    receipt: u64,
+) -> Result<Option<u64>, Fail> {
     let calendar = Calendar::new(alloc, 1, "UTC0", 0, first, last, &[])?;
-    Ok(calendar.next_after(receipt))
+    Ok(due_after(&calendar, receipt))
 }
 
 #[test]

@@ -161,19 +161,25 @@ fn net_asset_values_have_a_range(rt: HostRuntime) -> Result<(), Fail> {
 
 #[test]
 fn moments_have_a_range(rt: HostRuntime) -> Result<(), Fail> {
-    let outside = [
-        Moment::new(-1),
-        Moment::new(7_258_118_400),
-        Moment::new(7_258_118_400),
-    ];
-    assert_eq!(rt; outside, [None, None, None]);
+    let outside = [Moment::new(7_258_118_400), Moment::new(u64::MAX)];
+    assert_eq!(rt; outside, [None, None]);
     let last = Moment::new(7_258_118_399).ok_or("the last")?;
-    let seconds = [last.seconds(), Moment::start().seconds()];
+    let moments = [
+        last,
+        Moment::start(),
+        last.earlier(1),
+        Moment::start().earlier(1),
+        Moment::start().later(3_600),
+        last.later(1),
+    ];
+    let mut seconds = [0; 6];
+    for (at, moment) in seconds.iter_mut().zip(moments) {
+        *at = moment.seconds();
+    }
     assert_eq!(rt;
-        (seconds, last.seconds()),
-        ([7_258_118_399, 0], 7_258_118_399)
+        seconds,
+        [7_258_118_399, 0, 7_258_118_398, 0, 3_600, 7_258_118_399]
     );
-    assert_eq!(rt; Moment::new(7_258_118_399), Some(last));
     Ok(())
 }
 

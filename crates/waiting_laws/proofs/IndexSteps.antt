@@ -1,5 +1,5 @@
 -- The index of a journal's orders, event by event.
-use Rattle.std.proofs.Common.{All, Bool, List, None, Option, Some, [], ap, append-nil, arith, cond, false, filter, get_or, inl, inr, length, map, option_map, option_to_list, pos, refl, slice_get, subst, suc, sym, true, zero, ℕ, ℤ, ◌&&◌, ◌++◌, ◌<◌, ◌==◌, ◌||◌, ◌∙◌, ◌∷◌, ◌≡◌, ◌≢◌, ◌≤◌, ◌⊎◌}
+use Rattle.std.proofs.Common.{All, Bool, List, None, Option, Some, [], ap, append-nil, arith, cond, false, filter, get_or, inl, inr, length, map, option_map, option_to_list, refl, slice_get, subst, suc, sym, true, zero, ℕ, ◌&&◌, ◌++◌, ◌<◌, ◌==◌, ◌||◌, ◌∙◌, ◌∷◌, ◌≡◌, ◌≢◌, ◌≤◌, ◌⊎◌}
 use Rattle.std.proofs.lemmas.Bool.{and_from, and_parts, eqb-true, true≢false}
 use Rattle.std.proofs.lemmas.List.{length-append, length-map}
 use Rattle.std.proofs.lemmas.List.Elements.{All-head, All-tail}
@@ -351,8 +351,8 @@ none-before sheets new row is =
     asked : List ℕ
     asked = classes_in row.order.body
 
-    receipt : ℤ
-    receipt = pos row.receipt
+    receipt : ℕ
+    receipt = row.receipt
 
     never : (b : Bool) (y : Sheet) → is_none (option_map (λ (s : Sheet). s.number) (cond b (Some new) (Some y))) ≡ true → ⊥
     never true y e = true≢false (sym e)

@@ -1,5 +1,5 @@
 -- The orders of a household that are settled stay so with an event more.
-use Rattle.std.proofs.Common.{All, Bool, List, None, Option, Some, [], ap, append-nil, arith, cond, false, inl, inr, length, map, option_map, pos, refl, slice_get, subst, suc, sym, true, zero, ℕ, ◌&&◌, ◌++◌, ◌<◌, ◌==◌, ◌∙◌, ◌∷◌, ◌≡◌, ◌≤ℤ◌, ◌≤◌, ◌||◌}
+use Rattle.std.proofs.Common.{All, Bool, List, None, Option, Some, [], ap, append-nil, arith, cond, false, inl, inr, length, map, option_map, refl, slice_get, subst, suc, sym, true, zero, ℕ, ◌&&◌, ◌++◌, ◌<◌, ◌==◌, ◌∙◌, ◌∷◌, ◌≡◌, ◌≤◌, ◌||◌}
 use Rattle.std.proofs.lemmas.Bool.{and_parts, le-leb, true≢false}
 use Rattle.std.proofs.lemmas.List.Elements.{All-contains}
 use Rattle.std.specs.List.{list_all, list_any}
@@ -90,7 +90,7 @@ module _ (book : Book) (household first number : ℕ) (settled : AreSettled book
       ∙ settled place row short there own
 
   -- with a sheet that isn't earlier than any before it
-  with-sheet : (last : Sheet) → All (λ (s : Sheet). s.moment ≤ℤ last.moment) book.table.sheets → AreSettled (record book { table = record book.table { sheets = book.table.sheets ++ last ∷ [] } }) household first number
+  with-sheet : (last : Sheet) → All (λ (s : Sheet). s.moment ≤ last.moment) book.table.sheets → AreSettled (record book { table = record book.table { sheets = book.table.sheets ++ last ∷ [] } }) household first number
   with-sheet last earlier place row short there own = settled_more book.table.sheets last number row earlier (settled place row short there own)
 
 -- ---- an account that is opened is that of no order
@@ -166,12 +166,12 @@ before-first to many place (other ∷ places) rises short =
 
 -- a sheet that prices an order is one of them
 number-within : (sheets : List Sheet) (row : OrderRow) (n : ℕ) → AreNumbered sheets → sheet_number sheets row ≡ Some n → n ≤ length sheets
-number-within sheets row n numbers has = by (next_sheet sheets (classes_in row.order.body) (pos row.receipt)) refl has
+number-within sheets row n numbers has = by (next_sheet sheets (classes_in row.order.body) row.receipt) refl has
   where
     passes : Sheet → Bool
-    passes = prices_order (classes_in row.order.body) (pos row.receipt)
+    passes = prices_order (classes_in row.order.body) row.receipt
 
-    by : (found : Option Sheet) → next_sheet sheets (classes_in row.order.body) (pos row.receipt) ≡ found → option_map (λ (sheet : Sheet). sheet.number) found ≡ Some n → n ≤ length sheets
+    by : (found : Option Sheet) → next_sheet sheets (classes_in row.order.body) row.receipt ≡ found → option_map (λ (sheet : Sheet). sheet.number) found ≡ Some n → n ≤ length sheets
     by None e is = absurd (none-some is)
     by (Some s) e is =
         let chosen : IsBest passes is_earlier sheets s = subst (IsChoice passes is_earlier sheets) e (best-choice passes is_earlier earlier-order sheets) in

@@ -1,4 +1,4 @@
-use Rattle.std.proofs.Common.{take, IfSome}
+use Rattle.std.proofs.Common.{take}
 use Rattle.forward_price.specs.Choices.{IsChoice}
 use Rattle.forward_price.specs.Turns.{is_awaited, is_sooner, pricing_pairs}
 use Rattle.forward_price.proofs.expecting.expected.Given as goal

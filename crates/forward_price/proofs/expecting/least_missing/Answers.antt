@@ -1,4 +1,4 @@
-use Rattle.std.proofs.Common.{nat_lt, fold, take, ap, ◌∙◌, None, arith}
+use Rattle.std.proofs.Common.{nat_lt, fold, ap, ◌∙◌, None, arith}
 use Rattle.std.proofs.lemmas.List.{take_all}
 use Rattle.forward_price.specs.Choices.{best_so_far}
 use Rattle.forward_price.specs.Turns.{is_wrong, class_numbers}

@@ -1,4 +1,4 @@
-use Rattle.std.proofs.Common.{sym, ◌∙◌, ap, take, drop, length, ◌-◌, rules}
+use Rattle.std.proofs.Common.{sym, ◌∙◌, ap}
 use Rattle.std.specs.Option.{option_copied}
 use Rattle.forward_price.specs.PriceTables.{sheet_before}
 use Rattle.forward_price.proofs.SearchFacts.{none_listed_before, before_from_last, rest_of}

@@ -1,6 +1,5 @@
-use Rattle.std.proofs.Common.{sym, ◌∙◌, ap, take, rules}
+use Rattle.std.proofs.Common.{sym, ◌∙◌, ap}
 use Rattle.std.specs.Option.{option_copied}
-use Rattle.forward_price.specs.PriceTables.{next_sheet}
 use Rattle.forward_price.proofs.SearchFacts.{none_listed_next, next_within}
 use Rattle.forward_price.proofs.in_order.next_behind.Goals as goal
 

@@ -1,4 +1,4 @@
-use Rattle.std.proofs.Common.{◌∙◌, ap, take, drop, length, ◌-◌}
+use Rattle.std.proofs.Common.{◌∙◌, ap}
 use Rattle.forward_price.specs.PriceTables.{next_sheet}
 use Rattle.forward_price.proofs.SearchFacts.{rest_of, next_from}
 use Rattle.forward_price.proofs.in_order.next_sheet.Goals as goal

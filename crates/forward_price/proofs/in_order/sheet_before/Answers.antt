@@ -1,5 +1,4 @@
-use Rattle.std.proofs.Common.{◌∙◌, ap, take}
-use Rattle.forward_price.specs.PriceTables.{sheet_before}
+use Rattle.std.proofs.Common.{◌∙◌}
 use Rattle.forward_price.proofs.SearchFacts.{before_within}
 use Rattle.forward_price.proofs.in_order.sheet_before.Goals as goal
 

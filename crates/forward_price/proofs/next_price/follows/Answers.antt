@@ -1,5 +1,4 @@
-use Rattle.std.proofs.Common.{sym, ◌∙◌, ap}
-use Rattle.std.specs.Prelude.{nat_le}
+use Rattle.std.proofs.Common.{sym, ◌∙◌}
 use Rattle.forward_price.proofs.SearchFacts.{last_is_most}
 use Rattle.forward_price.proofs.next_price.follows.Goals as goal
 

@@ -1,7 +1,6 @@
-use Rattle.std.proofs.Common.{fold, take, ap, ◌∙◌, None, arith}
+use Rattle.std.proofs.Common.{ap, ◌∙◌, arith}
 use Rattle.std.proofs.lemmas.List.{take_all}
-use Rattle.forward_price.specs.Choices.{best_so_far}
-use Rattle.forward_price.specs.PriceTables.{is_before, is_later, sheet_before}
+use Rattle.forward_price.specs.PriceTables.{sheet_before}
 use Rattle.forward_price.proofs.next_price.last_among.Goals as goal
 
 pub returns : goal.returns

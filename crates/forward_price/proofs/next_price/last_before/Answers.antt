@@ -1,5 +1,5 @@
 use Rattle.std.proofs.Common.{option_and_then, ap, ◌∙◌}
-use Rattle.forward_price.specs.PriceTables.{sheet_before, patched_nav}
+use Rattle.forward_price.specs.PriceTables.{patched_nav}
 use Rattle.forward_price.proofs.next_price.last_before.Goals as goal
 
 pub returns-in-Some : goal.returns-in-Some

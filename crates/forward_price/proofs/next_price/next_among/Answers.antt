@@ -1,7 +1,6 @@
-use Rattle.std.proofs.Common.{fold, take, ap, ◌∙◌, None, arith}
+use Rattle.std.proofs.Common.{ap, ◌∙◌, arith}
 use Rattle.std.proofs.lemmas.List.{take_all}
-use Rattle.forward_price.specs.Choices.{best_so_far}
-use Rattle.forward_price.specs.PriceTables.{prices_order, is_earlier, next_sheet}
+use Rattle.forward_price.specs.PriceTables.{next_sheet}
 use Rattle.forward_price.proofs.next_price.next_among.Goals as goal
 
 pub returns : goal.returns

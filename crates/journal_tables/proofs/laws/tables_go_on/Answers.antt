@@ -1,4 +1,4 @@
-use Rattle.journal_tables.proofs.EventTables.{accounts-on, few-accounts-on, few-terms-on, moments-on, rates-on, terms-on}
+use Rattle.journal_tables.proofs.EventTables.{accounts-on, few-accounts-on, few-terms-on, rates-on, terms-on}
 use Rattle.journal_tables.proofs.StandingTables.{stand-after}
 use Rattle.journal_tables.proofs.laws.tables_go_on.Goals as goal
 
@@ -10,5 +10,4 @@ returns c journal tables event are range = record {
   rates = rates-on journal tables event are;
   few_terms = few-terms-on journal tables event are;
   few_accounts = few-accounts-on journal tables event are;
-  moments = moments-on journal tables event are range;
 }

@@ -1,14 +1,9 @@
-use Rattle.std.proofs.Common.{None, arith, pos, subst, sym, to_z-of_z, w64, ◌≡◌}
-use Rattle.std.proofs.lemmas.Int.{fits_signed_from_abs}
-use Rattle.forward_price.specs.Turns.{wrong_class}
+use Rattle.std.proofs.Common.{refl}
 use Rattle.price_changes.proofs.Forms.{list_rises}
 use Rattle.price_changes.proofs.applying.publish.Goals as goal
 
 pub publish-number-requires-clause-complete : goal.publish-number-requires-clause-complete
-publish-number-requires-clause-complete c =
-    let at = to_z-of_z (fits_signed_from_abs w64 (pos c.args.form.now.moment) (omega (arith, c.seconds.ensures.most))) in
-    rw (c.number.ensures.value, c.seconds.ensures.value, c.as_slice.ensures.value)
-    (subst (λ moment. wrong_class c.args.prices.now.table.classes c.args.form.now.calendar moment c.args.form.now.prices ≡ None) (sym at) c.requires.fits.complete)
+publish-number-requires-clause-complete c = rw (c.number.ensures.value, c.as_slice.ensures.value) c.requires.fits.complete
 
 pub publish-number-requires-clause-rises : goal.publish-number-requires-clause-rises
 publish-number-requires-clause-rises c = list_rises c.as_slice.result.now c.as_slice.ensures.form

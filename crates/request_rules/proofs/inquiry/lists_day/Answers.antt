@@ -1,9 +1,9 @@
-use Rattle.std.proofs.Common.{pos, rules, ◌==◌}
+use Rattle.std.proofs.Common.{rules, ◌==◌}
 use Rattle.fund_calendar.specs.declared.pricing_day.PricingDay.{PricingDay}
 use Rattle.request_rules.proofs.LookUps.{found_any}
 use Rattle.request_rules.proofs.inquiry.lists_day.Goals as goal
 
 pub returns : goal.returns
 returns c =
-    rw (← found_any (λ (e : PricingDay). pos e.moment) (λ (e : PricingDay). e.day == c.args.day) c.args.listing.now.days)
+    rw (← found_any (λ (e : PricingDay). e.moment) (λ (e : PricingDay). e.day == c.args.day) c.args.listing.now.days)
     (search rules)

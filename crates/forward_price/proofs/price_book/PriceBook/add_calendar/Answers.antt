@@ -10,7 +10,7 @@ invariant_of-self c =
       room_empty = c.self.invariant.room_empty;
       list_fits = c.self.invariant.list_fits;
       sheet_fits = c.self.invariant.sheet_fits;
-      none_passed = none_passed _ _ _;
+      none_passed = rw c.start-self-inside.ensures (none_passed _ _ _);
       numbered = c.self.invariant.numbered;
       in_order = c.self.invariant.in_order;
     }

@@ -24,7 +24,7 @@ invariant_of-self c =
       room_empty = c.filled-prices.ensures.emptied;
       list_fits = omega arith;
       sheet_fits = λ none. absurd (omega arith);
-      none_passed = rw (c.second_before.ensures, c.push_reserved.ensures.items) (none_after_publish t (c.args.moment, c.args.calendar) _ expected);
+      none_passed = rw (c.earlier-self-inside.ensures, c.push_reserved.ensures.items) (none_after_publish t (c.args.moment, c.args.calendar) _ expected);
       numbered = rw c.push_reserved.ensures.items (numbered_more inside.sheets.items _ c.self.invariant.numbered (omega arith));
       in_order = λ on. rw c.push_reserved.ensures.items (falls_pushed inside.sheets.items _ (rw there at (c.stays_in_order-in_order.ensures.before on)) (rw there at (c.stays_in_order-in_order.ensures.last on)));
     }

@@ -11,7 +11,7 @@ returns-in-Some-clause-refused c =
     ∙ ap (λ classes. wrong_class classes c.args.calendar c.args.moment c.args.prices.now) classes in
     let fault : c.fault_of.result ≡ fault_of c.expected-expected.result c.wrong_class-wrong.result c.args.calendar c.args.moment c.args.now =
     c.fault_of.ensures
- in
+    in
     ap (λ e. fault_of e (wrong_class t.classes c.args.calendar c.args.moment c.args.prices.now) c.args.calendar c.args.moment c.args.now) (sym c.expected-expected.ensures.computed)
     ∙ ap (λ w. fault_of c.expected-expected.result w c.args.calendar c.args.moment c.args.now) (sym wrong)
     ∙ sym fault

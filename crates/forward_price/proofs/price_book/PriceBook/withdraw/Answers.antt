@@ -12,7 +12,7 @@ invariant_of-self c = record {
   room_empty = c.given_back-self-inside.ensures.emptied;
   list_fits = c.given_back-self-inside.ensures.fits;
   sheet_fits = λ some. grind (arith, common_steps);
-  none_passed = none_passed _ _ _;
+  none_passed = rw c.start-self-inside.ensures (none_passed _ _ _);
   numbered = rw c.in-Some.ensures.rest (numbered_less c.self.inside.sheets.items _ c.self.invariant.numbered);
   in_order = λ on. rw c.in-Some.ensures.rest (falls_taken _ c.self.inside.sheets.items (c.self.invariant.in_order on));
 }
@@ -24,7 +24,7 @@ invariant_of-self-in-None c = record {
   room_empty = c.self.invariant.room_empty;
   list_fits = c.self.invariant.list_fits;
   sheet_fits = λ some. omega arith;
-  none_passed = none_passed _ _ _;
+  none_passed = rw c.start-self-inside.ensures (none_passed _ _ _);
   numbered = rw c.pop.ensures.rest (numbered_less c.self.inside.sheets.items _ c.self.invariant.numbered);
   in_order = λ on. rw c.pop.ensures.rest (falls_taken _ c.self.inside.sheets.items (c.self.invariant.in_order on));
 }

@@ -1,13 +1,10 @@
-use Rattle.std.proofs.Common.{ap, subst, sym, to_z-of_z, ◌∙◌}
-use Rattle.fund_calendar.specs.PricingDays.{IsMoment}
+use Rattle.std.proofs.Common.{ap, ◌∙◌}
 use Rattle.forward_price.specs.PriceTables.{sheets_on_trial, price_before}
 use Rattle.household_fold.specs.Facts.{sheet_at_hand, sheets_known}
-use Rattle.household_fold.proofs.SheetFacts.{moment_fits}
 use Rattle.household_fold.proofs.facts.Facts.last_price.Goals as goal
 
 pub returns : goal.returns
 returns c =
-    let fits = moment_fits c.seconds.result (subst IsMoment (sym c.seconds.ensures) c.requires.moment) in
     c.last_before.ensures
-    ∙ ap (λ z. price_before (sheets_on_trial c.self.inside.patch c.self.inside.prices.now.table.sheets) c.args.class z) (to_z-of_z fits ∙ c.seconds.ensures)
+    ∙ ap (λ moment. price_before (sheets_on_trial c.self.inside.patch c.self.inside.prices.now.table.sheets) c.args.class moment) c.moment.ensures
     ∙ ap (λ known. price_before (sheets_known known) c.args.class (sheet_at_hand c.args.self.now).moment) c.self.view_is
