@@ -145,6 +145,6 @@ LawfulServesFixedRate journal tables event form sheet =
 
 abbrev pub LawfulServesNewSheet : Journal → Tables → Event → SheetForm → ℕ → Type 0
 LawfulServesNewSheet journal tables event form sheet =
-    IsLawful (with_event journal event) → event.kind ≡ EventKind.Sheet form → form.moment ≤ 7258118399
+    IsLawful (with_event journal event) → event.kind ≡ EventKind.Sheet form
     → AreTablesOf journal tables → IsSheetOf (with_event journal event) sheet
     → ServeFor (known_of (with_event journal event) tables sheet) (with_event journal event)

@@ -13,7 +13,7 @@ use Rattle.ledger_laws.proofs.PartLimits.{numbers_within}
 use Rattle.ledger_laws.proofs.ReplaysAsPart.{days-from, part-one-more}
 use Rattle.ledger_laws.specs.OwnedByAccounts.{SoundBooksLetReplay, SoundBooksLetStep, TablesStand}
 use Rattle.ledger_laws.specs.PartsByFacts.{AreFactsOf, orders_of_part, AreRowsOf}
-use Rattle.ledger_laws.specs.SoundBooks.{HaveTerms, IsDated, IsSoundBook, ListsItsClasses}
+use Rattle.ledger_laws.specs.SoundBooks.{HaveTerms, IsSoundBook, ListsItsClasses}
 use Rattle.register_laws.specs.Households.{part_of}
 use Rattle.register_machine.specs.pricing.CorrectedBook.{Book}
 use Rattle.register_machine.specs.replay.Positions.{Position, Register}
@@ -37,7 +37,6 @@ facts-fit known book sound facts have stand place d short =
     let at_hand = facts.at_hand place d short in
     record {
       sheet = sheet-there on place sheet at_hand (sound.orderly.numbered.each place d short);
-      moment = subst IsDated (sym at_hand) (sound.dated place d short);
       terms_there = λ class listed. have class (subst (ListsItsClasses book) (sym at_hand) (sound.sheets place d short) class listed);
       terms_rise = stand.terms_rise;
       accounts_rise = stand.accounts_rise;

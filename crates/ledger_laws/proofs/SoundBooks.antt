@@ -10,11 +10,11 @@ use Rattle.forward_price.specs.Orderly.{IsOrderly}
 use Rattle.forward_price.specs.PriceTables.{price_before}
 use Rattle.forward_price.specs.Turns.{is_offered_at, must_list, pairs_of, pricing_pair, pricing_pairs}
 use Rattle.forward_price.specs.declared.price_sheet.Opening.{Opening}
-use Rattle.fund_calendar.specs.PricingDays.{IsMoment, Listing}
+use Rattle.fund_calendar.specs.PricingDays.{Listing}
 use Rattle.household_fold.proofs.BookFacts.{class_found, household_found, rate_found}
 use Rattle.household_fold.specs.Facts.{Known, class_in_book, terms_numbered}
 use Rattle.class_terms.specs.declared.form.TermsForm.{TermsForm}
-use Rattle.ledger_laws.specs.SoundBooks.{HaveTerms, IsDated, LawfulHasASoundBook, ListsItsClasses, NamesItsClasses, TablesAgree}
+use Rattle.ledger_laws.specs.SoundBooks.{HaveTerms, LawfulHasASoundBook, ListsItsClasses, NamesItsClasses, TablesAgree}
 use Rattle.register_laws.proofs.NamesStand.{names_stand}
 use Rattle.register_laws.proofs.OrderlyBooks.{lawful_book_is_orderly}
 use Rattle.register_laws.proofs.TablesAreOrderly.{IsCalendar, classes-seen, kept, orderly_tables}
@@ -63,31 +63,11 @@ sheets-listed journal orderly k d short class lists =
     let sheet = get_or (book_behind journal).table.sheets k d in
     sym (classes-seen class journal) ∙ must-open (table_of journal).classes sheet.calendar sheet.moment class (sym (orderly.complete k d short class) ∙ lists)
 
--- ---- the moments of sheets
-
-days-dated : (c : Listing) → IsCalendar c → All (λ (pair : ℕ × ℕ). IsMoment pair.0) (pairs_of c)
-days-dated c is =
-    All-map (λ (pair : ℕ × ℕ). IsMoment pair.0) (pricing_pair c.number) c.days
-    (λ k d short. let low = is.listing.within k d short in (omega arith, omega (arith, low)))
-
-pairs-dated : (calendars : List Listing) → All IsCalendar calendars → All (λ (pair : ℕ × ℕ). IsMoment pair.0) (pricing_pairs calendars)
-pairs-dated [] are = All-nil (λ (pair : ℕ × ℕ). IsMoment pair.0)
-pairs-dated (c ∷ cs) are =
-    All-append (λ (pair : ℕ × ℕ). IsMoment pair.0) (pairs_of c) (pricing_pairs cs) (days-dated c (All-head IsCalendar c cs are)) (pairs-dated cs (All-tail IsCalendar c cs are))
-
-pub sheets-dated : (journal : Journal) → IsOrderly (book_behind journal).table → All IsCalendar (book_behind journal).table.calendars → All IsDated (book_behind journal).table.sheets
-sheets-dated journal orderly are k d short =
-    let table = (book_behind journal).table in
-    let sheet = get_or table.sheets k d in
-    All-contains (λ (pair : ℕ × ℕ). IsMoment pair.0) (pricing_pairs table.calendars) (sheet.moment, sheet.calendar)
-    (pairs-dated table.calendars are) (orderly.on_pricing_days k d short)
-
 pub has_a_sound_book : (journal : Journal) → LawfulHasASoundBook journal
 has_a_sound_book journal lawful = record {
   orderly = lawful_book_is_orderly journal lawful;
   orders = orders-named journal lawful;
   sheets = sheets-listed journal (orderly_tables journal lawful).corrected;
-  dated = sheets-dated journal (orderly_tables journal lawful).corrected (kept journal lawful).calendars;
 }
 
 -- ---- facts by their tables

@@ -18,7 +18,7 @@ use Rattle.agent_events.specs.declared.verdict.Caller.{Caller}
 use Rattle.forward_price.specs.Orderly.{IsOrderly}
 use Rattle.forward_price.specs.PriceTables.{Table}
 use Rattle.ledger_laws.proofs.OrdersAfter.{few-after, standing-after}
-use Rattle.ledger_laws.proofs.SoundBooks.{has_a_sound_book, sheets-dated, sheets-listed}
+use Rattle.ledger_laws.proofs.SoundBooks.{has_a_sound_book, sheets-listed}
 use Rattle.ledger_laws.specs.SoundBooks.{IsSoundBook}
 use Rattle.ledger_laws.specs.TrialBooks.{LawfulTrialIsSound}
 use Rattle.register_laws.proofs.BookOrders.{SaidAs, order_said}
@@ -193,16 +193,11 @@ module _ (journal : Journal) (event : Event) (caller : Caller) (lawful : IsLawfu
   tables-orderly =
       orderly-corrected (with_event journal event) (table_of (with_event journal event)) (subst IsOrderly (sym (same-table journal event corrects)) (kept journal lawful).orderly)
 
-  are-calendars : All IsCalendar (table_of (with_event journal event)).calendars
-  are-calendars =
-      subst (λ (table : Table). All IsCalendar table.calendars) (sym (same-table journal event corrects)) (kept journal lawful).calendars
-
   pub sound-trial : IsSoundBook (book_behind (with_event journal event))
   sound-trial = record {
     orderly = record { numbered = sheets_are_numbered (with_event journal event); elsewhere = leave-classes; few_orders = few-orders };
     orders = names-stand;
     sheets = sheets-listed (with_event journal event) tables-orderly;
-    dated = sheets-dated (with_event journal event) tables-orderly are-calendars;
   }
 
   pub trial-anew : book_of (book_behind journal).table (with_event journal event) ≡ book_behind (with_event journal event)

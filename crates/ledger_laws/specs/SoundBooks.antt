@@ -6,7 +6,6 @@ use Rattle.agent_events.specs.declared.order.OrderRow.{OrderRow}
 use Rattle.forward_price.specs.PriceTables.{AreNumbered}
 use Rattle.forward_price.specs.Sheets.{lists_class}
 use Rattle.forward_price.specs.declared.price_sheet.Sheet.{Sheet}
-use Rattle.fund_calendar.specs.PricingDays.{IsMoment}
 use Rattle.household_fold.specs.Facts.{Known, class_in_book, rate_numbered, row_numbered, sheets_known, terms_numbered}
 use Rattle.ledger_laws.specs.PartsByFacts.{AreFactsOf}
 use Rattle.register_laws.specs.Identities.{is_class}
@@ -33,16 +32,12 @@ NamesItsClasses book row = list_all (has_class_in book) (classes_in row.order.bo
 abbrev pub ListsItsClasses : Book → Sheet → Type 0
 ListsItsClasses book sheet = (class : ℕ) → lists_class sheet.prices class ≡ true → has_class_in book class ≡ true
 
-abbrev pub IsDated : Sheet → Type 0
-IsDated sheet = IsMoment sheet.moment
-
--- A book is sound: it is orderly, its standing orders and its sheets name classes of it, and its sheets have moments in range. The
--- book of a correction on trial can be sound before it is known whether its journal is lawful.
+-- A book is sound: it is orderly, and its standing orders and its sheets name classes of it. The book of a correction on
+-- trial can be sound before it is known whether its journal is lawful.
 pub record IsSoundBook (book : Book) : Type 0 where
   pub orderly : IsOrderly book
   pub orders : All (NamesItsClasses book) (filter stands book.orders)
   pub sheets : All (ListsItsClasses book) book.table.sheets
-  pub dated : All IsDated book.table.sheets
 
 -- That of a lawful journal is.
 abbrev pub LawfulHasASoundBook : Journal → Type 0

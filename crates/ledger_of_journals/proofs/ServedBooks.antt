@@ -97,10 +97,10 @@ tables-behind journal tables event kind is range are =
     (tables_go_on journal tables event are (subst IsInRange (sym is) range))
 
 pub new_sheet_served : (journal : Journal) (tables : Tables) (event : Event) (form : SheetForm) (sheet : ℕ) → NewSheetServed journal tables event form sheet
-new_sheet_served journal tables event form sheet lawful is range are last =
+new_sheet_served journal tables event form sheet lawful is are last =
     let later = with_event journal event in
     facts_behind_serve (known_of later tables sheet) later
-    (record { tables = tables-behind journal tables event (EventKind.Sheet form) is range are; sheets = refl; last = last })
+    (record { tables = tables-behind journal tables event (EventKind.Sheet form) is tt are; sheets = refl; last = last })
     (few-of-lawful later lawful)
 
 -- ---- corrections on trial

@@ -49,7 +49,7 @@ LawfulTablesServe journal tables sheet =
 -- A sheet published on trial leaves the tables as they are.
 abbrev pub NewSheetServed : Journal → Tables → Event → SheetForm → ℕ → Type 0
 NewSheetServed journal tables event form sheet =
-    IsLawful (with_event journal event) → event.kind ≡ EventKind.Sheet form → form.moment ≤ 7258118399
+    IsLawful (with_event journal event) → event.kind ≡ EventKind.Sheet form
     → AreTablesOf journal tables → IsLastSheet (with_event journal event) sheet
     → ServeLastSheet (known_of (with_event journal event) tables sheet) (book_behind (with_event journal event))
 

@@ -38,7 +38,6 @@ use Rattle.register_laws.proofs.Comparisons.{eq-no, eq-yes}
 use Rattle.register_laws.proofs.NothingBefore.{begins_anew, last-brought}
 use Rattle.register_laws.proofs.OneEventMore.{gathers-on}
 use Rattle.register_laws.proofs.SheetsClimb.{sheets_never_fall}
-use Rattle.register_laws.proofs.SheetsDated.{dated}
 use Rattle.register_laws.proofs.TablesAreOrderly.{numbered}
 use Rattle.register_laws.specs.Households.{own_orders, part_of}
 use Rattle.register_laws.specs.Lawful.{book_behind}
@@ -97,12 +96,10 @@ module _ (journal : Journal) (event : Event) (form : SheetForm) (lawful : IsLawf
       let sheets = (book_behind journal).table.sheets in
       let new = sheet_behind journal form in
       let rise : AllPairs (λ (sheet later : Sheet). sheet.moment ≤ later.moment) (sheets ++ new ∷ []) = subst (λ all. AllPairs (λ (sheet later : Sheet). sheet.moment ≤ later.moment) all) sheets-more (sheets_never_fall (with_event journal event) lawful) in
-      let at : (get_or sheets k d).moment ≡ (get_or sheets k d).moment = dated journal k d short in
       let low : get_or (sheets ++ new ∷ []) k d ≡ get_or sheets k d = get_or_append_left sheets (new ∷ []) d k short in
       let high : get_or (sheets ++ new ∷ []) (length sheets) d ≡ new = get_or_push sheets new d (length sheets) refl in
       let more : length sheets < length (sheets ++ new ∷ []) = (let all = length-append sheets (new ∷ []) in omega (arith, all)) in
-      let le : (get_or sheets k d).moment ≤ form.moment = subst (λ (s : Sheet). s.moment ≤ form.moment) low (subst (λ (s : Sheet). (get_or (sheets ++ new ∷ []) k d).moment ≤ s.moment) high (rise k (length sheets) d short more)) in
-      omega (arith, at, le)
+      subst (λ (s : Sheet). s.moment ≤ form.moment) low (subst (λ (s : Sheet). (get_or (sheets ++ new ∷ []) k d).moment ≤ s.moment) high (rise k (length sheets) d short more))
 
   another-number : (k : ℕ) (d : Sheet) → k < length (book_behind journal).table.sheets → (get_or (book_behind journal).table.sheets k d).number ≡ (sheet_behind journal form).number → ⊥
   another-number k d short alike =
@@ -161,7 +158,7 @@ module _ (books : DeskBooks) (number : ℕ) (event : Event) (on : IsOnTrial book
   served : ServeLastSheet (known_in books number) (book_behind (with_event books.book.journal event))
   served =
       subst (λ (table : Table). ServeLastSheet (known_with table) (book_behind (with_event books.book.journal event))) (sym on.prices)
-      (new_sheet_served books.book.journal books.tables event on.form number on.follows on.sheet on.moment on.tables (on.last ∙ ap (λ (t : Table). length t.sheets) on.prices))
+      (new_sheet_served books.book.journal books.tables event on.form number on.follows on.sheet on.tables (on.last ∙ ap (λ (t : Table). length t.sheets) on.prices))
 
   at-hand : sheet_at_hand (known_in books number) ≡ sheet_behind books.book.journal on.form
   at-hand =

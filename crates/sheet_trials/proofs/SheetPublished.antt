@@ -23,14 +23,13 @@ comes-next journal event form table lawful is same =
 abbrev with_prices : DeskBooks → Book → DeskBooks
 with_prices books prices = record { book = books.book; tables = books.tables; prices = prices; orders = books.orders; classes = books.classes; ledger = books.ledger; cash = books.cash; kept = books.kept }
 
-pub on-trial : (books : DeskBooks) (event : Event) (form : SheetForm) (room prices : Book) (number : ℕ) → AreBooksOf books.book.journal books → IsLawful (with_event books.book.journal event) → event.kind ≡ EventKind.Sheet form → form.moment ≤ 7258118399 → room.table ≡ books.prices.table → number ≡ length room.table.sheets + 1 → prices.table ≡ with_published room.table form.calendar form.moment form.prices → IsOnTrial (with_prices books prices) number event
-on-trial books event form room prices number are lawful is moment same counted there =
+pub on-trial : (books : DeskBooks) (event : Event) (form : SheetForm) (room prices : Book) (number : ℕ) → AreBooksOf books.book.journal books → IsLawful (with_event books.book.journal event) → event.kind ≡ EventKind.Sheet form → room.table ≡ books.prices.table → number ≡ length room.table.sheets + 1 → prices.table ≡ with_published room.table form.calendar form.moment form.prices → IsOnTrial (with_prices books prices) number event
+on-trial books event form room prices number are lawful is same counted there =
     let journal = books.book.journal in
     let brought : Table → Table = λ table. with_published table form.calendar form.moment form.prices in
     record {
       form = form;
       sheet = is;
-      moment = moment;
       follows = lawful;
       prices =
           there

@@ -29,7 +29,6 @@ known_in books number = record {
 pub record IsOnTrial (books : DeskBooks) (number : ℕ) (event : Event) : Type 0 where
   pub form : SheetForm
   pub sheet : event.kind ≡ EventKind.Sheet form
-  pub moment : form.moment ≤ 7258118399
   pub follows : IsLawful (with_event books.book.journal event)
   pub prices : books.prices.table ≡ corrected_table (with_event books.book.journal event)
   pub last : number ≡ length books.prices.table.sheets

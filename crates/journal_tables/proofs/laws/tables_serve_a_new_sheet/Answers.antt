@@ -6,7 +6,7 @@ use Rattle.journal_tables.specs.TablesOfJournals.{known_of}
 use Rattle.register_machine.specs.journal.Journals.{with_event}
 
 pub returns : goal.returns
-returns c journal tables event form sheet lawful is range are there =
+returns c journal tables event form sheet lawful is are there =
     let later = with_event journal event in
-    serve (known_of later tables sheet) later lawful (tables-behind journal tables event (EventKind.Sheet form) is range are) refl
+    serve (known_of later tables sheet) later lawful (tables-behind journal tables event (EventKind.Sheet form) is tt are) refl
     (numbered-there later sheet there) there

@@ -6,8 +6,8 @@ use Rattle.ledger_of_journals.proofs.fact_laws.tables_serve_the_book_behind_a_sh
 use Rattle.register_machine.specs.journal.Journals.{with_event}
 
 pub returns : goal.returns
-returns c journal tables event form sheet lawful is range are last =
+returns c journal tables event form sheet lawful is are last =
     let later = with_event journal event in
     facts_behind_serve (known_of later tables sheet) later
-    (record { tables = tables-behind journal tables event (EventKind.Sheet form) is range are; sheets = refl; last = last })
+    (record { tables = tables-behind journal tables event (EventKind.Sheet form) is tt are; sheets = refl; last = last })
     (few-of-lawful later lawful)
