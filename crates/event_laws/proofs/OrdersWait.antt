@@ -1,7 +1,6 @@
 -- A new order waits: it is on no sheet that was published before it. And an order that may be cancelled is on none.
 use Rattle.std.proofs.Common.{All, Contains, List, None, Option, Some, [], ap, arith, cond, false, get_or, length, map, option_map, option_to_list, refl, subst, sym, true, ℕ, ◌&&◌, ◌+◌, ◌==◌, ◌∙◌, ◌∷◌, ◌≡◌, ◌≤◌}
 use Rattle.std.proofs.lemmas.Bool.{and_from, and_parts, le-leb, or_parts, true≢false}
-use Rattle.std.proofs.lemmas.Bool.Decides.{Decides-eqb}
 use Rattle.std.proofs.lemmas.List.Elements.{All-contains, All-contains_itself, All-map, All-weaker}
 use Rattle.std.specs.List.{list_all, list_any}
 use Rattle.std.specs.Option.{option_map_or}
