@@ -13,7 +13,7 @@ use Rattle.correction_effects.specs.Reached.{AreReached}
 use Rattle.correction_effects.specs.declared.least.BrokenTrade.{BrokenTrade}
 use Rattle.correction_trials.proofs.BrokenOfAll.{part-left}
 use Rattle.correction_trials.proofs.ChangedClasses.{has_changed, numbers_rise}
-use Rattle.correction_trials.proofs.MovedDays.{differences-by-days}
+use Rattle.desk_books.proofs.ledger_of_journals.MovedDays.{differences-by-days}
 use Rattle.correction_trials.specs.Changed.{AreGainsOf, AreWithin, change_with}
 use Rattle.correction_trials.specs.Reopened.{AreReopened, IsTriedOver}
 use Rattle.desk_books.specs.LedgerChanges.{IsLedgerChange}

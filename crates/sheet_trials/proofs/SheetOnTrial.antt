@@ -51,7 +51,7 @@ use Rattle.register_machine.specs.pricing.CorrectedBook.{Book}
 use Rattle.register_machine.specs.pricing.CorrectedOrders.{orders_of}
 use Rattle.register_machine.specs.replay.Replay.{orders_on, priced_orders, replay}
 use Rattle.register_machine.specs.replay.Trades.{Day}
-use Rattle.sheet_trials.proofs.MovedDays.{differences-by-days}
+use Rattle.desk_books.proofs.ledger_of_journals.MovedDays.{differences-by-days}
 use Rattle.sheet_trials.proofs.QuietSheets.{reached-by-book}
 use Rattle.sheet_trials.specs.Reached.{IsReached, TakeOneStepEach}
 use Rattle.sheet_trials.specs.Trials.{IsOnTrial, known_in}

@@ -17,11 +17,11 @@ use Rattle.gain_loss_book.specs.Booked.{AreDifferences}
 use Rattle.gain_loss_book.specs.Flows.{net, no_flow}
 use Rattle.gain_loss_book.specs.Movements.{trades_mils}
 use Rattle.gain_loss_book.specs.declared.flows.Flow.{Flow}
-use Rattle.desk_books.proofs.ledger_laws.ClassTotals.{totals_by_differences}
-use Rattle.desk_books.proofs.ledger_of_journals.SumsOfMoves.{CoversMoves, IsAdditive, all-same, all-still, cash-additive, mils-additive, moves-sum, same-flows, with_move}
-use Rattle.desk_books.proofs.ledger_of_journals.SumsOverLedgers.{all-brought, joined, joined-distinct, not-joined, owners, owners-cover, owners-distinct}
-use Rattle.desk_books.specs.ledger_of_journals.LedgerTotals.{IsOfHouseholds}
-use Rattle.desk_books.specs.ledger_of_journals.Ledgers.{IsLedgerOf}
+use Rattle.ledger_laws.proofs.ClassTotals.{totals_by_differences}
+use Rattle.ledger_of_journals.proofs.SumsOfMoves.{CoversMoves, IsAdditive, all-same, all-still, cash-additive, mils-additive, moves-sum, same-flows, with_move}
+use Rattle.ledger_of_journals.proofs.SumsOverLedgers.{all-brought, joined, joined-distinct, not-joined, owners, owners-cover, owners-distinct}
+use Rattle.ledger_of_journals.specs.LedgerTotals.{IsOfHouseholds}
+use Rattle.ledger_of_journals.specs.Ledgers.{IsLedgerOf}
 use Rattle.register_laws.proofs.KnownAccounts.{known-replay}
 use Rattle.register_laws.specs.Households.{part_of}
 use Rattle.register_machine.specs.corrections.Cash.{outstanding}
