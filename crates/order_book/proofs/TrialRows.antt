@@ -22,7 +22,7 @@ after-by-row place rows (EventKind.Void form) = sym (append-nil (map (row_after 
 after-by-row place rows (EventKind.Replace form) = sym (append-nil (map (row_after (EventKind.Replace form)) rows))
 after-by-row place rows _ = sym (append-nil (map (λ (row : OrderRow). row) rows) ∙ mapped-whole rows)
 
-trial-by-row : (journal : Journal) (trial : Option Event) → TrialFits journal trial → orders_of (with_trial journal trial) ≡ map (row_on_trial trial) (orders_of journal) ++ option_to_list (row_begun (length journal) trial)
+pub trial-by-row : (journal : Journal) (trial : Option Event) → TrialFits journal trial → orders_of (with_trial journal trial) ≡ map (row_on_trial trial) (orders_of journal) ++ option_to_list (row_begun (length journal) trial)
 trial-by-row journal None fits = sym (append-nil (map (λ (row : OrderRow). row) (orders_of journal)) ∙ mapped-whole (orders_of journal))
 trial-by-row journal (Some event) fits = orders_go_on journal event fits.untouched ∙ after-by-row (length journal) (orders_of journal) event.kind
 
