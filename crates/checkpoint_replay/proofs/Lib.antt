@@ -14,6 +14,8 @@ mod ShareFacts
 pub mod ReopenedDay
 -- what two changes bring together
 mod JoinFacts
+-- what trades bring, summed over households, where one household is moved
+pub mod FlowsOfMoves
 -- the totals stay the sums over all trades
 mod TalliedLaw
 -- trades at the front that move the same change nothing

@@ -7,6 +7,7 @@ use Rattle.std.specs.Prelude.{◌-ℤ◌}
 use Rattle.agent_events.specs.declared.request.AccountForm.{AccountForm}
 use Rattle.agent_events.specs.declared.totals.Changes.{Changes}
 use Rattle.agent_events.specs.declared.trade.Trade.{Trade}
+use Rattle.checkpoint_replay.proofs.FlowsOfMoves.{IsAdditive, all-same, all-still, cash-additive, mils-additive, same-flows, with_move}
 use Rattle.checkpoint_replay.specs.Differences.{trades_cash}
 use Rattle.checkpoint_replay.specs.Moves.{day_if_moved, households_of}
 use Rattle.checkpoint_replay.specs.Parts.{Households, part_in}
@@ -20,7 +21,7 @@ use Rattle.gain_loss_book.specs.Flows.{net, no_flow}
 use Rattle.gain_loss_book.specs.Movements.{trades_mils}
 use Rattle.gain_loss_book.specs.declared.flows.Flow.{Flow}
 use Rattle.ledger_laws.proofs.ClassTotals.{totals_by_differences}
-use Rattle.ledger_of_journals.proofs.SumsOfMoves.{CoversMoves, IsAdditive, all-same, all-still, cash-additive, mils-additive, moves-sum, same-flows, with_move}
+use Rattle.ledger_of_journals.proofs.SumsOfMoves.{CoversMoves, moves-sum}
 use Rattle.ledger_of_journals.proofs.SumsOverLedgers.{ShowTrades, joined, joined-distinct, not-joined, one-sum, owners, owners-cover, owners-distinct, sum-of-all}
 use Rattle.ledger_of_journals.specs.LedgerTotals.{ChangesAreDifferences, IsOfAHousehold, IsOfHouseholds, LawfulIsOfHouseholds, MovesLedger, TalliedHasTotals}
 use Rattle.ledger_of_journals.specs.Ledgers.{IsLedgerOf}

@@ -7,6 +7,7 @@ use Rattle.std.specs.Prelude.{◌-ℤ◌}
 use Rattle.agent_events.specs.declared.request.AccountForm.{AccountForm}
 use Rattle.agent_events.specs.declared.totals.Changes.{Changes}
 use Rattle.agent_events.specs.declared.trade.Trade.{Trade}
+use Rattle.checkpoint_replay.proofs.FlowsOfMoves.{IsAdditive, all-same, all-still, cash-additive, mils-additive, same-flows, with_move}
 use Rattle.checkpoint_replay.specs.Differences.{AreChangesOf, trades_cash}
 use Rattle.checkpoint_replay.specs.Moves.{AreApart, day_if_moved, households_of, part_after}
 use Rattle.checkpoint_replay.specs.Parts.{part_in}
@@ -18,7 +19,7 @@ use Rattle.gain_loss_book.specs.Flows.{net, no_flow}
 use Rattle.gain_loss_book.specs.Movements.{trades_mils}
 use Rattle.gain_loss_book.specs.declared.flows.Flow.{Flow}
 use Rattle.ledger_laws.proofs.ClassTotals.{totals_by_differences}
-use Rattle.ledger_of_journals.proofs.SumsOfMoves.{CoversMoves, IsAdditive, all-same, all-still, cash-additive, mils-additive, moves-sum, same-flows, with_move}
+use Rattle.ledger_of_journals.proofs.SumsOfMoves.{CoversMoves, moves-sum}
 use Rattle.ledger_of_journals.proofs.SumsOverLedgers.{all-brought, joined, joined-distinct, not-joined, owners, owners-cover, owners-distinct}
 use Rattle.ledger_of_journals.specs.LedgerTotals.{IsOfHouseholds}
 use Rattle.ledger_of_journals.specs.Ledgers.{IsLedgerOf}

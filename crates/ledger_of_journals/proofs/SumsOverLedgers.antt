@@ -8,13 +8,13 @@ use Rattle.std.specs.List.{AllByRecursion, IsDistinct, list_any}
 use Rattle.std.specs.Option.{option_map_or}
 use Rattle.agent_events.specs.declared.request.AccountForm.{AccountForm}
 use Rattle.agent_events.specs.declared.trade.Trade.{Trade}
+use Rattle.checkpoint_replay.proofs.FlowsOfMoves.{IsAdditive, all-same, same-flows}
 use Rattle.checkpoint_replay.specs.Parts.{part_in}
 use Rattle.checkpoint_replay.specs.Tallied.{IsSumOver, flow_of_all}
 use Rattle.checkpoint_replay.specs.declared.part.HouseholdPart.{HouseholdPart}
 use Rattle.gain_loss_book.proofs.PostedFacts.{flow-in, flow-out}
 use Rattle.gain_loss_book.specs.Flows.{net, with_flow}
 use Rattle.gain_loss_book.specs.declared.flows.Flow.{Flow}
-use Rattle.ledger_of_journals.proofs.SumsOfMoves.{IsAdditive, all-same, same-flows}
 use Rattle.register_machine.specs.journal.Kinds.{household_of}
 use Rattle.register_machine.specs.replay.Trades.{Day}
 
