@@ -12,7 +12,7 @@ ghost use Rattle.register_machine.specs.pricing.OrderClasses.{class_of};
 
 use crate::credits::credit_of;
 use crate::facts::Facts;
-use crate::made_trades::{class_of, order_trade, plain_trade};
+use crate::made_trades::{class_number, order_trade, plain_trade};
 use crate::reads::{has_room, letter_of};
 use agent_events::{Amount, Order, Trade, TradeKind, Why};
 use class_terms::Bracket;
@@ -40,7 +40,7 @@ pub(crate) fn day_after_purchase(
     ensures within { OnOk result (AreLettersWithin day.new.register) }
 {
     let rate = rate_of_purchase(facts, day, order, gross);
-    let nav = facts.nav(class_of(&order.body));
+    let nav = facts.nav(class_number(&order.body));
     match buy_split(Cents(gross.cents()), nav, rate) {
         Some(split) => {
             day_by_split(alloc, facts, day, order, gross, &split)?;
@@ -62,7 +62,7 @@ fn rate_of_purchase(facts: &Facts, day: &HouseholdDay, order: &Order, gross: &Am
     ensures ceiling { result ≤ 850 }
 {
     let account = order.account.number();
-    let class = class_of(&order.body);
+    let class = class_number(&order.body);
     let terms = facts.terms_of(class);
     if has_one_rate(terms.front().as_slice()) {
         return bracket(terms, u128::from(gross.cents()));
@@ -114,7 +114,7 @@ fn day_by_split(
     ensures within { OnOk result (AreLettersWithin day.new.register) }
 {
     let account = order.account.number();
-    let class = class_of(&order.body);
+    let class = class_number(&order.body);
     if has_room(
         day.register(),
         account,
@@ -165,7 +165,7 @@ fn day_with_purchase(
     ensures within { OnOk result (AreLettersWithin day.new.register) }
 {
     let account = order.account.number();
-    let class = class_of(&order.body);
+    let class = class_number(&order.body);
     let letter = letter_of(day.register(), account, class);
     let trade = trade_of_purchase(facts, order, gross, split);
     let position = day.take_out(alloc, account, class)?;
@@ -265,7 +265,7 @@ fn day_after_reaching(
         ≡ day_after_reaching (sheet_at_hand facts.now) (position_in day.old order.now) day.old) }
 {
     let account = order.account.number();
-    let class = class_of(&order.body);
+    let class = class_number(&order.body);
     let trade = plain_trade(facts, account, class, TradeKind::LetterReached);
     let mut position = day.take_out(alloc, account, class)?;
     position.holding.release();
