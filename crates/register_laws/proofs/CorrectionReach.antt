@@ -1,8 +1,8 @@
 -- How far a correction reaches.
-use Rattle.std.proofs.Common.{All, Bool, List, None, Option, Some, [], ap, cond, false, filter, find, arith, fold, get_or, length, map, not, option_and_then, option_map, option_to_list, refl, subst, sym, take, true, ℕ, ◌&&◌, ◌<◌, ◌≤◌, ◌==◌, ◌∙◌, ◌∷◌, ◌≡◌}
+use Rattle.std.proofs.Common.{Bool, List, None, Option, Some, [], ap, cond, false, filter, find, arith, fold, get_or, length, map, not, option_and_then, option_map, option_to_list, refl, sym, take, true, ℕ, ◌&&◌, ◌<◌, ◌≤◌, ◌==◌, ◌∙◌, ◌∷◌, ◌≡◌}
 use Rattle.std.proofs.lemmas.Bool.{and_from, and_parts, and_right, eqb-true, ltb-true, ne_eqb, or_parts, true≢false}
 use Rattle.std.proofs.lemmas.List.{map-id, take-map}
-use Rattle.std.proofs.lemmas.List.Elements.{All-head, All-tail, All-take, All-weaker}
+use Rattle.std.proofs.lemmas.List.Elements.{All-weaker}
 use Rattle.std.proofs.lemmas.List.Folds.{list_any_at, map_fixed}
 use Rattle.std.specs.List.{list_any}
 use Rattle.std.specs.Option.{option_map_or}

@@ -1,17 +1,16 @@
 -- A correction of a price in a lawful journal is that of one sheet: a class has one sheet a moment, and sheets are numbered.
-use Rattle.std.proofs.Common.{Bool, List, None, Some, [], ap, arith, cond, false, get_or, inl, inr, nat_lt, length, map, negsuc, pos, refl, subst, suc, sym, true, ℕ, ◌&&◌, ◌+◌, ◌<◌, ◌==◌, ◌||◌, ◌∙◌, ◌∷◌, ◌≡◌, ◌≢◌, ◌≤◌, ◌⊎◌}
+use Rattle.std.proofs.Common.{Bool, List, None, Some, [], ap, arith, cond, false, get_or, inl, inr, nat_lt, length, map, refl, subst, suc, sym, true, ℕ, ◌&&◌, ◌+◌, ◌<◌, ◌==◌, ◌||◌, ◌∙◌, ◌∷◌, ◌≡◌, ◌≢◌, ◌≤◌, ◌⊎◌}
 use Rattle.std.proofs.lemmas.Bool.{and_parts, cases_lt, eq-eqb, eqb-true, true≢false}
-use Rattle.std.proofs.lemmas.List.Elements.{All-contains}
 use Rattle.std.specs.List.{list_any}
 use Rattle.std.specs.Option.{option_map_or}
-use Rattle.std.specs.Prelude.{AllPairs, nat_abs}
+use Rattle.std.specs.Prelude.{AllPairs}
 use Rattle.agent_events.specs.Events.{Event, request_of}
 use Rattle.agent_events.specs.Fields.{prices, within}
 use Rattle.agent_events.specs.declared.request.FixPriceForm.{FixPriceForm}
 use Rattle.agent_events.specs.declared.request.Request.{Request}
 use Rattle.forward_price.specs.PriceTables.{AreNumbered, Table, corrected_price, corrected_sheet, with_prices, with_sheets, with_correction}
 use Rattle.forward_price.specs.Sheets.{lists_class}
-use Rattle.forward_price.specs.Turns.{is_offered_at, must_list, pricing_pairs}
+use Rattle.forward_price.specs.Turns.{is_offered_at, must_list}
 use Rattle.forward_price.specs.declared.price_sheet.Opening.{Opening}
 use Rattle.forward_price.specs.declared.price_sheet.Sheet.{Sheet}
 use Rattle.register_laws.proofs.NothingBefore.{all-named, last-brought}

@@ -1,7 +1,7 @@
 -- The moments of a lawful journal's sheets never fall: a sheet has the least pricing moment that is awaited, and a class that is
 -- opened later awaits later ones alone. So what is published before a sheet isn't later than it.
 use Rattle.std.specs.Prelude.{AllPairs}
-use Rattle.std.proofs.Common.{All, Bool, List, None, Some, [], ap, append-nil, append_assoc, arith, cond, false, filter, find, get_or, inl, inr, nat_lt, is_some, length, map, not, option_map, pos, refl, subst, sym, take, true, ℕ, ◌&&◌, ◌++◌, ◌<◌, ◌==◌, ◌||◌, ◌∙◌, ◌∷◌, ◌≡◌, ◌≤◌}
+use Rattle.std.proofs.Common.{All, Bool, List, None, Some, [], ap, append-nil, append_assoc, arith, cond, false, filter, find, get_or, inl, inr, nat_lt, is_some, length, map, not, option_map, refl, subst, sym, take, true, ℕ, ◌&&◌, ◌++◌, ◌<◌, ◌==◌, ◌||◌, ◌∙◌, ◌∷◌, ◌≡◌, ◌≤◌}
 use Rattle.std.proofs.lemmas.Bool.{and_from, and_parts, eqb-true, or_cases, true≢false}
 use Rattle.std.proofs.lemmas.List.{get_or-map, get_or-take, length-map, length-take}
 use Rattle.std.proofs.lemmas.List.Elements.{All-append, All-contains, All-filter, All-map, All-nil, All-push, All-weaker}
