@@ -10,6 +10,7 @@ use Rattle.std.specs.Option.{option_or}
 use Rattle.std.specs.Prelude.{AllPairs, Decides}
 use Rattle.letter_of_intent.specs.declared.letter.Letter.{Letter}
 use Rattle.register_laws.proofs.Comparisons.{and-false, eq-yes, lt-no, same-twice, three-two}
+use Rattle.register_laws.proofs.ListParts.{found-within}
 use Rattle.register_laws.proofs.Sums.{found-is, sum-filtered, sum-found, sum-same, sum-three}
 use Rattle.register_laws.specs.ReplayKeeps.{AreInOrder}
 use Rattle.register_machine.specs.replay.Positions.{Position, Register, fresh_position, is_fresh, is_position, position_of, put, stands_before, unless_fresh}
@@ -267,18 +268,6 @@ put-all P p register here all =
 
 -- ---- what is found in a place
 
-kept-found : {X : Type 0} (p s : X → Bool) → ((x : X) → p x ≡ true → s x ≡ true) → (xs : List X) → find p (filter s xs) ≡ find p xs
-kept-found p s passes [] = refl
-kept-found p s passes (x ∷ xs) =
-    elim (s x) as (λ b. s x ≡ b → find p (cond b (x ∷ filter s xs) (filter s xs)) ≡ cond (p x) (Some x) (find p xs)) [
-      | true ↦ λ e. ap (cond (p x) (Some x)) (kept-found p s passes xs)
-      | false ↦ λ e.
-          elim (p x) as (λ b. p x ≡ b → find p (filter s xs) ≡ cond b (Some x) (find p xs)) [
-            | true ↦ λ t. absurd (true≢false (sym (passes x t) ∙ e))
-            | false ↦ λ t. kept-found p s passes xs
-          ] refl
-    ] refl
-
 lost-found : {X : Type 0} (p s : X → Bool) → ((x : X) → p x ≡ true → s x ≡ false) → (xs : List X) → find p (filter s xs) ≡ None
 lost-found p s fails [] = refl
 lost-found p s fails (x ∷ xs) =
@@ -317,12 +306,12 @@ looked_up-elsewhere p register a c away =
     by_order (Order.Same account class) =
         absurd (true≢false (sym (and_from (p.account == a) (p.class == c) (eq-yes p.account a (sym account)) (eq-yes p.class c (sym class))) ∙ away))
     by_order (Order.First early not_late) =
-        let left = kept-found (is_position a c) (λ other. stands_before other p) (λ x e. let is = same-place a c x e in rw (is.0, is.1) early) register in
+        let left = found-within (λ other. stands_before other p) (is_position a c) (λ x e. let is = same-place a c x e in rw (is.0, is.1) early) register in
         let right = lost-found (is_position a c) (λ other. stands_before p other) (λ x e. let is = same-place a c x e in rw (is.0, is.1) not_late) register in
         rw (left, none, right, option_or-none (find (is_position a c) register), option_or-none (find (is_position a c) register)) refl
     by_order (Order.Later not_early late) =
         let left = lost-found (is_position a c) (λ other. stands_before other p) (λ x e. let is = same-place a c x e in rw (is.0, is.1) not_early) register in
-        let right = kept-found (is_position a c) (λ other. stands_before p other) (λ x e. let is = same-place a c x e in rw (is.0, is.1) late) register in
+        let right = found-within (λ other. stands_before p other) (is_position a c) (λ x e. let is = same-place a c x e in rw (is.0, is.1) late) register in
         rw (left, none, right) refl
 
 -- a fresh position is what is found where there is none
