@@ -5,6 +5,7 @@ use Rattle.std.specs.List.{concat}
 use Rattle.std.proofs.lemmas.List.{drop-drop, length-take, take-append-drop}
 use Rattle.std.proofs.lemmas.List.Folds.{concat-append}
 use Rattle.std.proofs.Math.Seq.{take-add}
+use Rattle.agent_edge.proofs.TalkLemmas.{talk-nothing}
 use Rattle.agent_edge.specs.Links.{Links, after_read, after_talk, after_write}
 use Rattle.agent_edge.specs.declared.doors.LinkFault.{LinkFault}
 use Rattle.http_calls.specs.Calls.{ends, item_answer, item_key}
@@ -31,11 +32,6 @@ run-more operator stream opened left at texts more (Run.more between after mid n
 -- the texts of a run with one text more
 texts-more : (texts : List (List ℕ)) (text : List ℕ) → concat (texts ++ text ∷ []) ≡ concat texts ++ text
 texts-more texts text = concat-append texts (text ∷ []) ∙ ap (λ last. concat texts ++ last) (append-nil text)
-
--- the connections before anything was read or written
-links-none : (before : Option Links) → before ≡ option_map (after_talk 0 []) before
-links-none None = refl
-links-none (Some links) = ap (λ written. Some (record links { written = written })) (sym (append-nil links.written))
 
 read-none : (before : Option Links) → IfSome before (λ links. [] ≡ take 0 links.unread)
 read-none None = tt
@@ -85,7 +81,7 @@ read-all (Some links) mid came said first is end =
 -- before the first item
 pub serving-none : (operator : List ℕ) (opened : At) (before : Option Links) → IsServing operator opened before before (stream_of []) opened
 serving-none operator opened before =
-    record { came = []; texts = []; run = Run.none; read = read-none before; links = links-none before }
+    record { came = []; texts = []; run = Run.none; read = read-none before; links = talk-nothing before }
 
 -- the piece that was read next
 pub serving-piece : (operator : List ℕ) (opened : At) (before mid now : Option Links) (left : Stream) (at : At) (piece : List ℕ)

@@ -11,7 +11,7 @@ use Rattle.std.specs.Set.{is_member}
 use Rattle.agent_events.specs.declared.order.OrderRow.{OrderRow}
 use Rattle.agent_events.specs.declared.request.AccountForm.{AccountForm}
 use Rattle.correction_effects.specs.Naming.{AreNaming, is_naming, names_at, names_somewhere, names_standing}
-use Rattle.order_book.proofs.ChainWalk.{smaller, some-last}
+use Rattle.order_book.proofs.ChainWalk.{got-within, shifted, smaller, some-last}
 use Rattle.order_book.specs.LastPlaces.{last_place, last_place_from}
 use Rattle.register_laws.specs.CorrectionReach.{names_class}
 use Rattle.register_laws.specs.Households.{is_of_household, is_own_row, own_orders}
@@ -20,7 +20,6 @@ use Rattle.register_machine.specs.journal.Choices.{when}
 use Rattle.register_machine.specs.journal.Journals.{Journal}
 use Rattle.register_machine.specs.journal.Kinds.{accounts_of, household_of}
 use Rattle.register_machine.specs.pricing.CorrectedOrders.{orders_of, stands}
-use Rattle.standing_orders.proofs.OwnPlaces.{got-within, last-shifted}
 use Rattle.standing_orders.specs.ClassHouseholds.{AreNoted, ClassLists, is_listed, listed_under}
 use Rattle.standing_orders.specs.Rows.{AreOwners, is_owner}
 
@@ -32,7 +31,7 @@ naming-none class household [] owners none = refl
 naming-none class household (row ∷ rows) [] none = refl
 naming-none class household (row ∷ rows) (owner ∷ owners) none =
     by_found (last_place_from 0 (is_owner household) owners) refl (is_owner household owner) refl
-    (ap (λ (found : Option ℕ). option_or found (when (is_owner household owner) 0)) (sym (last-shifted (is_owner household) 0 owners)) ∙ none)
+    (ap (λ (found : Option ℕ). option_or found (when (is_owner household owner) 0)) (sym (shifted (is_owner household) 0 owners)) ∙ none)
     (naming-none class household rows owners)
   where
     by_found : (found : Option ℕ) → last_place_from 0 (is_owner household) owners ≡ found → (is : Bool) → is_owner household owner ≡ is → option_or (option_map suc found) (when is 0) ≡ None
@@ -54,7 +53,7 @@ naming-last class household [] owners n is = sym (none n)
 naming-last class household (row ∷ rows) [] n is = cc
 naming-last class household (row ∷ rows) (owner ∷ owners) n is =
     by_found (last_place_from 0 (is_owner household) owners) refl (is_owner household owner) refl
-    (ap (λ (found : Option ℕ). option_or found (when (is_owner household owner) 0)) (sym (last-shifted (is_owner household) 0 owners)) ∙ is)
+    (ap (λ (found : Option ℕ). option_or found (when (is_owner household owner) 0)) (sym (shifted (is_owner household) 0 owners)) ∙ is)
     (naming-last class household rows owners)
   where
     IsSplit : ℕ → Type 0

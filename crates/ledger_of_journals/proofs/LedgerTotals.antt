@@ -40,7 +40,7 @@ use Rattle.register_machine.specs.replay.Trades.{Day}
 
 -- ---- books
 
-owner-there : (found : Option AccountForm) → is_some found ≡ true → is_some (option_map (λ (form : AccountForm). form.household) found) ≡ true
+pub owner-there : (found : Option AccountForm) → is_some found ≡ true → is_some (option_map (λ (form : AccountForm). form.household) found) ≡ true
 owner-there None there = there
 owner-there (Some form) there = refl
 
@@ -53,7 +53,7 @@ is_of_households journal lawful = record {
       (filter stands (book_behind journal).orders) (known-rows journal lawful);
 }
 
-trades-owned : (book : Book) → IsOfHouseholds book → All (λ (trade : Trade). is_some (household_of book.accounts trade.account) ≡ true) (replay book).trades
+pub trades-owned : (book : Book) → IsOfHouseholds book → All (λ (trade : Trade). is_some (household_of book.accounts trade.account) ≡ true) (replay book).trades
 unfolding replay
 trades-owned book is =
     (known-replay book (λ number. is_some (household_of book.accounts number)) is.owned book.table.sheets).trades
@@ -104,7 +104,7 @@ moved-by flow additive before after parts new moves of other is =
     let moved = moves-sum flow additive parts all distinct moves is.apart covers (part_in parts) (all-still parts moves) in
     last ∙ (shown ∙ (moved ∙ ap (λ (z : ℤ). z +ℤ net (fold (with_move flow parts) no_flow moves)) (sym first)))
 
-difference : (before after change : ℤ) → after ≡ before +ℤ change → change ≡ after -ℤ before
+pub difference : (before after change : ℤ) → after ≡ before +ℤ change → change ≡ after -ℤ before
 difference before after change sum = omega (arith, ints, sum)
 
 pub are_differences : (changes : Changes) (before after : Book) (parts new : List (ℕ × HouseholdPart)) (moves : List HouseholdMove) → ChangesAreDifferences changes before after parts new moves

@@ -4,13 +4,13 @@ use Rattle.std.proofs.lemmas.Bool.{and_from, and_parts, cases_lt, eqb-true, or_f
 use Rattle.std.proofs.lemmas.Bool.Decides.{Decides-and, Decides-eqb, Decides-ltb, Decides-or}
 use Rattle.std.proofs.lemmas.List.Elements.{All-append, All-cons, All-filter, All-head, All-nil, All-tail, filter-append, filter_passes}
 use Rattle.std.proofs.lemmas.List.Folds.{find-append}
-use Rattle.std.proofs.lemmas.List.Kept.{AllPairs-cons, AllPairs-filter}
+use Rattle.std.proofs.lemmas.List.Kept.{AllPairs-filter}
 use Rattle.std.proofs.lemmas.List.Sums.{sum_by-append, sum_by-cons}
 use Rattle.std.specs.Option.{option_or}
 use Rattle.std.specs.Prelude.{AllPairs, Decides}
 use Rattle.letter_of_intent.specs.declared.letter.Letter.{Letter}
 use Rattle.register_laws.proofs.Comparisons.{and-false, eq-yes, lt-no, same-twice, three-two}
-use Rattle.register_laws.proofs.ListParts.{found-within}
+use Rattle.register_laws.proofs.ListParts.{found-within, pairs-append}
 use Rattle.register_laws.proofs.Sums.{found-is, sum-filtered, sum-found, sum-same, sum-three}
 use Rattle.register_laws.specs.ReplayKeeps.{AreInOrder}
 use Rattle.register_machine.specs.replay.Positions.{Position, Register, fresh_position, is_fresh, is_position, position_of, put, stands_before, unless_fresh}
@@ -189,13 +189,6 @@ order-of p q = elim (cases_lt p.account q.account) [
 
     later : Before q p → Order p q
     later h = let is = (before-tells q p).1 h in Order.Later (not-both q p is) is
-
-pairs-append : {X : Type 0} (R : X → X → Type 0) (xs ys : List X) → AllPairs R xs → AllPairs R ys → All (λ x. All (R x) ys) xs → AllPairs R (xs ++ ys)
-pairs-append R [] ys left right across = right
-pairs-append R (x ∷ xs) ys left right across =
-    AllPairs-cons R x (xs ++ ys)
-    (All-append (R x) xs ys (AllPairs-head R x xs left) (All-head (λ x. All (R x) ys) x xs across))
-    (pairs-append R xs ys (AllPairs-tail R x xs left) right (All-tail (λ x. All (R x) ys) x xs across))
 
 -- a register in order stays so
 pub put-in_order : (p : Position) (register : Register) → AreInOrder register → AreInOrder (put p register)

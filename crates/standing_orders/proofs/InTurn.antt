@@ -47,10 +47,10 @@ sorted-first n x xs sorted k d short = sorted 0 k d (omega arith) short
 no-cons : {X : Type 0} {x : X} {xs : List X} → x ∷ xs ≡ [] → ⊥
 no-cons e = cc
 
-head-same : {X : Type 0} {x y : X} {xs ys : List X} → x ∷ xs ≡ y ∷ ys → x ≡ y
+pub head-same : {X : Type 0} {x y : X} {xs ys : List X} → x ∷ xs ≡ y ∷ ys → x ≡ y
 head-same e = cc
 
-tail-same : {X : Type 0} {x y : X} {xs ys : List X} → x ∷ xs ≡ y ∷ ys → xs ≡ ys
+pub tail-same : {X : Type 0} {x y : X} {xs ys : List X} → x ∷ xs ≡ y ∷ ys → xs ≡ ys
 tail-same e = cc
 
 at-own : {X : Type 0} (n : X → ℕ) (x : X) (xs : List X) → filter (λ y. n y == n x) (x ∷ xs) ≡ x ∷ filter (λ y. n y == n x) xs

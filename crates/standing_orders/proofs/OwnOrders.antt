@@ -90,7 +90,7 @@ account-struck named row = elim (is_named named.0 named.1 row.order) as (λ b. (
   | false ↦ refl
 ]
 
-account-replaced : (form : EntryForm) (row : OrderRow) → (replaced_by form row).order.account ≡ row.order.account
+pub account-replaced : (form : EntryForm) (row : OrderRow) → (replaced_by form row).order.account ≡ row.order.account
 account-replaced form row = elim (replaces row.order form) as (λ b. replaces row.order form ≡ b → (cond b (let r : OrderRow = record { place = row.place; receipt = form.receipt; struck = row.struck; order = form.order } in r) row).order.account ≡ row.order.account) [
   | true ↦ λ t. eqb-true form.order.account row.order.account (and_parts (form.order.account == row.order.account) (form.order.ref_no == row.order.ref_no) t).0
   | false ↦ λ t. refl
