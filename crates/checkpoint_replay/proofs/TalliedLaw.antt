@@ -26,7 +26,7 @@ use Rattle.std.specs.List.{AllByRecursion, IsDistinct, list_any}
 
 -- ---- a household is moved
 
-none-apart : (moved : ℕ) (households : List ℕ) → list_any (nat_eq moved) households ≡ false → AllByRecursion (λ other. nat_eq moved other ≡ false) households
+pub none-apart : (moved : ℕ) (households : List ℕ) → list_any (nat_eq moved) households ≡ false → AllByRecursion (λ other. nat_eq moved other ≡ false) households
 none-apart moved [] none = tt
 none-apart moved (h ∷ hs) none = by_first (nat_eq moved h) refl none (λ rest. none-apart moved hs rest)
   where

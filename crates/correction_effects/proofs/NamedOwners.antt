@@ -4,6 +4,7 @@ use Rattle.std.proofs.lemmas.Bool.{and_parts, eqb-true}
 use Rattle.std.proofs.lemmas.Bool.Decides.{Decides-eqb}
 use Rattle.std.proofs.lemmas.Cmp.{nat_eq_equiv}
 use Rattle.std.proofs.lemmas.Map.Made.{is_member-Decides, is_member-filter}
+use Rattle.std.proofs.Math.Seq.{take-length}
 use Rattle.std.specs.List.{list_any, slice_get}
 use Rattle.std.specs.Option.{option_map_or, option_or}
 use Rattle.std.specs.Prelude.{nat_eq, option_map}
@@ -97,10 +98,6 @@ pub record HasPassed (class household : ℕ) (rows : List OrderRow) (owners : Li
   pub last : at ≡ last_place (is_owner household) (take bound owners)
   pub rest : is_naming class rows owners household ≡ is_naming class (take bound rows) (take bound owners) household
 
-whole : {X : Type 0} (ys : List X) → take (length ys) ys ≡ ys
-whole [] = refl
-whole (y ∷ ys) = ap (λ later. y ∷ later) (whole ys)
-
 short-of-owners : (class household : ℕ) (rows : List OrderRow) (owners : List ℕ) → is_naming class rows owners household ≡ is_naming class (take (length owners) rows) owners household
 short-of-owners class household [] owners = none owners
   where
@@ -114,10 +111,10 @@ short-of-owners class household (row ∷ rows) (owner ∷ owners) =
 pub begins-passing : (class household : ℕ) (rows : List OrderRow) (owners : List ℕ) (at : Option ℕ) → at ≡ last_place (is_owner household) owners → HasPassed class household rows owners at
 begins-passing class household rows owners at is = record {
   bound = length owners;
-  last = is ∙ ap (last_place (is_owner household)) (sym (whole owners));
+  last = is ∙ ap (last_place (is_owner household)) (sym (take-length owners));
   rest =
       short-of-owners class household rows owners
-      ∙ ap (λ own. is_naming class (take (length owners) rows) own household) (sym (whole owners));
+      ∙ ap (λ own. is_naming class (take (length owners) rows) own household) (sym (take-length owners));
 }
 
 got-before : {X : Type 0} (bound : ℕ) (xs : List X) (n : ℕ) → n < bound → slice_get (take bound xs) n ≡ slice_get xs n

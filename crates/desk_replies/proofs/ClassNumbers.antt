@@ -9,6 +9,7 @@ use Rattle.std.specs.List.{cons_option, list_any}
 use Rattle.class_terms.specs.declared.form.TermsForm.{TermsForm}
 use Rattle.agent_events.specs.declared.request.ClassForm.{ClassForm}
 use Rattle.desk_looks.proofs.ClassesListed.{any-rising, numbers-rise}
+use Rattle.desk_looks.proofs.HoldingFacts.{or-second}
 use Rattle.desk_looks.specs.Holdings.{AreRising}
 use Rattle.desk_replies.specs.GatheredNumbers.{class_number}
 use Rattle.fund_calendar.proofs.LookUpLemmas.{find_passes, list_any-find}
@@ -32,10 +33,6 @@ turned-test a b = grind (arith, nat_tests)
 greater-apart : (a b : ℕ) → a < b → nat_eq b a ≡ false
 greater-apart a b = grind (arith, nat_tests)
 
-or-later : (a b : Bool) → (a || b) ≡ true → a ≡ false → b ≡ true
-or-later true b e away = absurd (true≢false away)
-or-later false b e away = e
-
 or-behind : (a b : Bool) → b ≡ true → (a || b) ≡ true
 or-behind true b e = refl
 or-behind false b e = e
@@ -51,7 +48,7 @@ pub any-holds : (P : ℕ → Type 0) (q : ℕ) (ns : List ℕ) → All P ns → 
 any-holds P q [] all is = absurd (true≢false (sym is))
 any-holds P q (n ∷ ns) all is = elim (eqb_tells q n) [
   | inl (here, same) ↦ subst P (sym same) (All-head P n ns all)
-  | inr (away, differs) ↦ any-holds P q ns (All-tail P n ns all) (or-later (nat_eq q n) (list_any (nat_eq q) ns) is away)
+  | inr (away, differs) ↦ any-holds P q ns (All-tail P n ns all) (or-second (nat_eq q n) (list_any (nat_eq q) ns) is away)
 ]
 
 -- ---- rising numbers are told by what is among them
@@ -60,7 +57,7 @@ any-holds P q (n ∷ ns) all is = elim (eqb_tells q n) [
 least : (q n : ℕ) (ns : List ℕ) → AreRising (n ∷ ns) → list_any (nat_eq q) (n ∷ ns) ≡ true → (n < q) ⊎ (q ≡ n)
 least q n ns up is = elim (eqb_tells q n) [
   | inl (here, same) ↦ inr same
-  | inr (away, differs) ↦ inl (any-holds (λ m. n < m) q ns (AllPairs-head (λ a b. a < b) n ns up) (or-later (nat_eq q n) (list_any (nat_eq q) ns) is away))
+  | inr (away, differs) ↦ inl (any-holds (λ m. n < m) q ns (AllPairs-head (λ a b. a < b) n ns up) (or-second (nat_eq q n) (list_any (nat_eq q) ns) is away))
 ]
 
 first-same : (n m : ℕ) → (n < m) ⊎ (m ≡ n) → (m < n) ⊎ (n ≡ m) → n ≡ m
@@ -72,7 +69,7 @@ first-same n m (inr e) b = sym e
 behind-too : (n m : ℕ) (ns ms : List ℕ) → n ≡ m → AreRising (n ∷ ns) → ((q : ℕ) → list_any (nat_eq q) (n ∷ ns) ≡ true → list_any (nat_eq q) (m ∷ ms) ≡ true) → (q : ℕ) → list_any (nat_eq q) ns ≡ true → list_any (nat_eq q) ms ≡ true
 behind-too n m ns ms same up there q is =
     let higher : n < q = any-holds (λ k. n < k) q ns (AllPairs-head (λ a b. a < b) n ns up) is in
-    or-later (nat_eq q m) (list_any (nat_eq q) ms) (there q (or-behind (nat_eq q n) (list_any (nat_eq q) ns) is))
+    or-second (nat_eq q m) (list_any (nat_eq q) ms) (there q (or-behind (nat_eq q n) (list_any (nat_eq q) ns) is))
     (greater-apart m q (omega (arith, higher, same)))
 
 first-in : (n : ℕ) (ns : List ℕ) → list_any (nat_eq n) (n ∷ ns) ≡ true

@@ -47,7 +47,7 @@ pairs-back S f (x ∷ xs) pairs =
 
 -- ---- orders by their names
 
-few-none : {X : Type 0} (named : X → Bool) (xs : List X) → length (filter named xs) ≤ 0 → list_any named xs ≡ false
+pub few-none : {X : Type 0} (named : X → Bool) (xs : List X) → length (filter named xs) ≤ 0 → list_any named xs ≡ false
 few-none named [] few = refl
 few-none {X = X} named (x ∷ xs) few = by (named x) few (few-none named xs)
   where
@@ -55,7 +55,7 @@ few-none {X = X} named (x ∷ xs) few = by (named x) few (few-none named xs)
     by true few later = absurd (omega (arith, few))
     by false few later = later few
 
-found-itself : {X : Type 0} (named : X → Bool) (xs : List X) (x : X) → Contains xs x → named x ≡ true → length (filter named xs) ≤ 1 → find named xs ≡ Some x
+pub found-itself : {X : Type 0} (named : X → Bool) (xs : List X) (x : X) → Contains xs x → named x ≡ true → length (filter named xs) ≤ 1 → find named xs ≡ Some x
 found-itself named [] x (k, short, is) on few = absurd (omega (arith, short))
 found-itself {X = X} named (y ∷ ys) x (zero, short, is) on few = ap (λ b. cond b (Some y) (find named ys)) (ap named is ∙ on) ∙ ap Some is
 found-itself {X = X} named (y ∷ ys) x (suc k, short, is) on few =

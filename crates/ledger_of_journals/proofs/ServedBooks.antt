@@ -123,7 +123,7 @@ table-on-trial journal event kind is by =
     ap (λ (book : Book). book.table) is.goes_on
     ∙ ap (corrected_table_by (book_behind journal).table event.moment) by
 
-order-table : (table : Table) (moment : ℕ) (kind : EventKind) → is_some (order_changed kind) ≡ true → corrected_table_by table moment kind ≡ table
+pub order-table : (table : Table) (moment : ℕ) (kind : EventKind) → is_some (order_changed kind) ≡ true → corrected_table_by table moment kind ≡ table
 order-table table moment (EventKind.Order placed) changes = refl
 order-table table moment (EventKind.Enter form) changes = refl
 order-table table moment (EventKind.Replace form) changes = refl

@@ -273,7 +273,7 @@ lost-found p s fails (x ∷ xs) =
       | false ↦ λ e. lost-found p s fails xs
     ] refl
 
-option_or-none : {X : Type 0} (found : Option X) → option_or found None ≡ found
+pub option_or-none : {X : Type 0} (found : Option X) → option_or found None ≡ found
 option_or-none None = refl
 option_or-none (Some x) = refl
 

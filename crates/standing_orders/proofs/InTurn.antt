@@ -13,12 +13,6 @@ use Rattle.register_machine.specs.replay.Replay.{all_in_turn, in_turn}
 
 -- ---- filters
 
-pub filter-alike : {X : Type 0} (p q : X → Bool) → ((x : X) → p x ≡ q x) → (xs : List X) → filter p xs ≡ filter q xs
-filter-alike p q alike [] = refl
-filter-alike p q alike (x ∷ xs) =
-    ap (λ is. cond is (x ∷ filter p xs) (filter p xs)) (alike x)
-    ∙ ap (λ rest. cond (q x) (x ∷ rest) rest) (filter-alike p q alike xs)
-
 -- what passes neither
 filter-apart : {X : Type 0} (p q : X → Bool) → ((x : X) → q x ≡ true → p x ≡ false) → (xs : List X) → filter q (filter p xs) ≡ []
 filter-apart p q apart [] = refl

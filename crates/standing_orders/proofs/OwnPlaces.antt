@@ -3,6 +3,7 @@ use Rattle.std.proofs.Common.{All, Bool, List, None, Option, Some, [], ap, appen
 use Rattle.std.proofs.lemmas.Bool.{eqb-true, leb-false, lt-leb}
 use Rattle.std.proofs.lemmas.List.Elements.{All-cons, All-nil, All-push, All-weaker, filter-append}
 use Rattle.std.proofs.lemmas.List.{map-append, reverse-append}
+use Rattle.std.proofs.Math.Seq.{take-length}
 use Rattle.std.specs.List.{slice_get}
 use Rattle.std.specs.Option.{option_map_or, option_or}
 use Rattle.std.specs.Prelude.{option_map}
@@ -117,15 +118,11 @@ pub record HasWalked (first : ℕ) (household_test : ℕ → Bool) (owners place
   pub last : at ≡ unless_before first (last_place household_test (take bound owners))
   pub rest : not_before first (places_where household_test owners) ≡ not_before first (places_where household_test (take bound owners)) ++ reverse places
 
-whole : {X : Type 0} (ys : List X) → take (length ys) ys ≡ ys
-whole [] = refl
-whole (y ∷ ys) = ap (λ later. y ∷ later) (whole ys)
-
 pub begins-walk : (first : ℕ) (test : ℕ → Bool) (owners : List ℕ) (at : Option ℕ) → at ≡ unless_before first (last_place test owners) → HasWalked first test owners [] at
 begins-walk first test owners at is = record {
   bound = length owners;
-  last = is ∙ ap (λ all. unless_before first (last_place test all)) (sym (whole owners));
-  rest = ap (λ all. not_before first (places_where test all)) (sym (whole owners)) ∙ sym (append-nil (not_before first (places_where test (take (length owners) owners))));
+  last = is ∙ ap (λ all. unless_before first (last_place test all)) (sym (take-length owners));
+  rest = ap (λ all. not_before first (places_where test all)) (sym (take-length owners)) ∙ sym (append-nil (not_before first (places_where test (take (length owners) owners))));
 }
 
 pub ends-walk : (first : ℕ) (test : ℕ → Bool) (owners places : List ℕ) → HasWalked first test owners places None → reverse places ≡ not_before first (places_where test owners)

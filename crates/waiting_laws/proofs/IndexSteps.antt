@@ -53,7 +53,7 @@ pub record Keeps (accounts : List AccountForm) (sheets : List Sheet) (rows : Lis
 none-some : {X : Type 0} {x : X} → None ≡ Some x → ⊥
 none-some e = cc
 
-some-same : {X : Type 0} {x y : X} → Some x ≡ Some y → x ≡ y
+pub some-same : {X : Type 0} {x y : X} → Some x ≡ Some y → x ≡ y
 some-same e = cc
 
 -- ---- an event behind a lawful journal
@@ -358,7 +358,7 @@ waited-before sheets new row is =
     and_from (stands row) (is_none (sheet_number sheets row)) both.0 (none-before sheets new row both.1)
 
 -- a sheet behind the others is found by its number
-last-found : (p : Sheet → Bool) (sheets : List Sheet) (new : Sheet) → All (λ (s : Sheet). p s ≡ false) sheets → p new ≡ true → find p (sheets ++ new ∷ []) ≡ Some new
+pub last-found : (p : Sheet → Bool) (sheets : List Sheet) (new : Sheet) → All (λ (s : Sheet). p s ≡ false) sheets → p new ≡ true → find p (sheets ++ new ∷ []) ≡ Some new
 last-found p [] new all on = ap (λ b. cond b (Some new) None) on
 last-found p (s ∷ ss) new all on =
     ap (λ b. cond b (Some s) (find p (ss ++ new ∷ []))) (All-head (λ (t : Sheet). p t ≡ false) s ss all)
