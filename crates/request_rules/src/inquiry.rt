@@ -352,10 +352,7 @@ impl<'a> Inquiry<'a> {
         ensures { result ≡ is_published_at self.now.book class moment }
     {
         match self.calendar_of(class) {
-            Some(calendar) => self
-                .prices
-                .sheet_at(calendar.number(), moment)
-                .is_some(),
+            Some(calendar) => self.prices.sheet_at(calendar.number(), moment).is_some(),
             None => false,
         }
     }
@@ -392,9 +389,7 @@ impl<'a> Inquiry<'a> {
     pub(crate) fn is_published(&self, calendar: Identifier, moment: Moment) -> bool
         ensures { result ≡ is_some (number_at self.now.book.table.sheets calendar moment) }
     {
-        self.prices
-            .sheet_at(calendar.number(), moment)
-            .is_some()
+        self.prices.sheet_at(calendar.number(), moment).is_some()
     }
 
     /// Whether the moment is a pricing moment of the class's calendar after the class's opening.
