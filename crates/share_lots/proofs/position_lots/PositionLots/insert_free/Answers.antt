@@ -1,0 +1,12 @@
+use Rattle.std.proofs.Common.{◌≡◌, ◌≢◌, ℕ, ◌++◌, ◌+◌, ◌-◌, ◌∙◌, ◌≤◌, ◌==◌, [], Bool, true, false, None, Some, List, length, map, filter, sum_by, refl, sym, subst, ap, arith}
+use Rattle.std.specs.Prelude.{All, AllPairs}
+use Rattle.share_lots.specs.declared.lot.Lot.{Lot}
+use Rattle.share_lots.specs.Rows.{rest_of, lots_in}
+use Rattle.share_lots.proofs.RowLemmas.{placed-free}
+use Rattle.share_lots.proofs.position_lots.PositionLots.insert_free.Goals as goal
+
+pub returns-clause-ok : goal.returns-clause-ok
+returns-clause-ok c =
+    let s = c.args.self.now in
+    ap (λ (ls : List Lot). ls ++ rest_of s.rest ++ s.back.items) c.in_ok-insert_lot.ensures.ok
+    ∙ placed-free c.args.lot s.front.items (rest_of s.rest) s.back.items c.requires.free
