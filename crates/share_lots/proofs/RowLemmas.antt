@@ -1,5 +1,5 @@
 -- What a change of a position's own lots makes of all its lots: those that it has in common with copies stand as they are.
-use Rattle.std.proofs.Common.{◌≡◌, ℕ, ◌+◌, ◌-◌, ◌<◌, ◌≤◌, Bool, true, false, cond, not, ◌&&◌, ◌||◌, ◌==◌, min, List, [], ◌∷◌, ◌++◌, length, get_or, map, filter, sum_by, refl, sym, ap, ◌∙◌, inl, inr, arith, append_assoc, append-nil, find, Option, Some, None, option_map}
+use Rattle.std.proofs.Common.{◌≡◌, ℕ, ◌+◌, ◌-◌, ◌≤◌, Bool, true, false, cond, not, ◌&&◌, ◌||◌, ◌==◌, min, List, [], ◌∷◌, ◌++◌, length, get_or, map, filter, sum_by, refl, sym, ap, ◌∙◌, inl, inr, arith, append_assoc, append-nil, find, Some, option_map}
 use Rattle.std.specs.Prelude.{All, AllPairs, ◌⊎◌}
 use Rattle.std.specs.List.{list_any, slice_get}
 use Rattle.std.proofs.lemmas.Bool.{cases_lt}
@@ -9,11 +9,10 @@ use Rattle.std.proofs.lemmas.List.Elements.{All-cons, filter-append}
 use Rattle.std.proofs.lemmas.List.Kept.{AllPairs-cons}
 use Rattle.std.proofs.lemmas.List.Sums.{sum_by-cons, sum_by-append}
 use Rattle.share_lots.specs.declared.lot.Lot.{Lot}
-use Rattle.share_lots.specs.declared.lot.Piece.{Piece}
-use Rattle.share_lots.specs.Lots.{IsLot, mils, AreRanked, ranks_before, before_by_date, HasLoose, hold_in, release_lot, join_free, lots_with, free_number}
+use Rattle.share_lots.specs.Lots.{mils, AreRanked, ranks_before, before_by_date, hold_in, release_lot, join_free, lots_with, free_number}
 use Rattle.share_lots.specs.Taking.{lot_less, pieces_of, pieces, lots_less, has_mils}
 use Rattle.share_lots.proofs.OrderLemmas.{ranks-next}
-use Rattle.share_lots.proofs.LotLemmas.{All-head, All-tail, AllPairs-head, AllPairs-tail, sum-mils, nothing-taken, nothing-lessened, owned_behind, map-join_none, none_before, placed-behind}
+use Rattle.share_lots.proofs.LotLemmas.{All-head, All-tail, AllPairs-head, AllPairs-tail, nothing-taken, nothing-lessened, owned_behind, map-join_none, none_before, placed-behind}
 use Rattle.share_lots.proofs.KeptLemmas.{sum-has_mils}
 use Rattle.share_lots.proofs.AddedLemmas.{none_found}
 

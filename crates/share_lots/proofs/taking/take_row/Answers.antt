@@ -1,9 +1,6 @@
-use Rattle.std.proofs.Common.{◌≡◌, ◌≢◌, ℕ, ◌++◌, ◌+◌, ◌-◌, ◌∙◌, ◌≤◌, ◌==◌, [], Bool, true, false, None, Some, List, length, map, filter, take, drop, sum_by, refl, sym, subst, ap, arith}
+use Rattle.std.proofs.Common.{◌≡◌, ◌∙◌, filter, sum_by, ap, arith}
 use Rattle.std.proofs.lemmas.Grind.{common_steps}
-use Rattle.std.specs.Prelude.{All, AllPairs}
 use Rattle.share_lots.specs.declared.lot.Lot.{Lot}
-use Rattle.share_lots.specs.Rows.{rest_of, lots_in}
-use Rattle.share_lots.specs.Lots.{IsLot, most_cost, mils}
 use Rattle.share_lots.specs.Taking.{has_mils, lots_less}
 use Rattle.share_lots.proofs.KeptLemmas.{taking-keeps_cost}
 use Rattle.share_lots.proofs.taking.take_row.Goals as goal

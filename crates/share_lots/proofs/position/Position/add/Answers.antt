@@ -1,8 +1,6 @@
-use Rattle.std.proofs.Common.{◌≡◌, ◌≢◌, ℕ, ◌++◌, ◌+◌, ◌-◌, ◌∙◌, ◌≤◌, ◌==◌, [], Bool, true, false, None, Some, List, length, map, filter, take, drop, sum_by, refl, sym, subst, ap, arith}
-use Rattle.std.proofs.lemmas.Grind.{common_steps}
-use Rattle.std.specs.Prelude.{All, AllPairs}
+use Rattle.std.proofs.Common.{◌≡◌, ◌+◌, ◌∙◌, ◌≤◌, None, Some, map, sum_by, sym, subst, ap, arith}
 use Rattle.share_lots.specs.declared.lot.Lot.{Lot}
-use Rattle.share_lots.specs.Rows.{rest_of, lots_in}
+use Rattle.share_lots.specs.Rows.{lots_in}
 use Rattle.share_lots.specs.Lots.{Holding, loose_total, held_total, join_free, lot_joined, mils, most_mils, most_cost, lots_with}
 use Rattle.share_lots.proofs.LotLemmas.{sum-mils, sum-placed, IsHolding-joined, IsHolding-with_lot, lone_free}
 use Rattle.share_lots.proofs.AddedLemmas.{joined-sum, joined-loose, joined-mils, joined-cost, placed-loose, placed-mils, placed-cost}

@@ -1,9 +1,6 @@
-use Rattle.std.proofs.Common.{◌≡◌, ◌≢◌, ℕ, ◌++◌, ◌+◌, ◌-◌, ◌∙◌, ◌≤◌, ◌==◌, [], Bool, true, false, None, Some, List, length, map, filter, take, drop, sum_by, refl, sym, subst, ap, arith}
-use Rattle.std.proofs.lemmas.Grind.{common_steps}
-use Rattle.std.specs.Prelude.{All, AllPairs}
-use Rattle.share_lots.specs.declared.lot.Lot.{Lot}
-use Rattle.share_lots.specs.Rows.{rest_of, lots_in}
-use Rattle.share_lots.specs.Lots.{Holding, HasLoose, hold_in, most_mils}
+use Rattle.std.proofs.Common.{◌∙◌, map, refl, sym, subst, arith}
+use Rattle.share_lots.specs.Rows.{lots_in}
+use Rattle.share_lots.specs.Lots.{Holding, HasLoose, hold_in}
 use Rattle.share_lots.proofs.KeptLemmas.{hold-keeps_mils, hold-keeps_cost}
 use Rattle.share_lots.proofs.LotLemmas.{IsHolding-hold, sum-mils}
 use Rattle.share_lots.proofs.position.Position.hold.Goals as goal

@@ -1,9 +1,7 @@
-use Rattle.std.proofs.Common.{◌≡◌, ◌≢◌, ℕ, ◌++◌, ◌+◌, ◌-◌, ◌∙◌, ◌≤◌, ◌==◌, [], Bool, true, false, None, Some, List, length, map, filter, take, drop, sum_by, refl, sym, subst, ap, arith}
-use Rattle.std.proofs.lemmas.Grind.{common_steps}
-use Rattle.std.specs.Prelude.{All, AllPairs}
+use Rattle.std.proofs.Common.{◌≡◌, ◌∙◌, ◌≤◌, map, filter, sum_by, ap, arith}
 use Rattle.share_lots.specs.declared.lot.Lot.{Lot}
-use Rattle.share_lots.specs.Rows.{rest_of, lots_in}
-use Rattle.share_lots.specs.Lots.{Holding, held_total, mils}
+use Rattle.share_lots.specs.Rows.{lots_in}
+use Rattle.share_lots.specs.Lots.{held_total}
 use Rattle.share_lots.specs.Taking.{has_mils, lot_paying}
 use Rattle.share_lots.proofs.LotLemmas.{sum-mils}
 use Rattle.share_lots.proofs.PaidLemmas.{paying-whole, paying-keeps_loose, paying-keeps_cost}

@@ -1,10 +1,7 @@
-use Rattle.std.proofs.Common.{◌≡◌, ◌≢◌, ℕ, ◌++◌, ◌+◌, ◌-◌, ◌∙◌, ◌≤◌, ◌==◌, [], Bool, true, false, None, Some, List, length, map, filter, take, drop, sum_by, refl, sym, subst, ap, arith}
-use Rattle.std.proofs.lemmas.Grind.{common_steps}
-use Rattle.std.specs.Prelude.{All, AllPairs}
+use Rattle.std.proofs.Common.{◌-◌, ◌∙◌, ◌≤◌, sum_by, sym, ap, arith}
 use Rattle.share_lots.specs.declared.lot.Lot.{Lot}
-use Rattle.share_lots.specs.Rows.{rest_of, lots_in}
+use Rattle.share_lots.specs.Rows.{lots_in}
 use Rattle.share_lots.specs.Lots.{loose_total}
-use Rattle.share_lots.specs.Taking.{has_mils, lots_less}
 use Rattle.share_lots.proofs.KeptLemmas.{mils-taken}
 use Rattle.share_lots.proofs.LotLemmas.{IsHolding-taking, sum-mils}
 use Rattle.share_lots.proofs.RowLemmas.{held-taken}

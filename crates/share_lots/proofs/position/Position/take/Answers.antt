@@ -1,12 +1,11 @@
-use Rattle.std.proofs.Common.{◌≡◌, ◌≢◌, ℕ, ◌++◌, ◌+◌, ◌-◌, ◌∙◌, ◌≤◌, ◌==◌, [], Bool, true, false, None, Some, List, length, map, filter, take, drop, sum_by, refl, sym, subst, ap, arith}
-use Rattle.std.proofs.lemmas.Grind.{common_steps}
-use Rattle.std.specs.Prelude.{All, AllPairs}
+use Rattle.std.proofs.Common.{◌≡◌, ◌+◌, ◌-◌, ◌∙◌, ◌≤◌, List, filter, sum_by, sym, subst, ap, arith}
+use Rattle.std.specs.Prelude.{All}
 use Rattle.share_lots.specs.declared.lot.Lot.{Lot}
-use Rattle.share_lots.specs.Rows.{rest_of, lots_in}
-use Rattle.std.proofs.Common.{◌<◌, inl, inr}
+use Rattle.share_lots.specs.Rows.{lots_in}
+use Rattle.std.proofs.Common.{inr}
 use Rattle.share_lots.specs.declared.position.TakeFault.TheVariants.{Short}
-use Rattle.share_lots.specs.Lots.{Holding, IsLot, loose_total}
-use Rattle.share_lots.specs.Taking.{has_mils, lots_less, pieces}
+use Rattle.share_lots.specs.Lots.{IsLot, loose_total}
+use Rattle.share_lots.specs.Taking.{has_mils, lots_less}
 use Rattle.share_lots.proofs.KeptLemmas.{mils-taken, pieces-whole, taking-keeps_mils, taking-keeps_cost}
 use Rattle.share_lots.proofs.LotLemmas.{All-IsLot, IsHolding-taking, sum-mils}
 use Rattle.share_lots.proofs.RowLemmas.{held-taken}

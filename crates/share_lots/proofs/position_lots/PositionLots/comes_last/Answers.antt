@@ -1,7 +1,7 @@
-use Rattle.std.proofs.Common.{◌≡◌, ◌≢◌, ℕ, ◌++◌, ◌+◌, ◌-◌, ◌∙◌, ◌≤◌, ◌==◌, [], Bool, true, false, None, Some, List, length, map, filter, sum_by, refl, sym, subst, ap, arith}
-use Rattle.std.specs.Prelude.{All, AllPairs}
+use Rattle.std.proofs.Common.{◌≡◌, ◌++◌, true, sym, subst}
+use Rattle.std.specs.Prelude.{All}
 use Rattle.share_lots.specs.declared.lot.Lot.{Lot}
-use Rattle.share_lots.specs.Rows.{rest_of, lots_in}
+use Rattle.share_lots.specs.Rows.{rest_of}
 use Rattle.std.proofs.lemmas.List.Elements.{All-append}
 use Rattle.share_lots.specs.Lots.{AreRanked, ranks_before}
 use Rattle.share_lots.proofs.RowLemmas.{AllPairs-left, AllPairs-right}

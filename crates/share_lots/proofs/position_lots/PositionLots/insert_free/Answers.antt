@@ -1,7 +1,6 @@
-use Rattle.std.proofs.Common.{◌≡◌, ◌≢◌, ℕ, ◌++◌, ◌+◌, ◌-◌, ◌∙◌, ◌≤◌, ◌==◌, [], Bool, true, false, None, Some, List, length, map, filter, sum_by, refl, sym, subst, ap, arith}
-use Rattle.std.specs.Prelude.{All, AllPairs}
+use Rattle.std.proofs.Common.{◌++◌, ◌∙◌, List, ap}
 use Rattle.share_lots.specs.declared.lot.Lot.{Lot}
-use Rattle.share_lots.specs.Rows.{rest_of, lots_in}
+use Rattle.share_lots.specs.Rows.{rest_of}
 use Rattle.share_lots.proofs.RowLemmas.{placed-free}
 use Rattle.share_lots.proofs.position_lots.PositionLots.insert_free.Goals as goal
 

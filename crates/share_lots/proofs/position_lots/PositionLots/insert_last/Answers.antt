@@ -1,7 +1,6 @@
-use Rattle.std.proofs.Common.{◌≡◌, ◌≢◌, ℕ, ◌++◌, ◌+◌, ◌-◌, ◌∙◌, ◌≤◌, ◌==◌, [], Bool, true, false, None, Some, List, length, map, filter, sum_by, refl, sym, subst, ap, arith}
-use Rattle.std.specs.Prelude.{All, AllPairs}
+use Rattle.std.proofs.Common.{◌≡◌, ◌++◌, ◌∙◌, true, List, ap}
 use Rattle.share_lots.specs.declared.lot.Lot.{Lot}
-use Rattle.share_lots.specs.Rows.{rest_of, lots_in}
+use Rattle.share_lots.specs.Rows.{rest_of}
 use Rattle.share_lots.specs.Lots.{ranks_before}
 use Rattle.share_lots.proofs.RowLemmas.{placed-last, AllPairs-right}
 use Rattle.share_lots.proofs.position_lots.PositionLots.insert_last.Goals as goal

@@ -1,8 +1,7 @@
-use Rattle.std.proofs.Common.{◌≡◌, ◌≢◌, ℕ, ◌++◌, ◌+◌, ◌-◌, ◌∙◌, ◌≤◌, ◌==◌, [], Bool, true, false, None, Some, List, length, map, filter, take, drop, sum_by, refl, sym, subst, ap, arith}
+use Rattle.std.proofs.Common.{◌≡◌, ◌++◌, ◌∙◌, List, length, map, take, drop, sym, subst, ap, arith}
 use Rattle.std.proofs.lemmas.Grind.{common_steps}
-use Rattle.std.specs.Prelude.{All, AllPairs}
 use Rattle.share_lots.specs.declared.lot.Lot.{Lot}
-use Rattle.share_lots.specs.Rows.{rest_of, lots_in}
+use Rattle.share_lots.specs.Rows.{rest_of}
 use Rattle.share_lots.specs.Lots.{AreRanked, join_free}
 use Rattle.share_lots.proofs.RowLemmas.{joined-front}
 use Rattle.share_lots.proofs.position_lots.PositionLots.join.Goals as goal

@@ -1,7 +1,4 @@
-use Rattle.std.proofs.Common.{◌≡◌, ◌≢◌, ℕ, ◌++◌, ◌+◌, ◌-◌, ◌∙◌, ◌≤◌, ◌==◌, [], Bool, true, false, None, Some, List, length, map, filter, take, drop, sum_by, refl, sym, subst, ap, arith}
-use Rattle.std.proofs.lemmas.Grind.{common_steps}
-use Rattle.std.specs.Prelude.{All, AllPairs}
-use Rattle.share_lots.specs.declared.lot.Lot.{Lot}
+use Rattle.std.proofs.Common.{◌≡◌, ◌∙◌, true, sym, subst, ap, arith}
 use Rattle.share_lots.specs.Rows.{rest_of, lots_in}
 use Rattle.share_lots.specs.Lots.{AreRanked, free_number, lot_joined}
 use Rattle.share_lots.proofs.RowLemmas.{free-front}

@@ -1,8 +1,5 @@
-use Rattle.std.proofs.Common.{◌≡◌, ◌≢◌, ℕ, ◌++◌, ◌+◌, ◌-◌, ◌∙◌, ◌≤◌, ◌==◌, [], Bool, true, false, None, Some, List, length, map, filter, take, drop, sum_by, refl, sym, subst, ap, arith}
-use Rattle.std.proofs.lemmas.Grind.{common_steps}
-use Rattle.std.specs.Prelude.{All, AllPairs}
-use Rattle.share_lots.specs.declared.lot.Lot.{Lot}
-use Rattle.share_lots.specs.Rows.{rest_of, lots_in}
+use Rattle.std.proofs.Common.{◌++◌, ◌∙◌, [], ap}
+use Rattle.share_lots.specs.Rows.{rest_of}
 use Rattle.share_lots.specs.Taking.{pieces}
 use Rattle.share_lots.proofs.RowLemmas.{pieces-front}
 use Rattle.share_lots.proofs.position_lots.PositionLots.own_pieces.Goals as goal

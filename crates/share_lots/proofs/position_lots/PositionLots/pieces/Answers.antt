@@ -1,9 +1,8 @@
-use Rattle.std.proofs.Common.{◌≡◌, ◌≢◌, ℕ, ◌++◌, ◌+◌, ◌-◌, ◌∙◌, ◌≤◌, ◌==◌, [], Bool, true, false, None, Some, List, length, map, filter, take, drop, sum_by, refl, sym, subst, ap, arith}
-use Rattle.std.proofs.lemmas.Grind.{common_steps}
-use Rattle.std.specs.Prelude.{All, AllPairs}
+use Rattle.std.proofs.Common.{◌≡◌, ◌++◌, ◌-◌, ◌∙◌, [], sum_by, sym, subst, ap, arith}
+use Rattle.std.specs.Prelude.{All}
 use Rattle.share_lots.specs.declared.lot.Lot.{Lot}
-use Rattle.share_lots.specs.Rows.{rest_of, lots_in}
-use Rattle.share_lots.specs.Lots.{IsLot, mils, most_mils}
+use Rattle.share_lots.specs.Rows.{rest_of}
+use Rattle.share_lots.specs.Lots.{IsLot, mils}
 use Rattle.share_lots.specs.Taking.{pieces}
 use Rattle.share_lots.proofs.LotLemmas.{sum-mils}
 use Rattle.share_lots.proofs.RowLemmas.{All-left, All-right, sum-three, pieces-three}

@@ -1,9 +1,8 @@
-use Rattle.std.proofs.Common.{◌≡◌, ◌≢◌, ℕ, ◌++◌, ◌+◌, ◌-◌, ◌∙◌, ◌≤◌, ◌==◌, [], Bool, true, false, None, Some, List, length, map, filter, take, drop, sum_by, refl, sym, subst, ap, arith}
-use Rattle.std.proofs.lemmas.Grind.{common_steps}
-use Rattle.std.specs.Prelude.{All, AllPairs}
+use Rattle.std.proofs.Common.{◌++◌, ◌∙◌, ◌≤◌, List, filter, sym, subst, ap}
+use Rattle.std.specs.Prelude.{All}
 use Rattle.share_lots.specs.declared.lot.Lot.{Lot}
 use Rattle.share_lots.specs.Rows.{rest_of, lots_in}
-use Rattle.share_lots.specs.Lots.{IsLot, mils}
+use Rattle.share_lots.specs.Lots.{mils}
 use Rattle.share_lots.specs.Taking.{has_mils, lots_less}
 use Rattle.share_lots.proofs.RowLemmas.{taken-front}
 use Rattle.share_lots.proofs.position_lots.PositionLots.take_off.Goals as goal
