@@ -223,7 +223,7 @@ fn give_shares(alloc: Global, day: &mut HouseholdDay, shares: &Move) -> Result<(
         return Ok(());
     }
     let mut source = day.take_out(alloc, shares.account, shares.class)?;
-    source.holding.remove(shares.asked);
+    source.holding.remove(shares.asked)?;
     day.put_back(source)?;
     Ok(())
 }

@@ -182,8 +182,8 @@ fn day_after_settlement(
     let mut position = day.take_out(alloc, key.account, key.class)?;
     let held = position.holding.held();
     let settled = letter.settle(facts.terms_of(key.class), facts.nav(key.class), held);
-    position.holding.pay_held(settled.paid);
-    position.holding.release();
+    position.holding.pay_held(settled.paid)?;
+    position.holding.release()?;
     position.letter = None;
     let trade = letter_end_trade(facts, key, &settled);
     day.close_trade(position, &trade)?;

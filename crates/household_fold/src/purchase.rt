@@ -172,7 +172,7 @@ fn day_with_purchase(
     let (bought, number) = position_with_lot(position, facts.day(), gross, split)?;
     match letter {
         Some(letter) => {
-            let (kept, reached) = position_after_note(bought, number, letter, gross, split);
+            let (kept, reached) = position_after_note(bought, number, letter, gross, split)?;
             day.close_trade(kept, &trade)?;
             day_if_reached(alloc, facts, day, order, reached)?;
             Ok(())
@@ -215,21 +215,22 @@ fn position_after_note(
     letter: Letter,
     gross: &Amount,
     split: &Split,
-) -> (HeldPosition, bool)
+) -> Result<(HeldPosition, bool), NoMemory>
     requires letter { IsLetter letter }
     requires price { 1 ≤ split.now.price }
     requires loose { HasLoose position.holding.lots number split.now.mils }
-    ensures kept { result.0 ≡ position_after_note position
-        (record { number = number; holding = position.holding }) letter gross.now split.now }
-    ensures reached { result.1
-        ≡ (note_of_purchase letter gross.now split.now.price split.now.mils).reached }
+    ensures kept { IfOk result (λ noted. noted.0
+        ≡ position_after_note position (record { number = number; holding = position.holding })
+        letter gross.now split.now) }
+    ensures reached { IfOk result (λ noted. noted.1
+        ≡ (note_of_purchase letter gross.now split.now.price split.now.mils).reached) }
 {
     let mut position = position;
     let mut letter = letter;
     let noted = letter.note_purchase(Cents(gross.cents()), split.price, split.mils);
-    position.holding.hold(number, noted.hold);
+    position.holding.hold(number, noted.hold)?;
     position.letter = Some(letter);
-    (position, noted.reached)
+    Ok((position, noted.reached))
 }
 
 // The letter ends where it is reached.
@@ -268,7 +269,7 @@ fn day_after_reaching(
     let class = class_number(&order.body);
     let trade = plain_trade(facts, account, class, TradeKind::LetterReached);
     let mut position = day.take_out(alloc, account, class)?;
-    position.holding.release();
+    position.holding.release()?;
     position.letter = None;
     day.close_trade(position, &trade)?;
     Ok(())
