@@ -11,8 +11,8 @@ pub returns-in-Some : goal.returns-in-Some
 returns-in-Some c =
     c.dividend_in.ensures
     ∙ (ap dividend_in c.kind.ensures.kind
-    ∙ sym (dividend-found c.args.self.now.journal c.args.class c.args.moment ∙ ap (option_and_then (λ (event : Event). dividend_in event.kind)) (ap (λ moment. find (brings (Identity.Dividend c.args.class moment)) c.args.self.now.journal) (sym c.number.ensures.value) ∙ sym c.in-Some.ensures)))
+    ∙ sym (dividend-found c.args.self.now.journal c.args.class c.args.moment ∙ ap (option_and_then (λ (event : Event). dividend_in event.kind)) (ap (λ moment. find (brings (Identity.Dividend c.args.class moment)) c.args.self.now.journal) (sym c.seconds.ensures.value) ∙ sym c.in-Some.ensures)))
 
 pub returns-in-None : goal.returns-in-None
 returns-in-None c =
-    sym (dividend-found c.args.self.now.journal c.args.class c.args.moment ∙ ap (option_and_then (λ (event : Event). dividend_in event.kind)) (ap (λ moment. find (brings (Identity.Dividend c.args.class moment)) c.args.self.now.journal) (sym c.number.ensures.value) ∙ sym c.in-None.ensures))
+    sym (dividend-found c.args.self.now.journal c.args.class c.args.moment ∙ ap (option_and_then (λ (event : Event). dividend_in event.kind)) (ap (λ moment. find (brings (Identity.Dividend c.args.class moment)) c.args.self.now.journal) (sym c.seconds.ensures.value) ∙ sym c.in-None.ensures))
