@@ -69,7 +69,9 @@ impl PositionLots {
     pub(crate) fn copied_lots(&self, alloc: Global) -> Result<Vec<Lot>, NoMemory>
         ensures { IfOk result (λ all. all.items ≡ lots_in self.now) }
     {
-        let mut all = Vec::from_slice(alloc, &self.front)?;
+        let lots = self.front.len().saturating_add(self.rest().len());
+        let mut all = Vec::with_capacity(alloc, lots.saturating_add(self.back.len()))?;
+        all.extend_from_slice(&self.front)?;
         all.extend_from_slice(self.rest())?;
         all.extend_from_slice(&self.back)?;
         Ok(all)

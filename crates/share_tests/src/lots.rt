@@ -254,7 +254,10 @@ fn a_copy_changes_nothing_of_the_position(rt: HostRuntime) -> Result<(), Fail> {
     hold_and_take(rt.alloc(), &mut copy)?;
     assert_eq!(rt; lots_and_next(rt.alloc(), &position)?, (60, 61));
     assert_eq!(rt; lots_and_next(rt.alloc(), &copy)?, (30, 61));
-    assert_eq!(rt; (position.loose(), copy.loose()), (Mils(60_000), Mils(29_000)));
+    assert_eq!(rt;
+        (position.loose(), copy.loose()),
+        (Mils(60_000), Mils(29_000))
+    );
     Ok(())
 }
 
