@@ -1,8 +1,7 @@
 -- What the keepers in memory keep.
-use Rattle.std.specs.Prelude.{ℕ, Bool, ◌&&◌, ◌==◌, List, Option, if◌then◌else◌, vec_len, vec_capacity, ◌+◌, ◌-◌, ◌^◌, ◌≡◌, ◌≤◌, ◌↔◌, length, min, Result, IsErrOf, IsTrue}
+use Rattle.std.specs.Prelude.{ℕ, Bool, ◌&&◌, ◌==◌, List, Option, if◌then◌else◌, ◌+◌, ◌-◌, ◌^◌, ◌≡◌, ◌↔◌, min, Result, IsErrOf, IsTrue}
 use Rattle.std.specs.List.{list_any}
-use Rattle.std.specs.HashMap.{get, spare}
-use Rattle.agent_keeper.specs.declared.batch.Batch.{Batch}
+use Rattle.std.specs.HashMap.{get}
 use Rattle.agent_keeper.specs.declared.batch.CheckName.{CheckName}
 use Rattle.agent_keeper.specs.declared.fault.KeepFault.{KeepFault}
 use Rattle.agent_keeper.specs.declared.fault.KeepFault.TheVariants.{Failed}
@@ -23,12 +22,7 @@ check_of kept household sheet = get is_same kept.checks
 
 -- all that is kept
 abbrev pub content : Kept → Content
-content kept = record { rows = kept.rows.items; checks = check_of kept }
-
--- what the batch adds fits without more memory
-pub record HasRoom (kept : Kept) (batch : Batch) : Type 0 where
-  pub rows : vec_len kept.rows + length batch.rows ≤ vec_capacity kept.rows
-  pub checks : length batch.puts ≤ spare kept.checks
+content kept = record { rows = kept.rows; checks = check_of kept }
 
 -- what was kept before the last commit
 abbrev pub before_last : MemoryKeeper → Content

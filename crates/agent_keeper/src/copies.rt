@@ -16,8 +16,7 @@ pub fn copy_batch(alloc: Global, batch: &Batch) -> Result<Batch, NoMemory>
     })
 }
 
-/// A copy of rows of the journal.
-pub fn copy_rows(alloc: Global, rows: &[Bytes]) -> Result<ByteRows, NoMemory>
+fn copy_rows(alloc: Global, rows: &[Bytes]) -> Result<ByteRows, NoMemory>
     ensures { IfOk result (λ copy. copy ≡ rows.now) }
 {
     let mut copy = ByteRows::new(alloc);
@@ -27,7 +26,8 @@ pub fn copy_rows(alloc: Global, rows: &[Bytes]) -> Result<ByteRows, NoMemory>
     Ok(copy)
 }
 
-fn copy_puts(alloc: Global, puts: &[CheckPut]) -> Result<CheckPuts, NoMemory>
+/// A copy of checkpoint rows to put.
+pub fn copy_puts(alloc: Global, puts: &[CheckPut]) -> Result<CheckPuts, NoMemory>
     ensures { IfOk result (λ copy. copy ≡ puts.now) }
 {
     let mut copy = CheckPuts::new(alloc);

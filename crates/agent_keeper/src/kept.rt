@@ -1,21 +1,22 @@
 //! What a keeper in memory keeps, and the change that a batch makes of it.
-ghost use Rattle.std.specs.Prelude.{◌≡◌, ◌≤◌, [], length, slice_get, None, IfOk, OnOk, if◌then◌else◌};
+ghost use Rattle.std.specs.Prelude.{◌≡◌, ◌≤◌, ◌<◌, ◌^◌, [], length, slice_get, None, IfOk, OnOk, OnErr, if◌then◌else◌};
 ghost use Rattle.std.specs.Option.{option_copied};
 ghost use Rattle.std.specs.HashMap.{get, spare};
 ghost use Rattle.agent_keeper.specs.declared.batch.CheckName.{CheckName as Name};
 ghost use Rattle.agent_keeper.specs.Content.{after_puts, is_removed, after, empty};
-ghost use Rattle.agent_keeper.specs.Memory.{is_same, check_of, content, HasRoom};
+ghost use Rattle.agent_keeper.specs.Memory.{is_same, check_of, content};
 
 use crate::batch::{Batch, CheckName, CheckPut};
-use crate::copies::copy_rows;
+use crate::copies::copy_puts;
+use crate::packed_rows::PackedRows;
 use money_units::{Bytes, NoMemory};
-use std::alloc::{AllocError, Global};
+use std::alloc::Global;
 use std::collections::HashMap;
 
 /// The rows of the journal, in order, and the checkpoint rows by household and sheet.
 #[derive(Drop)]
 pub struct Kept {
-    rows: Vec<Bytes>,
+    rows: PackedRows,
     checks: HashMap<CheckName, Bytes>,
 }
 
@@ -25,56 +26,45 @@ impl Kept {
         ensures { content result ≡ empty }
     {
         Kept {
-            rows: Vec::new(alloc),
+            rows: PackedRows::new(alloc),
             checks: HashMap::new(alloc),
         }
     }
 
     /// How many rows the journal has.
     pub fn len(&self) -> usize
-        ensures { result ≡ length (content self.now).rows }
+        ensures count { result ≡ length (content self.now).rows }
+        ensures bound { result < 2 ^ 63 }
     {
         self.rows.len()
     }
 
     /// The row of the journal at a place.
-    pub fn row(&self, seq: u64) -> Option<&Bytes>
+    pub fn row(&self, seq: u64) -> Option<&[u8]>
         ensures { option_copied result ≡ slice_get (content self.now).rows seq }
     {
-        self.rows.get(seq as usize)
+        self.rows.get(seq)
     }
 
     /// The checkpoint row of a household at a sheet.
-    pub fn check(&self, household: u32, sheet: u32) -> Option<&Bytes>
+    pub fn check(&self, household: u32, sheet: u32) -> Option<&[u8]>
         ensures { option_copied result ≡ (content self.now).checks household sheet }
     {
-        self.checks.get(&CheckName { household, sheet })
+        let bytes = self.checks.get(&CheckName { household, sheet })?;
+        Some(bytes.as_slice())
     }
 
-    /// Takes the memory that a batch needs beside its own.
-    pub fn make_room(&mut self, batch: &Batch) -> Result<(), NoMemory>
-        ensures room { OnOk result (HasRoom self.new batch.now) }
-        ensures same { content self.new ≡ content self.old }
+    /// Makes a batch part of what is kept. After `NoMemory` there is what was kept before.
+    pub fn keep(&mut self, alloc: Global, batch: &Batch) -> Result<(), NoMemory>
+        ensures ok { OnOk result (content self.new ≡ after batch.now (content self.old)) }
+        ensures err { OnErr result (content self.new ≡ content self.old) }
     {
-        self.rows.reserve(batch.rows.as_slice().len())?;
-        self.checks.reserve(batch.puts.as_slice().len())?;
+        let puts = copy_puts(alloc, batch.puts.as_slice())?.into_vec();
+        make_room(&mut self.checks, puts.len())?;
+        self.rows.append(batch.rows.as_slice())?;
+        put_all(&mut self.checks, puts);
+        remove_all(&mut self.checks, batch.removes.as_slice());
         Ok(())
-    }
-
-    /// Makes a batch part of what is kept.
-    pub fn keep(&mut self, batch: Batch)
-        requires { HasRoom self.old batch }
-        ensures { content self.new ≡ after batch (content self.old) }
-    {
-        let Batch {
-            rows,
-            puts,
-            removes,
-        } = batch;
-        let appended: Result<(), AllocError> = self.rows.append(&mut rows.into_vec());
-        appended.unwrap();
-        put_all(&mut self.checks, puts.into_vec());
-        remove_all(&mut self.checks, removes.as_slice());
     }
 
     /// The same rows again.
@@ -82,7 +72,7 @@ impl Kept {
         ensures { IfOk result (λ copy. content copy ≡ content self.now) }
     {
         Ok(Kept {
-            rows: copy_rows(alloc, &self.rows)?.into_vec(),
+            rows: self.rows.copy(alloc)?,
             checks: copy_checks(alloc, &self.checks)?,
         })
     }
@@ -99,6 +89,15 @@ fn copy_checks(
         copy.insert(*name, Bytes::from_slice(alloc, bytes.as_slice())?)?;
     }
     Ok(copy)
+}
+
+// Takes the memory for so many rows more.
+fn make_room(checks: &mut HashMap<CheckName, Bytes>, count: usize) -> Result<(), NoMemory>
+    ensures room { OnOk result (count ≤ spare checks.new) }
+    ensures same { (q : Name) → get is_same checks.new q ≡ get is_same checks.old q }
+{
+    checks.reserve(count)?;
+    Ok(())
 }
 
 // Puts each row in the place of the one of the same name, if there is one.

@@ -9,6 +9,7 @@ mod fault;
 mod keeper;
 mod kept;
 mod memory;
+mod packed_rows;
 mod reads;
 mod sure;
 

@@ -13,9 +13,8 @@ use crate::fault::KeepFault;
 use crate::keeper::Keeper;
 use crate::kept::Kept;
 use crate::reads::hand_out;
-use money_units::{Bytes, NoMemory};
+use money_units::NoMemory;
 use std::alloc::Global;
-use std::mem;
 
 /// Keeps rows in memory, fails at the calls that it is told to fail at, and can be copied as a stop of the program in
 /// its last commit leaves it.
@@ -87,8 +86,7 @@ impl MemoryKeeper {
     {
         let mut left = self.settled.copy(alloc)?;
         if with_last {
-            left.make_room(&self.last)?;
-            left.keep(copy_batch(alloc, &self.last)?);
+            left.keep(alloc, &self.last)?;
             Ok(left)
         } else {
             Ok(left)
@@ -128,11 +126,10 @@ impl MemoryKeeper {
             × (self.new.fails ≡ self.old.fails) }
     {
         let copy = copy_batch(self.alloc, batch)?;
-        self.settled.make_room(&self.last)?;
-        let before = mem::replace(&mut self.last, copy);
         if self.is_kept {
-            self.settled.keep(before);
+            self.settled.keep(self.alloc, &self.last)?;
         }
+        self.last = copy;
         self.is_kept = is_kept;
         Ok(())
     }
@@ -148,17 +145,18 @@ impl MemoryKeeper {
         }
     }
 
-    fn row_at(&self, seq: u64) -> Option<&Bytes>
+    fn row_at(&self, seq: u64) -> Option<&[u8]>
         ensures { option_copied result ≡ slice_get (now_kept self.now).rows seq }
     {
         let settled = self.settled.len() as u64;
         if seq < settled || !self.is_kept {
             return self.settled.row(seq);
         }
-        self.last.rows.as_slice().get((seq - settled) as usize)
+        let row = self.last.rows.as_slice().get((seq - settled) as usize)?;
+        Some(row.as_slice())
     }
 
-    fn check_at(&self, household: u32, sheet: u32) -> Option<&Bytes>
+    fn check_at(&self, household: u32, sheet: u32) -> Option<&[u8]>
         ensures { option_copied result ≡ (now_kept self.now).checks household sheet }
     {
         let before = self.settled.check(household, sheet);
@@ -270,17 +268,17 @@ fn names_check(names: &[CheckName], household: u32, sheet: u32) -> bool
 // The bytes of the last row to put there, or what was there before.
 fn last_put<'a>(
     puts: &'a [CheckPut],
-    before: Option<&'a Bytes>,
+    before: Option<&'a [u8]>,
     household: u32,
     sheet: u32,
-) -> Option<&'a Bytes>
+) -> Option<&'a [u8]>
     ensures { option_copied result ≡ after_puts puts.now
         (option_copied before.entry) household sheet }
 {
     let mut there = before;
     for put in puts {
         if put.household == household && put.sheet == sheet {
-            there = Some(&put.bytes);
+            there = Some(put.bytes.as_slice());
         }
     }
     there

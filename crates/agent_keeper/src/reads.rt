@@ -3,10 +3,10 @@ ghost use Rattle.std.specs.Prelude.{◌≡◌, [], Some, None, IfOk, OnErr, if�
 ghost use Rattle.std.specs.Option.{option_copied};
 ghost use Rattle.std.specs.Bool.{OnFalse};
 
-use money_units::{Bytes, NoMemory};
+use money_units::NoMemory;
 
 /// Leaves in `into` the bytes that were found, and nothing else, and answers whether there are any.
-pub fn hand_out(found: Option<&Bytes>, into: &mut Vec<u8>) -> Result<bool, NoMemory>
+pub fn hand_out(found: Option<&[u8]>, into: &mut Vec<u8>) -> Result<bool, NoMemory>
     ensures exact { IfOk result (λ is_found. option_copied found.entry
         ≡ (if is_found then Some into.new.items else None)) }
     ensures missing { IfOk result (λ is_found. OnFalse is_found (into.new.items ≡ [])) }
@@ -16,6 +16,6 @@ pub fn hand_out(found: Option<&Bytes>, into: &mut Vec<u8>) -> Result<bool, NoMem
     let Some(bytes) = found else {
         return Ok(false);
     };
-    into.extend_from_slice(bytes.as_slice())?;
+    into.extend_from_slice(bytes)?;
     Ok(true)
 }

@@ -6,7 +6,6 @@ ghost use Rattle.agent_keeper.specs.Content.{after, empty};
 ghost use Rattle.agent_keeper.specs.Memory.{surely_kept};
 
 use crate::batch::Batch;
-use crate::copies::copy_batch;
 use crate::fault::KeepFault;
 use crate::keeper::Keeper;
 use crate::kept::Kept;
@@ -94,9 +93,7 @@ impl Keeper for SureKeeper {
         ensures err { OnErr result (surely_kept self.new ≡ surely_kept self.old) }
         ensures never_fails { IsOkUnless result KeepFault.NoMemory }
     {
-        let copy = copy_batch(self.alloc, batch)?;
-        self.kept.make_room(batch)?;
-        self.kept.keep(copy);
+        self.kept.keep(self.alloc, batch)?;
         Ok(())
     }
 }
