@@ -1,5 +1,5 @@
 -- What the sheet at hand has of the sheet as it was published.
-use Rattle.std.proofs.Common.{List, None, Option, Some, ap, arith, cond, find, is_some, map, option_and_then, false, option_map, refl, sym, true, unwrap_or, nat_abs, negsuc, pos, w64, ℕ, ◌==◌, ◌∙◌, ◌≡◌, ◌≤◌, SFits}
+use Rattle.std.proofs.Common.{List, None, Option, Some, ap, cond, find, is_some, map, option_and_then, false, option_map, refl, sym, true, unwrap_or, ℕ, ◌==◌, ◌∙◌, ◌≡◌}
 use Rattle.std.proofs.lemmas.Bool.{true≢false}
 use Rattle.fund_calendar.proofs.LookUpLemmas.{list_any-find}
 use Rattle.forward_price.proofs.PatchFacts.{numbered-corrected, lists-kept}
