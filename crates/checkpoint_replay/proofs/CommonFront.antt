@@ -1,7 +1,7 @@
 -- Where some trades stand in the place of others, those at the front of both that move the same change nothing.
 use Rattle.agent_events.specs.declared.order.Party.{Party}
 use Rattle.agent_events.specs.declared.trade.Trade.{Trade}
-use Rattle.checkpoint_replay.proofs.TalliedLaw.{IsAdditive}
+use Rattle.checkpoint_replay.proofs.FlowsOfMoves.{IsAdditive}
 use Rattle.checkpoint_replay.specs.Differences.{cash_by_moves, dropped_trades, mils_by_moves, trades_cash, with_cash_of, with_mils_of}
 use Rattle.checkpoint_replay.specs.declared.change.HouseholdMove.{HouseholdMove}
 use Rattle.checkpoint_replay.specs.declared.part.HouseholdPart.{HouseholdPart}

@@ -1,7 +1,7 @@
 -- the moves that are left still fit, when one was made
 mod PartFacts
 -- the moves of a sheet bring each household over the sheet
-mod SheetMoves
+pub mod SheetMoves
 -- the moves of a sheet are of different households
 mod SheetApart
 -- the numbers of orders, each once
@@ -14,7 +14,9 @@ mod ShareFacts
 pub mod ReopenedDay
 -- what two changes bring together
 mod JoinFacts
+-- what trades bring, summed over households, where one household is moved
+pub mod FlowsOfMoves
 -- the totals stay the sums over all trades
-mod TalliedLaw
+pub mod TalliedLaw
 -- trades at the front that move the same change nothing
 mod CommonFront

@@ -127,7 +127,7 @@ own-other known rows parts household number is missing =
     ∙ ap (λ (o : Option HouseholdPart). fold (day_if_moved household) first_day (cond (is_some o) [] (move_unless_quiet known (orders_under household rows) household first_day))) missing
     ∙ step-once known (orders_under household rows) household first_day
 
-none-from-apart : (number : ℕ) (numbers : List ℕ) → AllByRecursion (λ other. nat_eq number other ≡ false) numbers → list_any (nat_eq number) numbers ≡ false
+pub none-from-apart : (number : ℕ) (numbers : List ℕ) → AllByRecursion (λ other. nat_eq number other ≡ false) numbers → list_any (nat_eq number) numbers ≡ false
 none-from-apart number [] apart = refl
 none-from-apart number (other ∷ numbers) apart = ap (λ b. b || list_any (nat_eq number) numbers) apart.0 ∙ none-from-apart number numbers apart.1
 

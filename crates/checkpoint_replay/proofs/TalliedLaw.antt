@@ -2,64 +2,31 @@
 use Rattle.agent_events.specs.declared.order.Party.{Party}
 use Rattle.agent_events.specs.declared.totals.Changes.{Changes}
 use Rattle.agent_events.specs.declared.trade.Trade.{Trade}
-use Rattle.checkpoint_replay.specs.Differences.{AreChangesOf, dropped_trades, trades_cash}
+use Rattle.checkpoint_replay.proofs.FlowsOfMoves.{AreStill, IsAdditive, LeavesOthers, all-same, all-still, cash-additive, mils-additive, moves-net, nothing-net, one-moved, others-same, same-flows, still-left, with_move}
+use Rattle.checkpoint_replay.specs.Differences.{AreChangesOf, trades_cash}
 use Rattle.checkpoint_replay.specs.Moves.{day_after_move, day_if_moved, households_of, part_after}
 use Rattle.checkpoint_replay.specs.Parts.{Households, part_in}
 use Rattle.checkpoint_replay.specs.Tallied.{IsSumOver, IsTallied, flow_of_all}
 use Rattle.checkpoint_replay.specs.Totals.{cents_held, mils_held}
 use Rattle.checkpoint_replay.specs.declared.change.HouseholdMove.{HouseholdMove}
 use Rattle.checkpoint_replay.specs.declared.part.HouseholdPart.{HouseholdPart}
-use Rattle.gain_loss_book.proofs.FlowFacts.{flow-same}
 use Rattle.gain_loss_book.proofs.PostedFacts.{flow-in, flow-out}
 use Rattle.gain_loss_book.specs.ClassGains.{mils_change}
-use Rattle.gain_loss_book.specs.Flows.{net, no_flow, reverse_flow, with_flow}
-use Rattle.gain_loss_book.specs.Movements.{mils_brought, mils_taken, trades_mils}
+use Rattle.gain_loss_book.specs.Flows.{net, no_flow}
+use Rattle.gain_loss_book.specs.Movements.{trades_mils}
 use Rattle.gain_loss_book.specs.Posted.{cash_change}
 use Rattle.gain_loss_book.specs.declared.flows.Flow.{Flow}
-use Rattle.register_machine.specs.corrections.Cash.{cents_paid_in, cents_received_in, movements_in, movements_of}
 use Rattle.register_machine.specs.replay.Trades.{Day}
-use Rattle.std.proofs.Common.{Bool, List, [], ap, arith, cond, drop, eq-eqb, eqb-true, false, fold, nat_eq, pos, refl, subst, sum_by, sym, take, true, true≢false, ℕ, ℤ, ◌++◌, ◌+ℤ◌, ◌∙◌, ◌∷◌, ◌≡◌, ◌||◌}
+use Rattle.std.proofs.Common.{Bool, List, [], ap, arith, cond, drop, eq-eqb, eqb-true, false, fold, nat_eq, pos, refl, subst, sym, take, true, true≢false, ℕ, ℤ, ◌+ℤ◌, ◌∙◌, ◌∷◌, ◌≡◌, ◌||◌}
 use Rattle.std.proofs.lemmas.Int.{ints}
 use Rattle.std.proofs.lemmas.List.{take-append-drop}
-use Rattle.std.proofs.lemmas.List.Concat.{flat_map-append}
-use Rattle.std.proofs.lemmas.List.Sums.{sum_by-append}
 use Rattle.std.proofs.lemmas.Map.Keys.{IsDistinct-cons, IsDistinct-head, IsDistinct-tail}
 use Rattle.std.specs.Cmp.{nat_eq_equiv}
 use Rattle.std.specs.List.{AllByRecursion, IsDistinct, list_any}
 
--- trades behind others bring what both do
-abbrev pub IsAdditive : (List Trade → Flow) → Type 0
-IsAdditive flow = (xs ys : List Trade) → flow (xs ++ ys) ≡ with_flow (flow xs) (flow ys)
+-- ---- a household is moved
 
-pub cash-additive : (party : Party) → IsAdditive (λ trades. trades_cash trades party)
-cash-additive party xs ys =
-    ap (λ movements. record { inflow = sum_by (cents_received_in party) movements; outflow = sum_by (cents_paid_in party) movements }) (flat_map-append (λ (trade : Trade). movements_in trade.outcome trade) xs ys)
-    ∙ flow-same (record { inflow = sum_by (cents_received_in party) (movements_of xs ++ movements_of ys); outflow = sum_by (cents_paid_in party) (movements_of xs ++ movements_of ys) }) (with_flow (trades_cash xs party) (trades_cash ys party))
-    (sum_by-append (cents_received_in party) (movements_of xs) (movements_of ys)) (sum_by-append (cents_paid_in party) (movements_of xs) (movements_of ys))
-
-pub mils-additive : (class : ℕ) → IsAdditive (λ trades. trades_mils trades class)
-mils-additive class xs ys =
-    flow-same (trades_mils (xs ++ ys) class) (with_flow (trades_mils xs class) (trades_mils ys class))
-    (sum_by-append (mils_brought class) xs ys) (sum_by-append (mils_taken class) xs ys)
-
--- no trades bring nothing
-nothing-net : (flow : List Trade → Flow) → IsAdditive flow → net (flow []) ≡ net no_flow
-nothing-net flow additive = omega (arith, ints, flow-in _ _ (additive [] []), flow-out _ _ (additive [] []))
-
--- ---- sums over households
-
-pub same-sum : (flow : List Trade → Flow) (p q : ℕ → Day) (households : List ℕ) → AllByRecursion (λ household. p household ≡ q household) households → flow_of_all flow p households ≡ flow_of_all flow q households
-same-sum flow p q [] same = refl
-same-sum flow p q (h ∷ hs) same =
-    ap (λ (day : Day). with_flow (flow day.trades) (flow_of_all flow p hs)) same.0
-    ∙ ap (λ (rest : Flow). with_flow (flow (q h).trades) rest) (same-sum flow p q hs same.1)
-
--- households other than one
-others-same : (p q : ℕ → Day) (moved : ℕ) → ((other : ℕ) → nat_eq moved other ≡ false → q other ≡ p other) → (households : List ℕ) → AllByRecursion (λ other. nat_eq moved other ≡ false) households → AllByRecursion (λ household. q household ≡ p household) households
-others-same p q moved others [] apart = tt
-others-same p q moved others (h ∷ hs) apart = (others h apart.0, others-same p q moved others hs apart.1)
-
-none-apart : (moved : ℕ) (households : List ℕ) → list_any (nat_eq moved) households ≡ false → AllByRecursion (λ other. nat_eq moved other ≡ false) households
+pub none-apart : (moved : ℕ) (households : List ℕ) → list_any (nat_eq moved) households ≡ false → AllByRecursion (λ other. nat_eq moved other ≡ false) households
 none-apart moved [] none = tt
 none-apart moved (h ∷ hs) none = by_first (nat_eq moved h) refl none (λ rest. none-apart moved hs rest)
   where
@@ -67,26 +34,8 @@ none-apart moved (h ∷ hs) none = by_first (nat_eq moved h) refl none (λ rest.
     by_first true is none rest = absurd (true≢false none)
     by_first false is none rest = (is, rest none)
 
--- one household among them is moved
-one-moved : (flow : List Trade → Flow) (p q : ℕ → Day) (moved : ℕ) → ((other : ℕ) → nat_eq moved other ≡ false → q other ≡ p other) → (households : List ℕ) → IsDistinct nat_eq households → list_any (nat_eq moved) households ≡ true → net (flow_of_all flow q households) +ℤ net (flow (p moved).trades) ≡ net (flow_of_all flow p households) +ℤ net (flow (q moved).trades)
-one-moved flow p q moved others [] distinct met = absurd (true≢false (sym met))
-one-moved flow p q moved others (h ∷ hs) distinct met = by_first (nat_eq moved h) refl met (λ found. one-moved flow p q moved others hs (IsDistinct-tail nat_eq h hs distinct) found)
-  where
-    by_first : (b : Bool) → nat_eq moved h ≡ b → (b || list_any (nat_eq moved) hs) ≡ true → (list_any (nat_eq moved) hs ≡ true → net (flow_of_all flow q hs) +ℤ net (flow (p moved).trades) ≡ net (flow_of_all flow p hs) +ℤ net (flow (q moved).trades)) → net (flow_of_all flow q (h ∷ hs)) +ℤ net (flow (p moved).trades) ≡ net (flow_of_all flow p (h ∷ hs)) +ℤ net (flow (q moved).trades)
-    by_first true is found rest =
-        let here = eqb-true moved h is in
-        let apart : AllByRecursion (λ other. nat_eq moved other ≡ false) hs = subst (λ n. AllByRecursion (λ other. nat_eq n other ≡ false) hs) (sym here) (IsDistinct-head nat_eq h hs distinct) in
-        let same = same-sum flow q p hs (others-same p q moved others hs apart) in
-        let mine = ap (λ n. flow (p n).trades) here in
-        let new = ap (λ n. flow (q n).trades) here in
-        omega (arith, ints, flow-in _ _ same, flow-out _ _ same, flow-in _ _ mine, flow-out _ _ mine, flow-in _ _ new, flow-out _ _ new)
-    by_first false is found rest =
-        let here = ap (λ (day : Day). flow day.trades) (others h is) in
-        let behind = rest found in
-        omega (arith, ints, flow-in _ _ here, flow-out _ _ here, behind)
-
 -- the sum with a household moved: what its new trades bring is added, and what its old ones brought is taken away
-moved-sum : (flow : List Trade → Flow) → IsAdditive flow → (p q : ℕ → Day) (moved : ℕ) → ((other : ℕ) → nat_eq moved other ≡ false → q other ≡ p other) → (total after : ℤ) → after +ℤ net (flow (p moved).trades) ≡ total +ℤ net (flow (q moved).trades) → IsSumOver flow p total → IsSumOver flow q after
+moved-sum : (flow : List Trade → Flow) → IsAdditive flow → (p q : ℕ → Day) (moved : ℕ) → LeavesOthers p q moved → (total after : ℤ) → after +ℤ net (flow (p moved).trades) ≡ total +ℤ net (flow (q moved).trades) → IsSumOver flow p total → IsSumOver flow q after
 moved-sum flow additive p q moved others total after step is households distinct all = by_met (list_any (nat_eq moved) households) refl
   where
     apart-from : (household : ℕ) → list_any (nat_eq moved) households ≡ true → list_any (nat_eq household) households ≡ false → (b : Bool) → nat_eq moved household ≡ b → nat_eq moved household ≡ false
@@ -106,52 +55,26 @@ moved-sum flow additive p q moved others total after step is households distinct
         let apart = none-apart moved households missing in
         let before = is (moved ∷ households) (IsDistinct-cons nat_eq moved households apart distinct)
         (λ household none. let two = first-apart household (nat_eq household moved) refl none in ap (λ (day : Day). day.trades) (sym (others household two.0)) ∙ all household two.1) in
-        let same = same-sum flow q p households (others-same p q moved others households apart) in
+        let same = same-flows flow q p households (others-same p q moved others households apart) in
         let empty = ap (λ (trades : List Trade). net (flow trades)) (all moved missing) ∙ nothing-net flow additive in
         omega (arith, ints, step, before, flow-in _ _ same, flow-out _ _ same, empty)
 
 -- ---- all moves
 
--- what a move brings, and what it takes back
-abbrev pub with_move : (List Trade → Flow) → List (ℕ × HouseholdPart) → Flow → HouseholdMove → Flow
-with_move flow parts before change =
-    with_flow (with_flow before (flow change.trades)) (reverse_flow (flow (dropped_trades parts change)))
-
--- moves behind what was before
-moves-net : (flow : List Trade → Flow) (parts : List (ℕ × HouseholdPart)) (moves : List HouseholdMove) (before : Flow) → net (fold (with_move flow parts) before moves) ≡ net before +ℤ net (fold (with_move flow parts) no_flow moves)
-moves-net flow parts [] before = omega (arith, ints)
-moves-net flow parts (change ∷ moves) before =
-    let some = moves-net flow parts moves (with_move flow parts before change) in
-    let none = moves-net flow parts moves (with_move flow parts no_flow change) in
-    omega (arith, ints, some, none)
-
-alike-left : (parts : List (ℕ × HouseholdPart)) (p q : ℕ → Day) (moved : ℕ) → ((other : ℕ) → nat_eq moved other ≡ false → q other ≡ p other) → (moves : List HouseholdMove) → AllByRecursion (λ other. nat_eq moved other ≡ false) (households_of moves) → AllByRecursion (λ (change : HouseholdMove). p change.household ≡ part_in parts change.household) moves → AllByRecursion (λ (change : HouseholdMove). q change.household ≡ part_in parts change.household) moves
-alike-left parts p q moved others [] apart alike = tt
-alike-left parts p q moved others (change ∷ moves) apart alike =
-    (others change.household apart.0 ∙ alike.0, alike-left parts p q moved others moves apart.1 alike.1)
-
-all-alike : (parts : List (ℕ × HouseholdPart)) (moves : List HouseholdMove) → AllByRecursion (λ (change : HouseholdMove). part_in parts change.household ≡ part_in parts change.household) moves
-all-alike parts [] = tt
-all-alike parts (change ∷ moves) = (refl, all-alike parts moves)
-
-pub moves-sum : (flow : List Trade → Flow) → IsAdditive flow → (parts : List (ℕ × HouseholdPart)) (moves : List HouseholdMove) → IsDistinct nat_eq (households_of moves) → (p : ℕ → Day) → AllByRecursion (λ (change : HouseholdMove). p change.household ≡ part_in parts change.household) moves → (total : ℤ) → IsSumOver flow p total → IsSumOver flow (λ household. fold (day_if_moved household) (p household) moves) (total +ℤ net (fold (with_move flow parts) no_flow moves))
-moves-sum flow additive parts [] distinct p alike total is = λ households apart all. omega (arith, ints, is households apart all)
-moves-sum flow additive parts (change ∷ moves) distinct p alike total is =
+pub moves-sum : (flow : List Trade → Flow) → IsAdditive flow → (parts : List (ℕ × HouseholdPart)) (moves : List HouseholdMove) → IsDistinct nat_eq (households_of moves) → (p : ℕ → Day) → AreStill parts p moves → (total : ℤ) → IsSumOver flow p total → IsSumOver flow (λ household. fold (day_if_moved household) (p household) moves) (total +ℤ net (fold (with_move flow parts) no_flow moves))
+moves-sum flow additive parts [] distinct p still total is = λ households apart all. omega (arith, ints, is households apart all)
+moves-sum flow additive parts (change ∷ moves) distinct p still total is =
     let q : ℕ → Day = λ household. day_if_moved household (p household) change in
-    let others : (other : ℕ) → nat_eq change.household other ≡ false → q other ≡ p other = λ other apart. ap (λ b. cond b (day_after_move (p other) change) (p other)) (nat_eq_equiv.symm other change.household ∙ apart) in
+    let others : LeavesOthers p q change.household = λ other apart. ap (λ b. cond b (day_after_move (p other) change) (p other)) (nat_eq_equiv.symm other change.household ∙ apart) in
     let own : q change.household ≡ day_after_move (p change.household) change = ap (λ b. cond b (day_after_move (p change.household) change) (p change.household)) (eq-eqb change.household change.household refl) in
     let old = (p change.household).trades in
     let split = ap flow (sym (take-append-drop change.kept old)) ∙ additive (take change.kept old) (drop change.kept old) in
     let made = ap (λ (day : Day). flow day.trades) own ∙ additive (take change.kept old) change.trades in
-    let dropped = ap (λ (day : Day). flow (drop change.kept day.trades)) (sym alike.0) in
+    let dropped = ap (λ (day : Day). flow (drop change.kept day.trades)) (sym still.0) in
     let step = moved-sum flow additive p q change.household others total (total +ℤ net (with_move flow parts no_flow change))
     (omega (arith, ints, flow-in _ _ split, flow-out _ _ split, flow-in _ _ made, flow-out _ _ made, flow-in _ _ dropped, flow-out _ _ dropped)) is in
-    let rest = moves-sum flow additive parts moves (IsDistinct-tail nat_eq change.household (households_of moves) distinct) q (alike-left parts p q change.household others moves (IsDistinct-head nat_eq change.household (households_of moves) distinct) alike.1) (total +ℤ net (with_move flow parts no_flow change)) step in
+    let rest = moves-sum flow additive parts moves (IsDistinct-tail nat_eq change.household (households_of moves) distinct) q (still-left parts p q change.household others moves (IsDistinct-head nat_eq change.household (households_of moves) distinct) still.1) (total +ℤ net (with_move flow parts no_flow change)) step in
     λ households apart all. omega (arith, ints, rest households apart all, moves-net flow parts moves (with_move flow parts no_flow change))
-
-each-same : (p q : ℕ → Day) → ((household : ℕ) → p household ≡ q household) → (households : List ℕ) → AllByRecursion (λ household. p household ≡ q household) households
-each-same p q same [] = tt
-each-same p q same (h ∷ hs) = (same h, each-same p q same hs)
 
 nothing-all : (flow : List Trade → Flow) → IsAdditive flow → (households : List ℕ) → net (flow_of_all flow (part_in []) households) ≡ net no_flow
 nothing-all flow additive [] = refl
@@ -161,16 +84,16 @@ nothing-all flow additive (h ∷ hs) = omega (arith, ints, nothing-net flow addi
 pub installed-sum : (flow : List Trade → Flow) → IsAdditive flow → (parts others : List (ℕ × HouseholdPart)) (moves : List HouseholdMove) → IsDistinct nat_eq (households_of moves) → ((household : ℕ) → part_in others household ≡ part_after moves parts household) → (total after : ℤ) → after ≡ total +ℤ net (fold (with_move flow parts) no_flow moves) → IsSumOver flow (part_in parts) total → IsSumOver flow (part_in others) after
 installed-sum flow additive parts others moves distinct same total after sum is =
     λ households apart all.
-    sum ∙ (moves-sum flow additive parts moves distinct (part_in parts) (all-alike parts moves) total is households apart
+    sum ∙ (moves-sum flow additive parts moves distinct (part_in parts) (all-still parts moves) total is households apart
     (λ household missing. ap (λ (day : Day). day.trades) (sym (same household)) ∙ all household missing)
-    ∙ ap net (sym (same-sum flow (part_in others) (λ household. part_after moves parts household) households (each-same (part_in others) (λ household. part_after moves parts household) same households))))
+    ∙ ap net (sym (same-flows flow (part_in others) (λ household. part_after moves parts household) households (all-same (part_in others) (λ household. part_after moves parts household) (λ household. ap (λ (day : Day). day.trades) (same household)) households))))
 
 -- and where no part changes, it stays
 pub same-parts-sum : (flow : List Trade → Flow) (parts others : List (ℕ × HouseholdPart)) → ((household : ℕ) → part_in others household ≡ part_in parts household) → (total after : ℤ) → after ≡ total → IsSumOver flow (part_in parts) total → IsSumOver flow (part_in others) after
 same-parts-sum flow parts others same total after sum is =
     λ households apart all.
     sum ∙ (is households apart (λ household missing. ap (λ (day : Day). day.trades) (sym (same household)) ∙ all household missing)
-    ∙ ap net (sym (same-sum flow (part_in others) (part_in parts) households (each-same (part_in others) (part_in parts) same households))))
+    ∙ ap net (sym (same-flows flow (part_in others) (part_in parts) households (all-same (part_in others) (part_in parts) (λ household. ap (λ (day : Day). day.trades) (same household)) households))))
 
 -- no household has a trade
 pub empty-sum : (flow : List Trade → Flow) → IsAdditive flow → (total : ℤ) → total ≡ pos 0 → IsSumOver flow (part_in []) total

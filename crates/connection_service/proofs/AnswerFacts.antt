@@ -34,10 +34,6 @@ pub grown-by : (old new events : Journal) (result : Result (List ℕ) KeepFault)
 grown-by old new events (Ok bytes) grown same = (events, grown)
 grown-by old new events (Err fault) grown same = ([], same ∙ sym (append-nil old))
 
--- a keeper goes on from one call to the next
-pub goes-none : {K : Type 0} (moment : K → ℕ) (gave : K → ℕ → Answer → Type 0) (keeper : K) → GoesOn moment gave keeper keeper
-goes-none moment gave keeper = record { later = omega arith; kept = λ since answer given. given }
-
 pub goes-then : {K : Type 0} (moment : K → ℕ) (gave : K → ℕ → Answer → Type 0) (old mid new : K) → GoesOn moment gave old mid → GoesOn moment gave mid new → GoesOn moment gave old new
 goes-then moment gave old mid new first second = record {
   later = omega arith;

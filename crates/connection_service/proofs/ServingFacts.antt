@@ -1,10 +1,11 @@
 -- A connection is served item by item and piece by piece.
-use Rattle.std.proofs.Common.{Err, IfSome, List, None, Ok, Option, Result, Some, [], ap, append-nil, append_assoc, arith, drop, false, length, length-append, option_map, refl, subst, sym, take, true, ℕ, ◌*◌, ◌+◌, ◌++◌, ◌-◌, ◌∙◌, ◌∷◌, ◌<◌, ◌≡◌, ◌≤◌}
+use Rattle.std.proofs.Common.{Err, IfSome, List, None, Ok, Option, Result, Some, [], ap, append-nil, arith, drop, false, length, length-append, option_map, refl, subst, sym, take, true, ℕ, ◌*◌, ◌+◌, ◌++◌, ◌-◌, ◌∙◌, ◌∷◌, ◌<◌, ◌≡◌, ◌≤◌}
 use Rattle.std.specs.Prelude.{Bool}
 use Rattle.std.specs.List.{concat}
-use Rattle.std.proofs.lemmas.List.{drop-drop, length-take, take-append-drop}
+use Rattle.std.proofs.lemmas.List.{length-take, take-append-drop}
 use Rattle.std.proofs.lemmas.List.Folds.{concat-append}
 use Rattle.std.proofs.Math.Seq.{take-add}
+use Rattle.agent_edge.proofs.TalkLemmas.{talk-nothing, talk-read, talk-write}
 use Rattle.agent_edge.specs.Links.{Links, after_read, after_talk, after_write}
 use Rattle.agent_edge.specs.declared.doors.LinkFault.{LinkFault}
 use Rattle.http_calls.specs.Calls.{ends, item_answer, item_key}
@@ -32,30 +33,9 @@ run-more operator stream opened left at texts more (Run.more between after mid n
 texts-more : (texts : List (List ℕ)) (text : List ℕ) → concat (texts ++ text ∷ []) ≡ concat texts ++ text
 texts-more texts text = concat-append texts (text ∷ []) ∙ ap (λ last. concat texts ++ last) (append-nil text)
 
--- the connections before anything was read or written
-links-none : (before : Option Links) → before ≡ option_map (after_talk 0 []) before
-links-none None = refl
-links-none (Some links) = ap (λ written. Some (record links { written = written })) (sym (append-nil links.written))
-
 read-none : (before : Option Links) → IfSome before (λ links. [] ≡ take 0 links.unread)
 read-none None = tt
 read-none (Some links) = refl
-
--- with a text more that was written
-links-write : (before mid now : Option Links) (count : ℕ) (said text : List ℕ) → mid ≡ option_map (after_talk count said) before
-    → now ≡ option_map (after_write text) mid → now ≡ option_map (after_talk count (said ++ text)) before
-links-write None mid now count said text first next = next ∙ ap (option_map (after_write text)) first
-links-write (Some links) mid now count said text first next =
-    next ∙ ap (option_map (after_write text)) first
-    ∙ ap (λ written. Some (record links { unread = drop count links.unread; written = written })) (append_assoc links.written said text)
-
--- with a piece more that was read
-links-read : (before mid now : Option Links) (count more : ℕ) (said : List ℕ) → mid ≡ option_map (after_talk count said) before
-    → now ≡ option_map (after_read more) mid → now ≡ option_map (after_talk (count + more) said) before
-links-read None mid now count more said first next = next ∙ ap (option_map (after_read more)) first
-links-read (Some links) mid now count more said first next =
-    next ∙ ap (option_map (after_read more)) first
-    ∙ ap (λ unread. Some (record links { unread = unread; written = links.written ++ said })) (drop-drop more count links.unread)
 
 read-more : (before mid : Option Links) (came said piece : List ℕ) → IfSome before (λ links. came ≡ take (length came) links.unread)
     → mid ≡ option_map (after_talk (length came) said) before → IfSome mid (λ links. piece ≡ take (length piece) links.unread)
@@ -85,7 +65,7 @@ read-all (Some links) mid came said first is end =
 -- before the first item
 pub serving-none : (operator : List ℕ) (opened : At) (before : Option Links) → IsServing operator opened before before (stream_of []) opened
 serving-none operator opened before =
-    record { came = []; texts = []; run = Run.none; read = read-none before; links = links-none before }
+    record { came = []; texts = []; run = Run.none; read = read-none before; links = talk-nothing before }
 
 -- the piece that was read next
 pub serving-piece : (operator : List ℕ) (opened : At) (before mid now : Option Links) (left : Stream) (at : At) (piece : List ℕ)
@@ -96,7 +76,7 @@ serving-piece operator opened before mid now left at piece serving is next = rec
   texts = serving.texts;
   run = run-more operator (stream_of serving.came) opened left at serving.texts piece serving.run;
   read = read-more before mid serving.came (concat serving.texts) piece serving.read serving.links is;
-  links = links-read before mid now (length serving.came) (length piece) (concat serving.texts) serving.links next
+  links = talk-read before mid now (length serving.came) (length piece) (concat serving.texts) serving.links next
       ∙ ap (λ n. option_map (after_talk n (concat serving.texts)) before) (sym (length-append serving.came piece));
 }
 
@@ -109,7 +89,7 @@ serving-item operator opened before mid now left after at new item text serving 
   texts = serving.texts ++ text ∷ [];
   run = Run.more left after at new serving.texts item text serving.run is answers;
   read = serving.read;
-  links = links-write before mid now (length serving.came) (concat serving.texts) text serving.links next
+  links = talk-write before mid now (length serving.came) (concat serving.texts) text serving.links next
       ∙ ap (λ said. option_map (after_talk (length serving.came) said) before) (sym (texts-more serving.texts text));
 }
 
@@ -125,7 +105,7 @@ served-cut operator opened before mid now left after at new item text count serv
   read = serving.read;
   said = concat serving.texts ++ take count text;
   ends = Ends.cut serving.texts text count refl less refl;
-  links = links-write before mid now (length serving.came) (concat serving.texts) (take count text) serving.links next;
+  links = talk-write before mid now (length serving.came) (concat serving.texts) (take count text) serving.links next;
 }
 
 -- behind its text the connection goes on, or it ends
@@ -221,7 +201,7 @@ over-memory operator opened before mid now left behind at (Ok done) serving uncl
   read = serving.read;
   said = concat serving.texts ++ memory_text;
   ends = Ends.no_memory unclosed refl;
-  links = links-write before mid now (length serving.came) (concat serving.texts) memory_text serving.links next;
+  links = talk-write before mid now (length serving.came) (concat serving.texts) memory_text serving.links next;
 }
 over-memory operator opened before mid now left behind at (Err fault) serving unclosed (count, less, next) = record {
   came = serving.came;
@@ -231,7 +211,7 @@ over-memory operator opened before mid now left behind at (Err fault) serving un
   read = serving.read;
   said = concat serving.texts ++ take count memory_text;
   ends = Ends.cut_for_memory count unclosed less refl;
-  links = links-write before mid now (length serving.came) (concat serving.texts) (take count memory_text) serving.links next;
+  links = talk-write before mid now (length serving.came) (concat serving.texts) (take count memory_text) serving.links next;
 }
 
 pub goes-over : (operator : List ℕ) (opened : At) (before mid now : Option Links) (left behind : Stream) (at : At) (going : Going)

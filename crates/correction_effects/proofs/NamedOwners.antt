@@ -4,6 +4,7 @@ use Rattle.std.proofs.lemmas.Bool.{and_parts, eqb-true}
 use Rattle.std.proofs.lemmas.Bool.Decides.{Decides-eqb}
 use Rattle.std.proofs.lemmas.Cmp.{nat_eq_equiv}
 use Rattle.std.proofs.lemmas.Map.Made.{is_member-Decides, is_member-filter}
+use Rattle.std.proofs.Math.Seq.{take-length}
 use Rattle.std.specs.List.{list_any, slice_get}
 use Rattle.std.specs.Option.{option_map_or, option_or}
 use Rattle.std.specs.Prelude.{nat_eq, option_map}
@@ -11,7 +12,7 @@ use Rattle.std.specs.Set.{is_member}
 use Rattle.agent_events.specs.declared.order.OrderRow.{OrderRow}
 use Rattle.agent_events.specs.declared.request.AccountForm.{AccountForm}
 use Rattle.correction_effects.specs.Naming.{AreNaming, is_naming, names_at, names_somewhere, names_standing}
-use Rattle.order_book.proofs.ChainWalk.{smaller, some-last}
+use Rattle.order_book.proofs.ChainWalk.{got-within, shifted, smaller, some-last}
 use Rattle.order_book.specs.LastPlaces.{last_place, last_place_from}
 use Rattle.register_laws.specs.CorrectionReach.{names_class}
 use Rattle.register_laws.specs.Households.{is_of_household, is_own_row, own_orders}
@@ -20,7 +21,6 @@ use Rattle.register_machine.specs.journal.Choices.{when}
 use Rattle.register_machine.specs.journal.Journals.{Journal}
 use Rattle.register_machine.specs.journal.Kinds.{accounts_of, household_of}
 use Rattle.register_machine.specs.pricing.CorrectedOrders.{orders_of, stands}
-use Rattle.standing_orders.proofs.OwnPlaces.{got-within, last-shifted}
 use Rattle.standing_orders.specs.ClassHouseholds.{AreNoted, ClassLists, is_listed, listed_under}
 use Rattle.standing_orders.specs.Rows.{AreOwners, is_owner}
 
@@ -32,7 +32,7 @@ naming-none class household [] owners none = refl
 naming-none class household (row ∷ rows) [] none = refl
 naming-none class household (row ∷ rows) (owner ∷ owners) none =
     by_found (last_place_from 0 (is_owner household) owners) refl (is_owner household owner) refl
-    (ap (λ (found : Option ℕ). option_or found (when (is_owner household owner) 0)) (sym (last-shifted (is_owner household) 0 owners)) ∙ none)
+    (ap (λ (found : Option ℕ). option_or found (when (is_owner household owner) 0)) (sym (shifted (is_owner household) 0 owners)) ∙ none)
     (naming-none class household rows owners)
   where
     by_found : (found : Option ℕ) → last_place_from 0 (is_owner household) owners ≡ found → (is : Bool) → is_owner household owner ≡ is → option_or (option_map suc found) (when is 0) ≡ None
@@ -54,7 +54,7 @@ naming-last class household [] owners n is = sym (none n)
 naming-last class household (row ∷ rows) [] n is = cc
 naming-last class household (row ∷ rows) (owner ∷ owners) n is =
     by_found (last_place_from 0 (is_owner household) owners) refl (is_owner household owner) refl
-    (ap (λ (found : Option ℕ). option_or found (when (is_owner household owner) 0)) (sym (last-shifted (is_owner household) 0 owners)) ∙ is)
+    (ap (λ (found : Option ℕ). option_or found (when (is_owner household owner) 0)) (sym (shifted (is_owner household) 0 owners)) ∙ is)
     (naming-last class household rows owners)
   where
     IsSplit : ℕ → Type 0
@@ -98,10 +98,6 @@ pub record HasPassed (class household : ℕ) (rows : List OrderRow) (owners : Li
   pub last : at ≡ last_place (is_owner household) (take bound owners)
   pub rest : is_naming class rows owners household ≡ is_naming class (take bound rows) (take bound owners) household
 
-whole : {X : Type 0} (ys : List X) → take (length ys) ys ≡ ys
-whole [] = refl
-whole (y ∷ ys) = ap (λ later. y ∷ later) (whole ys)
-
 short-of-owners : (class household : ℕ) (rows : List OrderRow) (owners : List ℕ) → is_naming class rows owners household ≡ is_naming class (take (length owners) rows) owners household
 short-of-owners class household [] owners = none owners
   where
@@ -115,10 +111,10 @@ short-of-owners class household (row ∷ rows) (owner ∷ owners) =
 pub begins-passing : (class household : ℕ) (rows : List OrderRow) (owners : List ℕ) (at : Option ℕ) → at ≡ last_place (is_owner household) owners → HasPassed class household rows owners at
 begins-passing class household rows owners at is = record {
   bound = length owners;
-  last = is ∙ ap (last_place (is_owner household)) (sym (whole owners));
+  last = is ∙ ap (last_place (is_owner household)) (sym (take-length owners));
   rest =
       short-of-owners class household rows owners
-      ∙ ap (λ own. is_naming class (take (length owners) rows) own household) (sym (whole owners));
+      ∙ ap (λ own. is_naming class (take (length owners) rows) own household) (sym (take-length owners));
 }
 
 got-before : {X : Type 0} (bound : ℕ) (xs : List X) (n : ℕ) → n < bound → slice_get (take bound xs) n ≡ slice_get xs n

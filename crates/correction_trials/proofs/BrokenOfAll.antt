@@ -1,5 +1,5 @@
 -- The least of the broken trades of the households that a correction reaches is the first one of all.
-use Rattle.std.proofs.Common.{All, Bool, Contains, List, None, Option, Some, [], ap, cond, eq-eqb, eqb-true, false, find, is_some, nat_eq, not, option_map, option_to_list, refl, subst, sym, true, ℕ, ◌&&◌, ◌<◌, ◌==◌, ◌∙◌, ◌∷◌, ◌≡◌, ◌||◌}
+use Rattle.std.proofs.Common.{All, Bool, Contains, List, None, Option, Some, ap, eq-eqb, eqb-true, false, is_some, nat_eq, not, option_map, option_to_list, refl, subst, sym, true, ℕ, ◌&&◌, ◌<◌, ◌==◌, ◌∙◌, ◌≡◌, ◌||◌}
 use Rattle.std.proofs.lemmas.Bool.{and_parts, true≢false}
 use Rattle.std.proofs.lemmas.List.Elements.{All-contains}
 use Rattle.std.proofs.lemmas.List.Folds.{Any-from_list_any}
@@ -29,6 +29,7 @@ use Rattle.household_fold.specs.Facts.{Known}
 use Rattle.checkpoint_replay.specs.Moves.{Moves}
 use Rattle.desk_books.proofs.ledger_of_journals.LedgerTotals.{is_of_households}
 use Rattle.register_laws.proofs.BrokenByParts.{breaks_by_parts}
+use Rattle.register_laws.proofs.Isolation.{find-passes}
 use Rattle.register_laws.proofs.KnownAccounts.{known-replay}
 use Rattle.register_laws.proofs.Unreached.{unreached_is_unbroken}
 use Rattle.register_laws.specs.BrokenByParts.{first_broken_in}
@@ -47,7 +48,7 @@ use Rattle.register_machine.specs.rules.Breaks.{breaks_between, breaks_by, is_br
 
 -- ---- the household of an account
 
-of-owner : (found : Option ℕ) → is_some found ≡ true → (household : ℕ) × (option_map_or (λ (owner : ℕ). owner == household) found false ≡ true)
+pub of-owner : (found : Option ℕ) → is_some found ≡ true → (household : ℕ) × (option_map_or (λ (owner : ℕ). owner == household) found false ≡ true)
 of-owner None there = absurd (true≢false (sym there))
 of-owner (Some owner) there = (owner, eq-eqb owner owner refl)
 
@@ -60,21 +61,6 @@ another-owner (Some owner) household none = by (owner == household) refl
     by false is = refl
 
 -- ---- the account of the first broken trade is known
-
-found-passes : {X : Type 0} (test : X → Bool) (xs : List X) (x : X) → find test xs ≡ Some x → test x ≡ true
-found-passes test [] x is = absurd (none-some is)
-  where
-    none-some : None ≡ Some x → ⊥
-    none-some e = cc
-found-passes test (first ∷ xs) x is =
-    by (test first) refl is (λ later. found-passes test xs x later)
-  where
-    same : Some first ≡ Some x → first ≡ x
-    same e = cc
-
-    by : (b : Bool) → test first ≡ b → cond b (Some first) (find test xs) ≡ Some x → (find test xs ≡ Some x → test x ≡ true) → test x ≡ true
-    by true passes here rest = ap test (sym (same here)) ∙ passes
-    by false passes later rest = rest later
 
 trades-owned : (journal : Journal) → IsLawful journal → All (λ (trade : Trade). is_some (household_of (accounts_of journal) trade.account) ≡ true) (replay (book_behind journal)).trades
 unfolding replay
@@ -102,7 +88,7 @@ first-owned : (journal : Journal) (event : Event) (after : Day) → IsLawful jou
 first-owned journal event after lawful knows trade is =
     let before = (replay (book_behind journal)).trades in
     let corrected = order_corrected event.kind in
-    let passes = found-passes (is_broken corrected before) after.trades trade is in
+    let passes = find-passes (is_broken corrected before) after.trades trade is in
     let parts = and_parts (not (is_filled trade.outcome)) (was_filled before trade || option_map_or (λ (own : Order). is_trade_of own.account own.ref_no trade) corrected false) passes in
     by (was_filled before trade) refl parts.1
   where

@@ -1,11 +1,10 @@
 -- Every class that a correction changes is one of the journal's.
-use Rattle.std.proofs.Common.{All, Bool, List, None, Option, Some, [], ap, append-nil, arith, cond, count_by, eqb-true, false, filter, get_or, is_some, map, nat_eq, not, option_to_list, pos, refl, sym, true, ℕ, ℤ, ◌&&◌, ◌++◌, ◌+◌, ◌==◌, ◌∙◌, ◌∷◌, ◌≡◌, ◌||◌}
-use Rattle.std.proofs.lemmas.Bool.{and_parts, eq-eqb, true≢false}
+use Rattle.std.proofs.Common.{All, Bool, List, None, Option, Some, [], ap, append-nil, arith, cond, count_by, eqb-true, false, get_or, is_some, map, nat_eq, not, option_to_list, pos, refl, sym, true, ℕ, ℤ, ◌&&◌, ◌++◌, ◌+◌, ◌==◌, ◌∙◌, ◌∷◌, ◌≡◌, ◌||◌}
+use Rattle.std.proofs.lemmas.Bool.{and_parts, true≢false}
 use Rattle.std.proofs.lemmas.Int.{ints}
 use Rattle.std.proofs.lemmas.List.Elements.{All-head, All-nil, All-cons, All-append, All-filter, All-tail, All-weaker}
 use Rattle.std.proofs.lemmas.List.Sums.{sum_by-cons}
 use Rattle.std.specs.List.{list_all, list_any}
-use Rattle.std.specs.Option.{option_map_or}
 use Rattle.std.specs.List.Sorted.{IsStrictlyIncreasing}
 use Rattle.std.specs.Prelude.{◌-ℤ◌}
 use Rattle.agent_events.specs.Events.{Event}
@@ -16,7 +15,8 @@ use Rattle.agent_events.specs.declared.order.Party.{Party}
 use Rattle.agent_events.specs.declared.request.AccountForm.{AccountForm}
 use Rattle.agent_events.specs.declared.request.ClassForm.{ClassForm}
 use Rattle.agent_events.specs.declared.totals.Changes.{Changes}
-use Rattle.desk_looks.proofs.ClassesListed.{lists_holdings}
+use Rattle.correction_trials.proofs.BrokenOfAll.{of-owner}
+use Rattle.desk_looks.proofs.ClassesListed.{all-of, lists_holdings}
 use Rattle.event_laws.specs.EventReplays.{is_correction}
 use Rattle.gain_loss_book.specs.Booked.{AreDifferences}
 use Rattle.gain_loss_book.specs.ClassGains.{HasChanged, changes_class, class_flows, mils_change}
@@ -28,6 +28,7 @@ use Rattle.register_laws.proofs.NoIdentityTwice.{no_account_twice}
 use Rattle.register_laws.proofs.OneEventMore.{gathers-on}
 use Rattle.register_laws.proofs.PartyFacts.{booked_parties, stands-once}
 use Rattle.register_laws.proofs.TradeParties.{KnownMovement, KnownOrder, KnownTarget, replay-moves}
+use Rattle.register_laws.proofs.Unreached.{all-unfiltered}
 use Rattle.register_laws.specs.Households.{is_of_household, is_own_position}
 use Rattle.register_laws.specs.Identities.{has_number, is_class}
 use Rattle.register_laws.specs.Lawful.{book_behind}
@@ -103,12 +104,6 @@ order-listed journal order all =
     by None e = tt
     by (Some to) e = (and_parts (list_any (is_class to) (classes_of journal)) true e).0
 
-all-of : {X : Type 0} (test : X → Bool) (xs : List X) → list_all test xs ≡ true → All (λ x. test x ≡ true) xs
-all-of test [] all = All-nil (λ x. test x ≡ true)
-all-of test (x ∷ xs) all =
-    let parts = and_parts (test x) (list_all test xs) all in
-    All-cons (λ y. test y ≡ true) x xs parts.0 (all-of test xs parts.1)
-
 moves-listed : (journal : Journal) → IsLawful journal → All (KnownMovement (Listed journal)) (movements_of (replay (book_behind journal)).trades)
 moves-listed journal lawful =
     replay-moves (Listed journal) tt (book_behind journal)
@@ -146,21 +141,6 @@ module _ (journal : Journal) (class : ℕ) (unknown : list_any (is_class class) 
 
 -- ---- no position is of another class
 
--- what passes is kept by a filter
-kept-all : {X : Type 0} (P : X → Type 0) (test : X → Bool) (xs : List X) → All P (filter test xs) → All (λ x. test x ≡ true → P x) xs
-kept-all P test [] all = All-nil (λ x. test x ≡ true → P x)
-kept-all {X} P test (x ∷ xs) all = by (test x) refl all (λ rest. kept-all P test xs rest)
-  where
-    by : (b : Bool) → test x ≡ b → All P (cond b (x ∷ filter test xs) (filter test xs)) → (All P (filter test xs) → All (λ y. test y ≡ true → P y) xs) → All (λ y. test y ≡ true → P y) (x ∷ xs)
-    by true is kept rest =
-        All-cons (λ y. test y ≡ true → P y) x xs (λ passes. All-head P x (filter test xs) kept) (rest (All-tail P x (filter test xs) kept))
-    by false is kept rest =
-        All-cons (λ y. test y ≡ true → P y) x xs (λ passes. absurd (true≢false (sym passes ∙ is))) (rest kept)
-
-of-owner : (found : Option ℕ) → is_some found ≡ true → (household : ℕ) × (option_map_or (λ (owner : ℕ). owner == household) found false ≡ true)
-of-owner None there = absurd (true≢false (sym there))
-of-owner (Some owner) there = (owner, eq-eqb owner owner refl)
-
 positions-known : (journal : Journal) → IsLawful journal → All (λ (p : Position). is_some (household_of (accounts_of journal) p.account) ≡ true) (replay (book_behind journal)).register
 unfolding replay
 positions-known journal lawful =
@@ -171,7 +151,7 @@ positions-listed journal lawful k d short =
     let register = (replay (book_behind journal)).register in
     let p = get_or register k d in
     let owner = of-owner (household_of (accounts_of journal) p.account) (positions-known journal lawful k d short) in
-    kept-all (λ (q : Position). q.account ≡ p.account → list_any (nat_eq q.class) (class_numbers_of journal) ≡ true)
+    all-unfiltered (λ (q : Position). q.account ≡ p.account → list_any (nat_eq q.class) (class_numbers_of journal) ≡ true)
     (is_own_position (is_of_household (accounts_of journal) owner.0)) register
     ((lists_holdings journal owner.0 lawful).listed p.account) k d short owner.1 refl
 

@@ -1,12 +1,11 @@
 -- A correction that no rule before the last one refuses, on trial behind a lawful journal.
-use Rattle.std.proofs.Common.{None, Option, Some, ap, is_none, is_some, option_map, position, refl, sym, true, ℕ, ◌∙◌, ◌≡◌}
+use Rattle.std.proofs.Common.{None, Option, Some, ap, is_none, is_some, position, refl, sym, true, ℕ, ◌∙◌, ◌≡◌}
 use Rattle.std.proofs.lemmas.Bool.{true≢false}
 use Rattle.agent_events.specs.Events.{Event, event_of, request_of}
 use Rattle.agent_events.specs.declared.event.EventKind.{EventKind}
 use Rattle.agent_events.specs.declared.order.Order.{Order}
 use Rattle.agent_events.specs.declared.order.OrderRow.{OrderRow}
 use Rattle.agent_events.specs.declared.reply.Refusal.{Refusal}
-use Rattle.agent_events.specs.declared.request.AccountForm.{AccountForm}
 use Rattle.agent_events.specs.declared.request.EntryForm.{EntryForm}
 use Rattle.agent_events.specs.declared.request.Request.{Request}
 use Rattle.agent_events.specs.declared.verdict.Caller.{Caller}
@@ -15,6 +14,7 @@ use Rattle.correction_trials.specs.Fresh.{FreshIsOnTrial, KnowsItsAccount}
 use Rattle.event_laws.proofs.TriedCorrections.{tried_has_a_book}
 use Rattle.event_laws.specs.EventReplays.{is_correction}
 use Rattle.desk_books.proofs.ledger_laws.TrialBooks.{trial_is_sound}
+use Rattle.desk_books.proofs.ledger_of_journals.LedgerTotals.{owner-there}
 use Rattle.order_book.proofs.BroughtFits.{fresh_fits}
 use Rattle.order_book.specs.Books.{Fits, begins_new_name}
 use Rattle.register_laws.proofs.AnswersByCases.{asks}
@@ -58,10 +58,6 @@ fresh-clear situation request event = by_right (first_some (first_rules situatio
     by_right None fresh = by_place (position (repeats request) situation.journal) fresh
 
 -- ---- the account of its order
-
-owner-there : (found : Option AccountForm) → is_some found ≡ true → is_some (option_map (λ (form : AccountForm). form.household) found) ≡ true
-owner-there None there = there
-owner-there (Some form) there = refl
 
 knows-account : (journal : Journal) (now : ℕ) (caller : Caller) (kind : EventKind) → is_correction kind ≡ true → none_such (own_at journal now caller) (request_of kind) ≡ None → KnowsItsAccount journal kind
 knows-account journal now caller (EventKind.Order placed) corrects known order is = absurd (true≢false (sym corrects))

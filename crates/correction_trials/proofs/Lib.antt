@@ -8,8 +8,6 @@ pub mod TrialOrders
 pub mod ReopenedMore
 -- the least broken trade is the first of all
 pub mod BrokenOfAll
--- by how much moves change the totals, told by the days that they leave
-pub mod MovedDays
 -- every class that changes is one of the journal
 pub mod ChangedClasses
 -- what the trial makes of the ledger is what the correction does

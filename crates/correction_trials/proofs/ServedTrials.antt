@@ -1,5 +1,5 @@
 -- The facts that serve a correction on trial.
-use Rattle.std.proofs.Common.{Bool, List, None, Option, Some, [], ap, cond, false, find, is_some, length, option_map, refl, subst, sym, true, ℕ, ◌&&◌, ◌==◌, ◌∙◌, ◌∷◌, ◌≡◌, ◌||◌}
+use Rattle.std.proofs.Common.{Bool, List, None, Option, Some, [], ap, cond, false, find, length, option_map, refl, subst, sym, true, ℕ, ◌&&◌, ◌==◌, ◌∙◌, ◌∷◌, ◌≡◌, ◌||◌}
 use Rattle.std.proofs.lemmas.Bool.{and_from, eq-eqb, true≢false}
 use Rattle.std.specs.List.{list_any}
 use Rattle.agent_events.specs.Events.{Event}
@@ -19,9 +19,9 @@ use Rattle.household_fold.specs.Facts.{Known}
 use Rattle.journal_tables.specs.Tables.{row_of_fix, with_fixed_rate}
 use Rattle.journal_tables.specs.TablesOfJournals.{IsPricedOn, patch_by, patch_on}
 use Rattle.desk_books.proofs.ledger_of_journals.FixedPrices.{price_of_one_sheet}
-use Rattle.desk_books.proofs.ledger_of_journals.ServedBooks.{order_correction_served, price_correction_served, rate_correction_served}
+use Rattle.desk_books.proofs.ledger_of_journals.ServedBooks.{order-table, order_correction_served, price_correction_served, rate_correction_served}
 use Rattle.desk_books.specs.ledger_of_journals.TableFacts.{IsOnTrial as IsTrialOf}
-use Rattle.register_laws.specs.CorrectionReach.{IsListedOn, order_changed}
+use Rattle.register_laws.specs.CorrectionReach.{IsListedOn}
 use Rattle.register_laws.specs.Lawful.{book_behind}
 use Rattle.register_laws.specs.OneEventMore.{FixesOnePrice, corrected_table, corrected_table_by}
 use Rattle.register_machine.specs.journal.Journals.{Journal, with_event}
@@ -54,14 +54,6 @@ table-behind : (journal : Journal) (event : Event) (kind : EventKind) → event.
 table-behind journal event kind at is =
     ap (λ (book : Book). book.table) is.sound.goes_on
     ∙ ap (corrected_table_by (corrected_table journal) event.moment) at
-
-order-table : (table : Table) (moment : ℕ) (kind : EventKind) → is_some (order_changed kind) ≡ true → corrected_table_by table moment kind ≡ table
-order-table table moment (EventKind.Order placed) changes = refl
-order-table table moment (EventKind.Enter form) changes = refl
-order-table table moment (EventKind.Replace form) changes = refl
-order-table table moment (EventKind.Cancel form) changes = refl
-order-table table moment (EventKind.Void form) changes = refl
-order-table table moment _ changes = absurd (true≢false (sym changes))
 
 pub order_served : (books : DeskBooks) (event : Event) → OrderIsServed books event
 order_served books event are corrects changes is =

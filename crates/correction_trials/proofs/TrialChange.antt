@@ -1,19 +1,18 @@
 -- What the trial of a correction makes of the ledger is what the correction does, where it then follows the journal.
-use Rattle.std.proofs.Common.{Bool, List, Option, Some, [], ap, cond, false, fold, nat_eq, refl, sym, true, ℕ, ◌∙◌, ◌∷◌, ◌≡◌, ◌||◌}
+use Rattle.std.proofs.Common.{Bool, List, Option, Some, ap, false, nat_eq, refl, sym, true, ℕ, ◌∙◌, ◌≡◌, ◌||◌}
 use Rattle.std.proofs.lemmas.Bool.{true≢false}
 use Rattle.std.specs.List.{list_any}
 use Rattle.agent_events.specs.Events.{Event}
 use Rattle.agent_events.specs.declared.event.EventKind.{EventKind}
 use Rattle.agent_events.specs.declared.order.Bearer.{Bearer}
 use Rattle.agent_events.specs.declared.reply_lists.ClassGain.{ClassGain}
-use Rattle.checkpoint_replay.specs.Moves.{AreApart, Moves, day_after_move, day_if_moved, part_after}
+use Rattle.checkpoint_replay.specs.Moves.{AreApart, Moves, part_after}
 use Rattle.checkpoint_replay.specs.Parts.{part_in}
-use Rattle.checkpoint_replay.specs.declared.change.HouseholdMove.{HouseholdMove}
 use Rattle.correction_effects.specs.Reached.{AreReached}
 use Rattle.correction_effects.specs.declared.least.BrokenTrade.{BrokenTrade}
 use Rattle.correction_trials.proofs.BrokenOfAll.{part-left}
 use Rattle.correction_trials.proofs.ChangedClasses.{has_changed, numbers_rise}
-use Rattle.correction_trials.proofs.MovedDays.{differences-by-days}
+use Rattle.desk_books.proofs.ledger_of_journals.MovedDays.{differences-by-days}
 use Rattle.correction_trials.specs.Changed.{AreGainsOf, AreWithin, change_with}
 use Rattle.correction_trials.specs.Reopened.{AreReopened, IsTriedOver}
 use Rattle.desk_books.specs.LedgerChanges.{IsLedgerChange}
@@ -29,7 +28,7 @@ use Rattle.gain_loss_book.specs.declared.posting.Correction.{Correction}
 use Rattle.household_fold.specs.Facts.{Known, sheets_known}
 use Rattle.desk_books.proofs.ledger_of_journals.CorrectedParts.{keeps_accounts, reopens}
 use Rattle.desk_books.proofs.ledger_of_journals.LedgerTotals.{is_of_households}
-use Rattle.desk_books.proofs.ledger_of_journals.Reopenings.{reopenings_correct}
+use Rattle.desk_books.proofs.ledger_of_journals.Reopenings.{reopenings_correct, unmoved}
 use Rattle.desk_books.specs.ledger_of_journals.CorrectedLedgers.{LeavesUnmoved, is_moved}
 use Rattle.register_laws.proofs.OneEventMore.{table_goes_on}
 use Rattle.register_laws.specs.Households.{part_of}
@@ -41,7 +40,6 @@ use Rattle.register_machine.specs.journal.Lawful.{IsLawful}
 use Rattle.register_machine.specs.pricing.CorrectedBook.{Book, book_of}
 use Rattle.register_machine.specs.pricing.PublishedTable.{table_behind, table_by, table_of}
 use Rattle.register_machine.specs.replay.Replay.{replay}
-use Rattle.register_machine.specs.replay.Trades.{Day}
 use Rattle.agent_events.specs.declared.request.AccountForm.{AccountForm}
 
 -- ---- the published table stays
@@ -71,16 +69,6 @@ gains-at journal event corrects =
     (sym (same-table journal event corrects))
 
 -- ---- the days
-
-unmoved : (moves : List HouseholdMove) (household : ℕ) (day : Day) → is_moved moves household ≡ false → fold (day_if_moved household) day moves ≡ day
-unmoved [] household day none = refl
-unmoved (change ∷ moves) household day none =
-    by (nat_eq household change.household) refl none (unmoved moves household day)
-  where
-    by : (b : Bool) → nat_eq household change.household ≡ b → (b || is_moved moves household) ≡ false → (is_moved moves household ≡ false → fold (day_if_moved household) day moves ≡ day) → fold (day_if_moved household) day (change ∷ moves) ≡ day
-    by true is e rest = absurd (true≢false e)
-    by false is e rest =
-        ap (λ (b : Bool). fold (day_if_moved household) (cond b (day_after_move day change) day) moves) is ∙ rest e
 
 module _ (books : DeskBooks) (event : Event) (known : Known) (households : List ℕ) (change : Moves) (first : Option BrokenTrade)
     (is : IsTriedOver books event known) (reached : AreReached books.book.journal event.kind households)

@@ -77,7 +77,7 @@ asker_is_caller journal _ = tt
 
 -- ---- the same event
 
-unsome : {X : Type 0} {x y : X} → Some x ≡ Some y → y ≡ x
+pub unsome : {X : Type 0} {x y : X} → Some x ≡ Some y → y ≡ x
 unsome e = cc
 
 abbrev placed_as : Order → Source → ℕ → ℕ → Placed

@@ -11,7 +11,7 @@ use Rattle.agent_events.specs.declared.order.Bearer.{Bearer}
 use Rattle.agent_events.specs.declared.reply.Refusal.{Refusal}
 use Rattle.agent_events.specs.declared.request.Request.{Request}
 use Rattle.agent_events.specs.declared.verdict.Verdict.{Verdict}
-use Rattle.desk_answers.proofs.AskedAgain.{brought-again, keeps-itself}
+use Rattle.desk_answers.proofs.AskedAgain.{brought-again, keeps-itself, unsome}
 use Rattle.desk_answers.proofs.Verdicts.{fresh_brings}
 use Rattle.desk_answers.specs.Answered.{events_of}
 use Rattle.desk_answers.specs.Asked.{IsAskedAgain, change_to, keeps_moments}
@@ -30,9 +30,6 @@ use Rattle.register_machine.specs.run.Answers.{Answer, answer_by, fresh_answer, 
 use Rattle.register_machine.specs.run.Replies.{first_reply}
 use Rattle.register_machine.specs.run.Verdicts.{due_now, verdict}
 
-some-back : {X : Type 0} {x y : X} → Some x ≡ Some y → y ≡ x
-some-back e = cc
-
 -- ---- the kind that is brought: the same, or an order's
 
 kind-brought : (kind other : EventKind) (now due : ℕ) → event_of (request_of kind) now due ≡ Some other → (other ≡ kind) ⊎ ((is_sheet other || is_correction other) ≡ false)
@@ -42,9 +39,9 @@ kind-brought (EventKind.Order placed) other now due e = by_source placed.source 
     plain own is = ap (λ k. is_sheet k || is_correction k) is
 
     by_source : (source : Source) → event_of (order_request source placed.receipt placed.order) now due ≡ Some other → (other ≡ EventKind.Order placed) ⊎ ((is_sheet other || is_correction other) ≡ false)
-    by_source Source.Direct h = inr (plain _ (some-back h))
-    by_source Source.Dealer h = inr (plain _ (some-back h))
-kind-brought _ other now due e = inl (some-back e)
+    by_source Source.Direct h = inr (plain _ (unsome h))
+    by_source Source.Dealer h = inr (plain _ (unsome h))
+kind-brought _ other now due e = inl (unsome e)
 
 -- ---- what brings no event
 

@@ -1,16 +1,13 @@
 -- The steps of an event, by how many households it reaches.
-use Rattle.std.proofs.Common.{Bool, List, None, Option, Some, ap, arith, false, inl, inr, length, nat_eq, refl, subst, sym, true, ℕ, ◌*◌, ◌+◌, ◌||◌, ◌∙◌, ◌≡◌, ◌≤◌}
+use Rattle.std.proofs.Common.{Bool, List, None, Option, Some, ap, arith, false, inl, inr, length, refl, subst, sym, true, ℕ, ◌*◌, ◌+◌, ◌||◌, ◌∙◌, ◌≡◌, ◌≤◌}
 use Rattle.std.proofs.Math.Nat.{mul-le-mul}
 use Rattle.std.proofs.lemmas.Bool.{true≢false}
-use Rattle.std.proofs.lemmas.Bool.Decides.{Decides-eqb}
-use Rattle.std.proofs.lemmas.List.Kept.{AllPairs-from_increasing}
-use Rattle.std.proofs.lemmas.Map.Made.{IsDistinct-from_AllPairs}
-use Rattle.std.specs.List.{IsDistinct}
 use Rattle.std.specs.List.Sorted.{IsStrictlyIncreasing}
 use Rattle.std.specs.Prelude.{IfSome}
 use Rattle.agent_events.specs.Events.{Event}
 use Rattle.agent_events.specs.declared.event.EventKind.{EventKind}
 use Rattle.checkpoint_replay.specs.Moves.{households_of}
+use Rattle.correction_trials.proofs.TrialSteps.{rising_differ}
 use Rattle.correction_trials.specs.correction_effects.Naming.{IsNaming}
 use Rattle.correction_trials.specs.correction_effects.Reached.{household_alone}
 use Rattle.desk_answers.proofs.CountedHouseholds.{class_count, sheet_count}
@@ -25,12 +22,6 @@ use Rattle.register_laws.specs.Lawful.{book_behind}
 use Rattle.register_machine.specs.journal.Journals.{Journal, with_event}
 use Rattle.register_machine.specs.journal.Lawful.{IsLawful}
 
--- households that rise are different
-rising-differ : (households : List ℕ) → IsStrictlyIncreasing households → IsDistinct nat_eq households
-rising-differ households rises =
-    let pairs = AllPairs-from_increasing households rises in
-    IsDistinct-from_AllPairs {eq = nat_eq} Decides-eqb households (λ i j d before short same. omega (arith, pairs i j d before short, same))
-
 -- at most so many for each of no more households
 within : (few most sheets before after : ℕ) → few ≤ most → after ≤ before + few * sheets → after ≤ before + most * sheets
 within few most sheets before after less steps =
@@ -44,7 +35,7 @@ module _ (journal : Journal) (before after : ℕ) (lawful : IsLawful journal) wh
       → after ≤ before + class_reach journal class * length (book_behind journal).table.sheets
   of-class class (households, rising, naming, few) =
       within (length households) (class_reach journal class) (length (book_behind journal).table.sheets) before after
-      (class_count journal class households lawful (rising-differ households rising) naming.own) few
+      (class_count journal class households lawful (rising_differ households rising) naming.own) few
 
   of-account : (account : ℕ) → (households : List ℕ) × IsStrictlyIncreasing households × (households ≡ household_alone journal account) × (after ≤ before + length households * length (book_behind journal).table.sheets)
       → after ≤ before + account_reach journal account * length (book_behind journal).table.sheets

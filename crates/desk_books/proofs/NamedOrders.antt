@@ -1,5 +1,5 @@
 -- The orders that an event names stand.
-use Rattle.std.proofs.Common.{Bool, List, None, Option, Some, ap, is_some, option_map, refl, slice_get, sym, true, ℕ, ◌&&◌, ◌==◌, ◌∙◌, ◌≡◌}
+use Rattle.std.proofs.Common.{Bool, List, None, Option, Some, ap, is_some, refl, slice_get, sym, true, ℕ, ◌&&◌, ◌==◌, ◌∙◌, ◌≡◌}
 use Rattle.std.proofs.lemmas.Bool.{and_from, and_parts, eqb-true, true≢false}
 use Rattle.std.specs.List.{list_all, position}
 use Rattle.std.specs.Prelude.{option_and_then}
@@ -9,13 +9,13 @@ use Rattle.agent_events.specs.declared.event.Placed.{Placed}
 use Rattle.agent_events.specs.declared.event.Source.{Source}
 use Rattle.agent_events.specs.declared.order.Order.{Order}
 use Rattle.agent_events.specs.declared.order.OrderRow.{OrderRow}
-use Rattle.agent_events.specs.declared.request.AccountForm.{AccountForm}
 use Rattle.agent_events.specs.declared.request.EntryForm.{EntryForm}
 use Rattle.agent_events.specs.declared.verdict.Caller.{Caller}
 use Rattle.desk_books.specs.OrderChanges.{ChangesOrders, NamesItsOrder}
 use Rattle.desk_books.specs.declared.change.OrderChange.{OrderChange}
 use Rattle.order_book.proofs.Places.{find-at-position}
 use Rattle.fund_calendar.proofs.LookUpLemmas.{find_passes}
+use Rattle.ledger_of_journals.proofs.LedgerTotals.{owner-there}
 use Rattle.register_laws.proofs.Comparisons.{eq-yes}
 use Rattle.register_laws.proofs.FitsRows.{names_what_stands}
 use Rattle.register_laws.specs.Lawful.{own_at}
@@ -25,11 +25,6 @@ use Rattle.register_machine.specs.journal.Lawful.{IsLawful}
 use Rattle.register_machine.specs.pricing.CorrectedOrders.{is_named, order_named, orders_of, replaces}
 use Rattle.register_machine.specs.rules.NamedThings.{things_named}
 use Rattle.register_machine.specs.rules.Situations.{Situation}
-
--- the household of an account that stands
-mapped : (found : Option AccountForm) → is_some found ≡ true → is_some (option_map (λ (account : AccountForm). account.household) found) ≡ true
-mapped None there = there
-mapped (Some form) there = refl
 
 -- the first, the second and the third of what is there
 first-there : (a b : Bool) → (a && b) ≡ true → a ≡ true
@@ -54,9 +49,9 @@ names_its_order journal event lawful = by_kind event.kind (names_what_stands jou
 
     by_kind : (kind : EventKind) → AllThere kind → NamesItsOrder journal kind
     by_kind (EventKind.Order placed) all =
-        mapped (account_numbered (accounts_of journal) placed.order.account) (by_source placed placed.source refl all)
+        owner-there (account_numbered (accounts_of journal) placed.order.account) (by_source placed placed.source refl all)
     by_kind (EventKind.Enter form) all =
-        mapped (account_numbered (accounts_of journal) form.order.account) (first-there _ _ (rest-there _ _ all))
+        owner-there (account_numbered (accounts_of journal) form.order.account) (first-there _ _ (rest-there _ _ all))
     by_kind (EventKind.Replace form) all = first-there _ _ (rest-there _ _ (rest-there _ _ all))
     by_kind _ all = tt
 

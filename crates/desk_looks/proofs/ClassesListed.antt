@@ -96,7 +96,7 @@ body-named named body all = record {
       (and_parts (named to) true (sym (ap (λ o. list_all named (option_to_list o)) is) ∙ rest)).0;
 }
 
-all-of : {X : Type 0} (t : X → Bool) (xs : List X) → list_all t xs ≡ true → All (λ x. t x ≡ true) xs
+pub all-of : {X : Type 0} (t : X → Bool) (xs : List X) → list_all t xs ≡ true → All (λ x. t x ≡ true) xs
 all-of t [] all = All-nil (λ x. t x ≡ true)
 all-of t (x ∷ xs) all =
     let parts = and_parts (t x) (list_all t xs) all in

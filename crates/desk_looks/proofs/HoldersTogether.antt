@@ -14,6 +14,7 @@ use Rattle.desk_looks.specs.KeptBooks.{HoldersTogether}
 use Rattle.gain_loss_book.specs.Flows.{flow_at, inflows, net, no_flow, outflows}
 use Rattle.gain_loss_book.specs.Posted.{Books, cash_held}
 use Rattle.gain_loss_book.specs.declared.flows.Flow.{Flow}
+use Rattle.register_laws.proofs.CashBalances.{differences}
 use Rattle.register_laws.proofs.Sums.{passing, sum-plus}
 use Rattle.register_laws.specs.Identities.{AtMostOne, has_number}
 use Rattle.register_machine.specs.corrections.Cash.{Movement, balance}
@@ -116,16 +117,12 @@ sides-sum accounts once (row ∷ rows) distinct even =
 even-net : (i o : ℕ) → pos i -ℤ pos o ≡ pos 0 → i ≡ o
 even-net i o e = omega (arith, ints, e)
 
--- nets added up one by one are the net of the sums
-joined : (i o x y : ℕ) → (pos i -ℤ pos o) +ℤ (pos x -ℤ pos y) ≡ pos (i + x) -ℤ pos (o + y)
-joined i o x y = omega (arith, ints)
-
 nets-together : (flow : ℕ → Flow) (accounts : List AccountForm) (i o : ℕ) → fold (λ so_far account. so_far +ℤ net (flow account.account)) (pos i -ℤ pos o) accounts ≡ pos (i + sum_by (λ account. (flow account.account).inflow) accounts) -ℤ pos (o + sum_by (λ account. (flow account.account).outflow) accounts)
 nets-together flow [] i o = omega (arith, ints)
 nets-together flow (x ∷ xs) i o =
     let first = sum_by-cons (λ (account : AccountForm). (flow account.account).inflow) x xs in
     let second = sum_by-cons (λ (account : AccountForm). (flow account.account).outflow) x xs in
-    ap (λ z. fold (λ so_far (account : AccountForm). so_far +ℤ net (flow account.account)) z xs) (joined i o (flow x.account).inflow (flow x.account).outflow)
+    ap (λ z. fold (λ so_far (account : AccountForm). so_far +ℤ net (flow account.account)) z xs) (differences i o (flow x.account).inflow (flow x.account).outflow)
     ∙ (nets-together flow xs (i + (flow x.account).inflow) (o + (flow x.account).outflow) ∙ omega (arith, ints, first, second))
 
 same-steps : (f g : ℕ → ℤ) → ((n : ℕ) → f n ≡ g n) → (accounts : List AccountForm) (z : ℤ) → fold (λ so_far account. so_far +ℤ f account.account) z accounts ≡ fold (λ so_far account. so_far +ℤ g account.account) z accounts

@@ -71,7 +71,7 @@ unequal-back a b = grind (arith, nat_tests)
 above : (a b c d account : ℕ) → (nat_lt a c || (a == c && nat_lt b d)) ≡ true → a ≡ account → c ≡ account → b < d
 above a b c d account = grind (arith, nat_tests)
 
-or-second : (a b : Bool) → (a || b) ≡ true → a ≡ false → b ≡ true
+pub or-second : (a b : Bool) → (a || b) ≡ true → a ≡ false → b ≡ true
 or-second true b e is = absurd (true≢false is)
 or-second false b e is = e
 

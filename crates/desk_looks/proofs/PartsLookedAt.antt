@@ -1,6 +1,6 @@
 -- What is looked for in a household's part is found there as in the whole.
-use Rattle.std.proofs.Common.{Bool, List, Option, Some, [], ap, cond, false, filter, find, map, not, length, refl, subst, sym, true, ℕ, ◌==◌, ◌∙◌, ◌∷◌, ◌≡◌}
-use Rattle.std.proofs.lemmas.Bool.{and_parts, eqb-true, true≢false}
+use Rattle.std.proofs.Common.{List, Option, ap, cond, map, not, length, subst, sym, true, ℕ, ◌==◌, ◌∙◌, ◌≡◌}
+use Rattle.std.proofs.lemmas.Bool.{and_parts, eqb-true}
 use Rattle.std.specs.Option.{option_map_or}
 use Rattle.agent_events.specs.declared.order.OrderRow.{OrderRow}
 use Rattle.agent_events.specs.declared.reply.OrderState.{OrderState}
@@ -12,6 +12,7 @@ use Rattle.agent_events.specs.declared.trade.Trade.{Trade}
 use Rattle.desk_looks.specs.HouseholdLooks.{ShowsByPart, TracesByPart, part_in}
 use Rattle.desk_looks.specs.OrderTraces.{trace_among, trade_among}
 use Rattle.household_positions.proofs.ListParts.{filter-within}
+use Rattle.register_laws.proofs.ListParts.{found-within}
 use Rattle.register_laws.specs.Households.{is_of_household, is_own_position, is_own_trade}
 use Rattle.register_machine.specs.pricing.CorrectedBook.{Book, due_moment}
 use Rattle.register_machine.specs.queries.Show.{is_shown, position_text}
@@ -21,18 +22,6 @@ use Rattle.register_machine.specs.replay.Replay.{replay}
 use Rattle.register_machine.specs.rules.Breaks.{is_trade_of}
 use Rattle.register_machine.specs.rules.Situations.{Situation}
 use Rattle.std.specs.Prelude.{unwrap_or}
-
-pub find-within : {X : Type 0} (p own : X → Bool) → ((x : X) → p x ≡ true → own x ≡ true) → (xs : List X) → find p (filter own xs) ≡ find p xs
-find-within p own passes [] = refl
-find-within p own passes (x ∷ xs) =
-    elim (own x) as (λ b. own x ≡ b → find p (cond b (x ∷ filter own xs) (filter own xs)) ≡ find p (x ∷ xs)) [
-      | true ↦ λ e. ap (λ o. cond (p x) (Some x) o) (find-within p own passes xs)
-      | false ↦ λ e.
-          elim (p x) as (λ b. p x ≡ b → find p (filter own xs) ≡ cond b (Some x) (find p xs)) [
-            | true ↦ λ t. absurd (true≢false (sym (passes x t) ∙ e))
-            | false ↦ λ t. find-within p own passes xs
-          ] refl
-    ] refl
 
 own-position : (accounts : List AccountForm) (household account : ℕ) → is_of_household accounts household account ≡ true → (p : Position) → is_shown account p ≡ true → is_own_position (is_of_household accounts household) p ≡ true
 own-position accounts household account of p shown =
@@ -52,7 +41,7 @@ shows_by_part situation household account of =
 
 pub found-in_part : (book : Book) (household : ℕ) (row : OrderRow) → is_of_household book.accounts household row.order.account ≡ true → trade_among (part_in book household).trades row ≡ trade_among (replay book).trades row
 found-in_part book household row of =
-    find-within (is_trade_of row.order.account row.order.ref_no) (is_own_trade (is_of_household book.accounts household))
+    found-within (is_own_trade (is_of_household book.accounts household)) (is_trade_of row.order.account row.order.ref_no)
     (own-trade book.accounts household row.order.account row.order.ref_no of) (replay book).trades
 
 pub traces_by_part : (situation : Situation) (household : ℕ) (form : TraceForm) (row : OrderRow) → TracesByPart situation household form row

@@ -75,7 +75,7 @@ fn holding_in(state: Option<&HouseholdState>, account: u32, class: u32) -> Optio
 fn text_of_holding(class: Identifier, holding: &Position) -> Option<PositionText>
     ensures { result ≡ text_of_holding class holding.now }
 {
-    if holding.lots().is_empty() {
+    if holding.is_empty() {
         return None;
     }
     Some(PositionText {

@@ -5,17 +5,15 @@ ghost use Rattle.agent_events.specs.declared.reply.Reply.{Reply as AnyReply};
 ghost use Rattle.forward_price.specs.PriceTables.{next_sheet};
 ghost use Rattle.forward_price.specs.Turns.{due_of};
 ghost use Rattle.register_machine.specs.pricing.CorrectedBook.{Book, due_at, due_moment};
-ghost use Rattle.register_machine.specs.pricing.OrderClasses.{class_of, target_of};
 ghost use Rattle.register_machine.specs.queries.Trace.{bare_trace, has_numbers, loose_by, state_by, trace_of_trade, with_numbers};
 ghost use Rattle.register_machine.specs.replay.Replay.{priced_in};
 ghost use Rattle.desk_looks.specs.OrderTraces.{IsFoundOn, NeverFall, book_over, trace_among, trade_among};
 
 use crate::sheet_trades::trade_on;
-use agent_events::{
-    Body, Identifier, OrderRow, OrderState, Outcome, Reply, TraceReply, Trade, Why,
-};
+use agent_events::{Body, OrderRow, OrderState, Outcome, Reply, TraceReply, Trade, Why};
 use forward_price::PriceBook;
 use money_units::{Cents, Mils, Moment};
+use register_machine::{class_of, target_of};
 
 /// What became of an order: struck or pending with its due moment, 0 where it has none, or filled or unfilled at the moment
 /// of its sheet, with the price and the money in cents and the mils.
@@ -213,38 +211,5 @@ fn loose_by(why: &Why) -> Mils
     match why {
         Why::Short(loose) => *loose,
         _ => Mils(0),
-    }
-}
-
-fn class_of(body: &Body) -> Identifier
-    ensures { result ≡ class_of body.now }
-{
-    match body {
-        Body::Buy { class, gross: _ } => *class,
-        Body::Sell { class, mils: _ } => *class,
-        Body::SellCash { class, amount: _ } => *class,
-        Body::SellAll { class } => *class,
-        Body::Exchange {
-            class,
-            to: _,
-            mils: _,
-        } => *class,
-        Body::ExchangeAll { class, to: _ } => *class,
-        Body::Letter { class, amount: _ } => *class,
-        Body::Elect { class, in_cash: _ } => *class,
-    }
-}
-
-fn target_of(body: &Body) -> Option<Identifier>
-    ensures { result ≡ target_of body.now }
-{
-    match body {
-        Body::Exchange {
-            class: _,
-            to,
-            mils: _,
-        } => Some(*to),
-        Body::ExchangeAll { class: _, to } => Some(*to),
-        _ => None,
     }
 }

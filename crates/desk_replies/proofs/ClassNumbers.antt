@@ -1,21 +1,23 @@
 -- The numbers of a journal's tables are those of its classes: both rise, and each has what the other has.
-use Rattle.std.proofs.Common.{All, AllPairs, Bool, List, None, Option, Some, [], ap, arith, cond, false, filter, filter_map, find, fold, get_or, inl, inr, is_some, map, nat_eq, nat_lt, option_map, refl, subst, sym, true, ℕ, ◌<◌, ◌==◌, ◌||◌, ◌⊎◌, ◌∙◌, ◌∷◌, ◌≡◌}
+use Rattle.std.proofs.Common.{All, AllPairs, Bool, List, None, Option, Some, [], ap, arith, cond, false, filter_map, find, get_or, inl, inr, is_some, map, nat_eq, option_map, refl, subst, sym, true, ℕ, ◌<◌, ◌==◌, ◌||◌, ◌⊎◌, ◌∙◌, ◌∷◌, ◌≡◌}
 use Rattle.std.proofs.lemmas.Bool.{eqb-true, true≢false}
 use Rattle.std.proofs.lemmas.Bool.Decides.{eqb_tells, nat_tests}
-use Rattle.std.proofs.lemmas.List.Elements.{All-append, All-cons, All-filter, All-head, All-map, All-nil, All-tail}
+use Rattle.std.proofs.lemmas.List.Elements.{All-head, All-map, All-nil, All-tail}
 use Rattle.std.proofs.lemmas.List.Kept.{AllPairs-cons}
 use Rattle.std.proofs.lemmas.List.Folds.{list_any_at}
 use Rattle.std.specs.List.{cons_option, list_any}
 use Rattle.class_terms.specs.declared.form.TermsForm.{TermsForm}
 use Rattle.agent_events.specs.declared.request.ClassForm.{ClassForm}
 use Rattle.desk_looks.proofs.ClassesListed.{any-rising, numbers-rise}
+use Rattle.desk_looks.proofs.HoldingFacts.{or-second}
 use Rattle.desk_looks.specs.Holdings.{AreRising}
 use Rattle.desk_replies.specs.GatheredNumbers.{class_number}
 use Rattle.fund_calendar.proofs.LookUpLemmas.{find_passes, list_any-find}
 use Rattle.household_fold.specs.Facts.{class_in_book, terms_numbered}
 use Rattle.journal_tables.specs.Tables.{Tables}
 use Rattle.journal_tables.specs.TablesOfJournals.{AreTablesOf}
-use Rattle.register_machine.specs.corrections.Gains.{class_numbers_of, in_its_place, rising_numbers}
+use Rattle.register_laws.proofs.BooksSumToZero.{rising-all}
+use Rattle.register_machine.specs.corrections.Gains.{class_numbers_of, rising_numbers}
 use Rattle.register_machine.specs.journal.Journals.{Journal}
 use Rattle.register_machine.specs.journal.Kinds.{class_numbered, classes_of}
 use Rattle.share_lots.proofs.LotLemmas.{AllPairs-head, AllPairs-tail}
@@ -30,10 +32,6 @@ turned-test a b = grind (arith, nat_tests)
 
 greater-apart : (a b : ℕ) → a < b → nat_eq b a ≡ false
 greater-apart a b = grind (arith, nat_tests)
-
-or-later : (a b : Bool) → (a || b) ≡ true → a ≡ false → b ≡ true
-or-later true b e away = absurd (true≢false away)
-or-later false b e away = e
 
 or-behind : (a b : Bool) → b ≡ true → (a || b) ≡ true
 or-behind true b e = refl
@@ -50,7 +48,7 @@ pub any-holds : (P : ℕ → Type 0) (q : ℕ) (ns : List ℕ) → All P ns → 
 any-holds P q [] all is = absurd (true≢false (sym is))
 any-holds P q (n ∷ ns) all is = elim (eqb_tells q n) [
   | inl (here, same) ↦ subst P (sym same) (All-head P n ns all)
-  | inr (away, differs) ↦ any-holds P q ns (All-tail P n ns all) (or-later (nat_eq q n) (list_any (nat_eq q) ns) is away)
+  | inr (away, differs) ↦ any-holds P q ns (All-tail P n ns all) (or-second (nat_eq q n) (list_any (nat_eq q) ns) is away)
 ]
 
 -- ---- rising numbers are told by what is among them
@@ -59,7 +57,7 @@ any-holds P q (n ∷ ns) all is = elim (eqb_tells q n) [
 least : (q n : ℕ) (ns : List ℕ) → AreRising (n ∷ ns) → list_any (nat_eq q) (n ∷ ns) ≡ true → (n < q) ⊎ (q ≡ n)
 least q n ns up is = elim (eqb_tells q n) [
   | inl (here, same) ↦ inr same
-  | inr (away, differs) ↦ inl (any-holds (λ m. n < m) q ns (AllPairs-head (λ a b. a < b) n ns up) (or-later (nat_eq q n) (list_any (nat_eq q) ns) is away))
+  | inr (away, differs) ↦ inl (any-holds (λ m. n < m) q ns (AllPairs-head (λ a b. a < b) n ns up) (or-second (nat_eq q n) (list_any (nat_eq q) ns) is away))
 ]
 
 first-same : (n m : ℕ) → (n < m) ⊎ (m ≡ n) → (m < n) ⊎ (n ≡ m) → n ≡ m
@@ -71,7 +69,7 @@ first-same n m (inr e) b = sym e
 behind-too : (n m : ℕ) (ns ms : List ℕ) → n ≡ m → AreRising (n ∷ ns) → ((q : ℕ) → list_any (nat_eq q) (n ∷ ns) ≡ true → list_any (nat_eq q) (m ∷ ms) ≡ true) → (q : ℕ) → list_any (nat_eq q) ns ≡ true → list_any (nat_eq q) ms ≡ true
 behind-too n m ns ms same up there q is =
     let higher : n < q = any-holds (λ k. n < k) q ns (AllPairs-head (λ a b. a < b) n ns up) is in
-    or-later (nat_eq q m) (list_any (nat_eq q) ms) (there q (or-behind (nat_eq q n) (list_any (nat_eq q) ns) is))
+    or-second (nat_eq q m) (list_any (nat_eq q) ms) (there q (or-behind (nat_eq q n) (list_any (nat_eq q) ns) is))
     (greater-apart m q (omega (arith, higher, same)))
 
 first-in : (n : ℕ) (ns : List ℕ) → list_any (nat_eq n) (n ∷ ns) ≡ true
@@ -85,18 +83,6 @@ rising-same (n ∷ ns) (m ∷ ms) up over there back =
     let same : n ≡ m = first-same n m (least m n ns up (back m (first-in m ms))) (least n m ms over (there n (first-in n ns))) in
     let rest = rising-same ns ms (AllPairs-tail (λ a b. a < b) n ns up) (AllPairs-tail (λ a b. a < b) m ms over) (behind-too n m ns ms same up there) (behind-too m n ms ns (sym same) over back) in
     ap (λ k. k ∷ ns) same ∙ ap (λ ks. m ∷ ks) rest
-
--- what holds of all holds of them by rising size
-placed-all : (P : ℕ → Type 0) (n : ℕ) (ns : List ℕ) → P n → All P ns → All P (in_its_place n ns)
-placed-all P n ns own all =
-    All-append P (filter (λ other. nat_lt other n) ns) (n ∷ filter (λ other. nat_lt n other) ns)
-    (All-filter (λ other. nat_lt other n) P ns all)
-    (All-cons P n (filter (λ other. nat_lt n other) ns) own (All-filter (λ other. nat_lt n other) P ns all))
-
-rising-all : (P : ℕ → Type 0) (ordered ns : List ℕ) → All P ordered → All P ns → All P (fold (λ placed n. in_its_place n placed) ordered ns)
-rising-all P ordered [] done all = done
-rising-all P ordered (n ∷ ns) done all =
-    rising-all P (in_its_place n ordered) ns (placed-all P n ordered (All-head P n ns all) done) (All-tail P n ns all)
 
 all-within : (ns : List ℕ) → All (λ n. list_any (nat_eq n) ns ≡ true) ns
 all-within ns = λ i d short. list_any_at (nat_eq (get_or ns i d)) ns i d short (same-number (get_or ns i d))

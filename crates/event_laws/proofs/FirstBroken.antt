@@ -1,5 +1,5 @@
 -- The first order that a correction breaks, among the first ones of the households.
-use Rattle.std.proofs.Common.{All, AllPairs, Bool, List, Option, Some, [], ap, arith, cond, false, filter, find, get_or, inl, inr, length, not, refl, slice_get, subst, suc, sym, true, zero, ℕ, ◌||◌, ◌<◌, ◌∙◌, ◌∷◌, ◌≡◌, ◌≤◌, ◌⊎◌}
+use Rattle.std.proofs.Common.{All, AllPairs, Bool, List, Option, Some, [], ap, arith, cond, false, filter, get_or, inl, inr, length, not, refl, slice_get, subst, suc, sym, true, zero, ℕ, ◌||◌, ◌<◌, ◌∙◌, ◌∷◌, ◌≡◌, ◌≤◌, ◌⊎◌}
 use Rattle.std.proofs.lemmas.Option.{get_or_from_slice_get}
 use Rattle.std.specs.Option.{option_map_or}
 use Rattle.std.proofs.lemmas.Bool.{and_parts, cases_lt, true≢false}
@@ -8,12 +8,13 @@ use Rattle.std.proofs.lemmas.List.Kept.{AllPairs-cons}
 use Rattle.agent_events.specs.declared.order.Order.{Order}
 use Rattle.agent_events.specs.declared.request.AccountForm.{AccountForm}
 use Rattle.agent_events.specs.declared.trade.Trade.{Trade}
-use Rattle.event_laws.proofs.OrderTurns.{pairs-first, pairs-none, pairs-rest, some-same, trades_in_turn}
+use Rattle.event_laws.proofs.OrderTurns.{pairs-first, pairs-rest, some-same, trades_in_turn}
 use Rattle.event_laws.specs.FirstBroken.{FirstBrokenIsFirst}
 use Rattle.event_laws.specs.OrderTurns.{IsExecutedBefore}
 use Rattle.register_laws.proofs.BrokenByParts.{breaks_by_parts}
 use Rattle.register_laws.proofs.Choosing.{none_some}
-use Rattle.register_laws.proofs.ExecutedInTurn.{unfilled_are_orders}
+use Rattle.register_laws.proofs.ExecutedInTurn.{pairs-none, unfilled_are_orders}
+use Rattle.register_laws.proofs.Isolation.{find-passes}
 use Rattle.register_laws.proofs.Tests.{not-true}
 use Rattle.register_laws.specs.BrokenByParts.{first_broken_in}
 use Rattle.register_laws.specs.Households.{part_of}
@@ -50,18 +51,10 @@ pairs-unless {X = X} p R (x ∷ xs) pairs = by (p x) refl pairs (pairs-unless p 
 
 -- ---- what is broken is an order's trade
 
-found-passes : {X : Type 0} (p : X → Bool) (xs : List X) (x : X) → find p xs ≡ Some x → p x ≡ true
-found-passes p [] x e = absurd (none_some e)
-found-passes {X = X} p (y ∷ ys) x e = by (p y) refl e (found-passes p ys x)
-  where
-    by : (b : Bool) → p y ≡ b → cond b (Some y) (find p ys) ≡ Some x → (find p ys ≡ Some x → p x ≡ true) → p x ≡ true
-    by true is e later = subst (λ z. p z ≡ true) (some-same y x e) is
-    by false is e later = later e
-
 not-filled : (order : Option Order) (before : List Trade) (trade : Trade) → is_broken order before trade ≡ true → is_filled trade.outcome ≡ false
 not-filled order before trade e = not-true (is_filled trade.outcome) (and_parts (not (is_filled trade.outcome)) (was_filled before trade || option_map_or (λ own. is_trade_of own.account own.ref_no trade) order false) e).0
 
-within-list : {X : Type 0} (xs : List X) (i : ℕ) (x : X) → slice_get xs i ≡ Some x → i < length xs
+pub within-list : {X : Type 0} (xs : List X) (i : ℕ) (x : X) → slice_get xs i ≡ Some x → i < length xs
 within-list [] i x e = absurd (none_some e)
 within-list (y ∷ ys) zero x e = omega arith
 within-list (y ∷ ys) (suc i) x e = let rest = within-list ys i x e in omega (arith, rest)
@@ -93,10 +86,10 @@ first_broken_is_first book order before accounts household numbers once turns tr
     own_unfilled : is_filled trade.outcome ≡ false
     own_unfilled =
         not-filled order (part_of accounts household before).trades trade
-        (found-passes (is_broken order (part_of accounts household before).trades) (part_of accounts household (replay book)).trades trade own)
+        (find-passes (is_broken order (part_of accounts household before).trades) (part_of accounts household (replay book)).trades trade own)
 
     least_unfilled : is_filled least.outcome ≡ false
-    least_unfilled = not-filled order before.trades least (found-passes (is_broken order before.trades) trades least whole)
+    least_unfilled = not-filled order before.trades least (find-passes (is_broken order before.trades) trades least whole)
 
     first_there : slice_get trades first ≡ Some least
     first_there = found.4 ∙ ap Some same

@@ -12,12 +12,13 @@ use Rattle.forward_price.specs.PriceTables.{Table}
 use Rattle.forward_price.specs.Sheets.{lists_class}
 use Rattle.forward_price.specs.declared.price_sheet.Opening.{Opening}
 use Rattle.forward_price.specs.declared.price_sheet.Sheet.{Sheet}
-use Rattle.event_laws.proofs.OneOfAName.{one-found, or-same}
+use Rattle.event_laws.proofs.OneOfAName.{or-same}
 use Rattle.register_laws.proofs.Comparisons.{eq-yes}
 use Rattle.register_laws.proofs.LawfulJournals.{lawful-keeps}
 use Rattle.register_laws.proofs.NoIdentityTwice.{no_class_twice}
 use Rattle.register_laws.proofs.OneEventMore.{gathers-on}
 use Rattle.register_laws.proofs.Runs.{table-one}
+use Rattle.register_laws.proofs.SeenAlike.{any-by-find}
 use Rattle.register_laws.proofs.TablesAreOrderly.{orderly_tables}
 use Rattle.register_laws.specs.Identities.{is_class}
 use Rattle.register_laws.specs.Lawful.{IsBrought, book_behind}
@@ -64,7 +65,7 @@ opens-as-sent = lawful-keeps OpensAsSent opens-more opens-at-first
 pub listed-calendar : (journal : Journal) → IsLawful journal → (sheet : Sheet) (class : ℕ) → Contains (book_behind journal).table.sheets sheet → lists_class sheet.prices class ≡ true → calendar_of (book_behind journal) class ≡ Some sheet.calendar
 listed-calendar journal lawful sheet class among lists =
     by_class (class_numbered (classes_of journal) class)
-    (sym (one-found (is_class class) (λ (form : ClassForm). form.calendar == sheet.calendar) (classes_of journal) (no_class_twice journal lawful class)) ∙ sent)
+    (sym (any-by-find (is_class class) (λ (form : ClassForm). form.calendar == sheet.calendar) (classes_of journal) (no_class_twice journal lawful class)) ∙ sent)
   where
     opened : list_any (opens class sheet.calendar) (table_of journal).classes ≡ true
     opened =

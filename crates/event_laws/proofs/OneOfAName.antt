@@ -1,8 +1,7 @@
 -- Where a list has one of a name at most, what holds of some of that name holds of the one that is found.
-use Rattle.std.proofs.Common.{Bool, arith, List, Some, [], ap, cond, false, filter, find, length, refl, sym, true, ◌&&◌, ◌++◌, ◌||◌, ◌∙◌, ◌∷◌, ◌≡◌, ◌≤◌}
+use Rattle.std.proofs.Common.{Bool, arith, List, Some, [], cond, false, filter, find, length, refl, sym, true, ◌&&◌, ◌++◌, ◌||◌, ◌∷◌, ◌≡◌, ◌≤◌}
 use Rattle.std.proofs.lemmas.Bool.{true≢false}
 use Rattle.std.specs.List.{list_any}
-use Rattle.std.specs.Option.{option_map_or}
 
 none-left : {X : Type 0} (named also : X → Bool) (xs : List X) → length (filter named xs) ≤ 0 → list_any (λ x. named x && also x) xs ≡ false
 none-left named also [] few = refl
@@ -15,14 +14,6 @@ none-left {X = X} named also (x ∷ xs) few = by (named x) few (none-left named 
 pub or-same : (b : Bool) → (b || false) ≡ b
 or-same true = refl
 or-same false = refl
-
-pub one-found : {X : Type 0} (named also : X → Bool) (xs : List X) → length (filter named xs) ≤ 1 → list_any (λ x. named x && also x) xs ≡ option_map_or also (find named xs) false
-one-found named also [] few = refl
-one-found {X = X} named also (x ∷ xs) few = by (named x) few (one-found named also xs)
-  where
-    by : (b : Bool) → length (cond b (x ∷ filter named xs) (filter named xs)) ≤ 1 → (length (filter named xs) ≤ 1 → list_any (λ y. named y && also y) xs ≡ option_map_or also (find named xs) false) → ((b && also x) || list_any (λ y. named y && also y) xs) ≡ option_map_or also (cond b (Some x) (find named xs)) false
-    by true few later = ap (λ rest. also x || rest) (none-left named also xs (omega (arith, few))) ∙ or-same (also x)
-    by false few later = later few
 
 -- what passes among the first ones is found there, whatever comes behind
 pub found-before : {X : Type 0} (test : X → Bool) (xs ys : List X) → list_any test xs ≡ true → find test (xs ++ ys) ≡ find test xs

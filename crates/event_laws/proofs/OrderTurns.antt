@@ -11,6 +11,7 @@ use Rattle.forward_price.proofs.OrderlyFacts.{any_from}
 use Rattle.forward_price.specs.PriceTables.{AreNumbered}
 use Rattle.forward_price.specs.declared.price_sheet.Sheet.{Sheet}
 use Rattle.register_laws.proofs.Comparisons.{eq-yes}
+use Rattle.register_laws.proofs.ExecutedInTurn.{pairs-none}
 use Rattle.register_laws.proofs.ListParts.{pairs-append}
 use Rattle.register_laws.proofs.OneTradeAnOrder.{trades_follow_orders}
 use Rattle.register_laws.proofs.OrdersInTurn.{rows-standing}
@@ -26,9 +27,6 @@ pairs-first R x xs pairs k d short = pairs zero (suc k) d (omega arith) (omega (
 
 pub pairs-rest : {X : Type 0} (R : X → X → Type 0) (x : X) (xs : List X) → AllPairs R (x ∷ xs) → AllPairs R xs
 pairs-rest R x xs pairs i j d less short = pairs (suc i) (suc j) d (omega (arith, less)) (omega (arith, short))
-
-pub pairs-none : {X : Type 0} (R : X → X → Type 0) → AllPairs R []
-pairs-none R i j d less short = absurd (omega (arith, less, short))
 
 -- a list under a function, and back
 pairs-under : {X Y : Type 0} (P : X → Type 0) (R : X → X → Type 0) (S : Y → Y → Type 0) (f : X → Y) → ((x y : X) → P x → P y → R x y → S (f x) (f y)) → (xs : List X) → All P xs → AllPairs R xs → AllPairs S (map f xs)
@@ -49,7 +47,7 @@ pairs-back S f (x ∷ xs) pairs =
 
 -- ---- orders by their names
 
-few-none : {X : Type 0} (named : X → Bool) (xs : List X) → length (filter named xs) ≤ 0 → list_any named xs ≡ false
+pub few-none : {X : Type 0} (named : X → Bool) (xs : List X) → length (filter named xs) ≤ 0 → list_any named xs ≡ false
 few-none named [] few = refl
 few-none {X = X} named (x ∷ xs) few = by (named x) few (few-none named xs)
   where
@@ -57,7 +55,7 @@ few-none {X = X} named (x ∷ xs) few = by (named x) few (few-none named xs)
     by true few later = absurd (omega (arith, few))
     by false few later = later few
 
-found-itself : {X : Type 0} (named : X → Bool) (xs : List X) (x : X) → Contains xs x → named x ≡ true → length (filter named xs) ≤ 1 → find named xs ≡ Some x
+pub found-itself : {X : Type 0} (named : X → Bool) (xs : List X) (x : X) → Contains xs x → named x ≡ true → length (filter named xs) ≤ 1 → find named xs ≡ Some x
 found-itself named [] x (k, short, is) on few = absurd (omega (arith, short))
 found-itself {X = X} named (y ∷ ys) x (zero, short, is) on few = ap (λ b. cond b (Some y) (find named ys)) (ap named is ∙ on) ∙ ap Some is
 found-itself {X = X} named (y ∷ ys) x (suc k, short, is) on few =

@@ -17,7 +17,7 @@ use Rattle.agent_events.specs.declared.request.LineForm.{LineForm}
 use Rattle.agent_events.specs.declared.request.Request.{Request}
 use Rattle.agent_events.specs.declared.verdict.Caller.{Caller}
 use Rattle.event_laws.proofs.ListedCalendars.{listed-calendar}
-use Rattle.event_laws.proofs.OneOfAName.{one-found}
+use Rattle.event_laws.proofs.OrderTurns.{some-same}
 use Rattle.event_laws.proofs.SheetMore.{HasIfFound, best-has}
 use Rattle.forward_price.proofs.OrderlyFacts.{any_from}
 use Rattle.forward_price.proofs.PricingFacts.{lt_fact}
@@ -27,11 +27,12 @@ use Rattle.forward_price.specs.declared.price_sheet.Sheet.{Sheet}
 use Rattle.register_laws.proofs.BooksGoOn.{book_goes_on}
 use Rattle.register_laws.proofs.Comparisons.{eq-yes}
 use Rattle.register_laws.proofs.Choosing.{not_when}
-use Rattle.register_laws.proofs.DueAsReplied.{orders_are_due_as_replied}
+use Rattle.register_laws.proofs.DueAsReplied.{orders_are_due_as_replied, placed-same}
 use Rattle.register_laws.proofs.ListParts.{any-agree}
 use Rattle.register_laws.proofs.NothingBefore.{last-brought}
 use Rattle.register_laws.proofs.OneTradeAnOrder.{one-named}
 use Rattle.register_laws.proofs.RulesByName.{not_broken}
+use Rattle.register_laws.proofs.SeenAlike.{any-by-find}
 use Rattle.register_laws.proofs.TablesAreOrderly.{kept, priced_when_due_in}
 use Rattle.register_laws.proofs.Tests.{any-of-map, find-any}
 use Rattle.register_laws.specs.CorrectionReach.{IsOnNone, has_sheet_in, is_on_sheet}
@@ -74,13 +75,7 @@ found-prices sheets row s is =
     (All-weaker (Contains sheets) (λ (x : Sheet). prices_order (classes_in row.order.body) row.receipt x ≡ true → Prices sheets row x)
     (λ x among passes. record { among = among; passes = passes }) sheets (All-contains_itself sheets)) tt)
 
-some-same : {X : Type 0} (x y : X) → Some x ≡ Some y → x ≡ y
-some-same x y e = cc
-
 -- ---- a new order
-
-placed-same : (a b : Placed) → Some (EventKind.Order a) ≡ Some (EventKind.Order b) → a ≡ b
-placed-same a b e = cc
 
 -- what is priced lists the order's class
 first-listed : (sheets : List Sheet) (row : OrderRow) (s : Sheet) → Prices sheets row s → lists_class s.prices (class_of row.order.body) ≡ true
@@ -199,7 +194,7 @@ cancelled_on_none journal event lawful form e sheets k d short = (before (get_or
 
     before : (sheet : Sheet) → is_on_sheet (book_behind journal) named sheet ≡ false
     before sheet =
-        one-found (λ (row : OrderRow). is_named form.account form.target row.order) (has_sheet_in (book_behind journal).table.sheets sheet) (book_behind journal).orders (one-named journal last.0 form.account form.target)
+        any-by-find (λ (row : OrderRow). is_named form.account form.target row.order) (has_sheet_in (book_behind journal).table.sheets sheet) (book_behind journal).orders (one-named journal last.0 form.account form.target)
         ∙ by (order_named (book_behind journal).orders form.account form.target) clear
       where
         by : (found : Option OrderRow) → option_and_then (late_cancel_of (own_at journal event.moment last.1.caller)) found ≡ None → option_map_or (has_sheet_in (book_behind journal).table.sheets sheet) found false ≡ false

@@ -1,6 +1,6 @@
 -- The parts of the households with one event more.
-use Rattle.std.proofs.Common.{All, Bool, List, [], ap, cond, filter, option_map, option_to_list, refl, true, ℕ, ◌==◌, ◌∙◌, ◌∷◌, ◌≡◌}
-use Rattle.std.proofs.lemmas.List.Elements.{All-head, All-tail, All-weaker}
+use Rattle.std.proofs.Common.{Bool, List, ap, filter, option_map, option_to_list, true, ℕ, ◌==◌, ◌∙◌, ◌≡◌}
+use Rattle.std.proofs.lemmas.List.Elements.{All-weaker}
 use Rattle.std.specs.Option.{option_map_or}
 use Rattle.std.specs.Prelude.{false, find}
 use Rattle.agent_events.specs.Events.{Event}
@@ -13,6 +13,7 @@ use Rattle.event_laws.specs.PartsStay.{LawfulPartsStay, SameParts}
 use Rattle.event_laws.specs.ReadsAlike.{IsKnownRow}
 use Rattle.forward_price.specs.declared.price_sheet.Sheet.{Sheet}
 use Rattle.register_laws.proofs.KnownAccounts.{IsKnownDay, known-replay}
+use Rattle.register_laws.proofs.ListParts.{filter-known}
 use Rattle.register_laws.proofs.NothingBefore.{last-brought}
 use Rattle.register_laws.proofs.OneEventMore.{gathers-on}
 use Rattle.register_laws.specs.Households.{is_of_household, part_of}
@@ -25,13 +26,6 @@ use Rattle.register_machine.specs.pricing.CorrectedOrders.{stands}
 use Rattle.register_machine.specs.replay.Positions.{Position}
 use Rattle.register_machine.specs.replay.Replay.{replay, replay_over}
 use Rattle.register_machine.specs.replay.Trades.{Day}
-
--- two tests that agree on what is there
-filters-same : {X : Type 0} (p q : X → Bool) (xs : List X) → All (λ x. p x ≡ q x) xs → filter p xs ≡ filter q xs
-filters-same p q [] all = refl
-filters-same p q (x ∷ xs) all =
-    ap (λ b. cond b (x ∷ filter p xs) (filter p xs)) (All-head (λ x. p x ≡ q x) x xs all)
-    ∙ ap (λ rest. cond (q x) (x ∷ rest) rest) (filters-same p q xs (All-tail (λ x. p x ≡ q x) x xs all))
 
 module _ (journal : Journal) (event : Event) (household : ℕ) where
   mine : ℕ → Bool
@@ -47,10 +41,10 @@ module _ (journal : Journal) (event : Event) (household : ℕ) where
   unfolding mine
   part-same day is =
       ap (λ register. record { register = register; trades = filter (λ (t : Trade). mine t.account) day.trades })
-      (filters-same (λ (p : Position). mine p.account) (λ (p : Position). is_of_household (accounts_of journal) household p.account) day.register
+      (filter-known (λ (p : Position). mine p.account) (λ (p : Position). is_of_household (accounts_of journal) household p.account) day.register
       (All-weaker (λ (p : Position). known_in journal p.account ≡ true) (λ (p : Position). mine p.account ≡ is_of_household (accounts_of journal) household p.account) (λ p on. owned-same p.account on) day.register is.positions))
       ∙ ap (λ trades. record { register = filter (λ (p : Position). is_of_household (accounts_of journal) household p.account) day.register; trades = trades })
-      (filters-same (λ (t : Trade). mine t.account) (λ (t : Trade). is_of_household (accounts_of journal) household t.account) day.trades
+      (filter-known (λ (t : Trade). mine t.account) (λ (t : Trade). is_of_household (accounts_of journal) household t.account) day.trades
       (All-weaker (λ (t : Trade). known_in journal t.account ≡ true) (λ (t : Trade). mine t.account ≡ is_of_household (accounts_of journal) household t.account) (λ t on. owned-same t.account on) day.trades is.trades))
 
 pub known-day : (journal : Journal) → IsLawful journal → (sheets : List Sheet) → IsKnownDay (known_in journal) (replay_over (book_behind journal) sheets)

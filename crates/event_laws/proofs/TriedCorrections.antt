@@ -1,12 +1,11 @@
 -- The book of a correction on trial.
-use Rattle.std.proofs.Common.{Bool, List, None, [], ap, arith, cond, false, filter, get_or, is_some, length, map, refl, subst, suc, sym, true, zero, ℕ, ◌&&◌, ◌++◌, ◌<◌, ◌==◌, ◌∙◌, ◌∷◌, ◌≡◌, ◌≤◌}
+use Rattle.std.proofs.Common.{List, None, [], ap, arith, false, filter, get_or, is_some, length, map, refl, subst, suc, sym, true, zero, ℕ, ◌++◌, ◌<◌, ◌==◌, ◌∙◌, ◌∷◌, ◌≡◌, ◌≤◌}
 use Rattle.std.proofs.lemmas.Bool.{and_parts, eqb-true, true≢false}
 use Rattle.std.proofs.lemmas.List.{length-map}
 use Rattle.std.proofs.lemmas.List.Elements.{filter_agree}
 use Rattle.agent_events.specs.Events.{Event}
 use Rattle.agent_events.specs.declared.event.EventKind.{EventKind}
 use Rattle.agent_events.specs.declared.order.OrderRow.{OrderRow}
-use Rattle.agent_events.specs.declared.request.EntryForm.{EntryForm}
 use Rattle.agent_events.specs.declared.request.FixPriceForm.{FixPriceForm}
 use Rattle.event_laws.specs.EventReplays.{is_correction}
 use Rattle.event_laws.specs.OrderTurns.{NamesOnce}
@@ -18,6 +17,7 @@ use Rattle.register_laws.proofs.Choosing.{at_most_one}
 use Rattle.register_laws.proofs.ExecutedInTurn.{orders_in_turn}
 use Rattle.register_laws.proofs.ListParts.{filter-map}
 use Rattle.register_laws.proofs.OneTradeAnOrder.{one-named}
+use Rattle.register_laws.proofs.OrdersGoOn.{replaced-named, struck-named}
 use Rattle.register_laws.proofs.TablesAreOrderly.{numbered}
 use Rattle.register_laws.proofs.Tests.{find-any}
 use Rattle.register_laws.specs.Lawful.{book_behind}
@@ -25,7 +25,7 @@ use Rattle.register_laws.specs.OneEventMore.{book_after, orders_after, replaced_
 use Rattle.register_machine.specs.journal.Journals.{Journal, with_event}
 use Rattle.register_machine.specs.journal.Lawful.{IsLawful}
 use Rattle.register_machine.specs.pricing.CorrectedBook.{Book}
-use Rattle.register_machine.specs.pricing.CorrectedOrders.{is_named, order_named, replaces, row_as_sent}
+use Rattle.register_machine.specs.pricing.CorrectedOrders.{is_named, order_named, row_as_sent}
 use Rattle.register_machine.specs.pricing.CorrectedPrices.{sheet_as_corrected}
 
 -- ---- names
@@ -39,23 +39,6 @@ names-kept f same orders once account ref_no =
     ∙ (length-map (filter (λ row. is_named account ref_no (f row).order) orders) f
     ∙ ap length (filter_agree (λ row. is_named account ref_no (f row).order) (λ row. is_named account ref_no row.order) (same account ref_no) orders))))
     (once account ref_no)
-
-struck-named : (named : ℕ × ℕ) (account ref_no : ℕ) (row : OrderRow) → is_named account ref_no (struck_by named row).order ≡ is_named account ref_no row.order
-struck-named named account ref_no row = by (is_named named.0 named.1 row.order)
-  where
-    by : (b : Bool) → is_named account ref_no (cond b (record { place = row.place; receipt = row.receipt; struck = true; order = row.order }) row).order ≡ is_named account ref_no row.order
-    by true = refl
-    by false = refl
-
-replaced-named : (form : EntryForm) (account ref_no : ℕ) (row : OrderRow) → is_named account ref_no (replaced_by form row).order ≡ is_named account ref_no row.order
-replaced-named form account ref_no row = by (replaces row.order form) refl
-  where
-    by : (b : Bool) → replaces row.order form ≡ b → is_named account ref_no (cond b (record { place = row.place; receipt = form.receipt; struck = row.struck; order = form.order }) row).order ≡ is_named account ref_no row.order
-    by true is =
-        let same = and_parts (form.order.account == row.order.account) (form.order.ref_no == row.order.ref_no) is in
-        ap (λ n. n == account && form.order.ref_no == ref_no) (eqb-true form.order.account row.order.account same.0)
-        ∙ ap (λ n. row.order.account == account && n == ref_no) (eqb-true form.order.ref_no row.order.ref_no same.1)
-    by false is = refl
 
 entered-once : (orders : List OrderRow) (row : OrderRow) → NamesOnce orders → order_named orders row.order.account row.order.ref_no ≡ None → NamesOnce (orders ++ row ∷ [])
 entered-once orders row once new account ref_no =

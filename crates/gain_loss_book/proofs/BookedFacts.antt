@@ -28,7 +28,7 @@ gain-by_differences changes before after sheets are class =
     ap (λ (cash : ℤ). gain_unless_same class cash (mils_change changes.outstanding class) (latest_nav sheets class)) (are.cash (Party.Class class))
     ∙ ap (λ (mils : ℤ). gain_unless_same class (cash_of after.trades (Party.Class class) -ℤ cash_of before.trades (Party.Class class)) mils (latest_nav sheets class)) (are.mils class)
 
-gains-alike : (f g : ℕ → Option ClassGain) → ((q : ℕ) → f q ≡ g q) → (ns : List ℕ) → filter_map f ns ≡ filter_map g ns
+pub gains-alike : (f g : ℕ → Option ClassGain) → ((q : ℕ) → f q ≡ g q) → (ns : List ℕ) → filter_map f ns ≡ filter_map g ns
 gains-alike f g same [] = refl
 gains-alike f g same (n ∷ ns) =
     ap (λ o. cons_option o (filter_map f ns)) (same n) ∙ ap (cons_option (g n)) (gains-alike f g same ns)

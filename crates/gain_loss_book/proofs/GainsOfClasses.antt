@@ -2,7 +2,7 @@
 use Rattle.std.proofs.Common.{Bool, List, None, Option, Some, [], ap, cond, false, inl, inr, arith, is_some, nat_eq, nat_le, not, refl, suc, sum_by, sym, true, zero, ℤ, ◌==◌, unwrap_or, ℕ, ◌&&◌, ◌||◌, ◌∙◌, ◌∷◌, ◌≡◌, ◌⊎◌}
 use Rattle.std.specs.BTreeMap.{BTreeMap, is_at, keys}
 use Rattle.std.specs.Cmp.{unsigned_tied}
-use Rattle.std.specs.List.{cons_option, filter_map, list_all, list_any}
+use Rattle.std.specs.List.{filter_map, list_all, list_any}
 use Rattle.std.specs.List.Sorted.{IsStrictlyIncreasing, IsStrictlySortedBy}
 use Rattle.std.specs.Map.{lookup}
 use Rattle.std.specs.Ordering.{nat_cmp}
@@ -16,6 +16,7 @@ use Rattle.agent_events.specs.declared.order.Party.{Party}
 use Rattle.agent_events.specs.declared.totals.CashChange.{CashChange}
 use Rattle.agent_events.specs.declared.totals.MilsChange.{MilsChange}
 use Rattle.register_machine.specs.corrections.Cash.{same_party}
+use Rattle.gain_loss_book.proofs.BookedFacts.{gains-alike}
 use Rattle.gain_loss_book.proofs.ClassFlowFacts.{flows-same}
 use Rattle.gain_loss_book.proofs.FlowFacts.{flow-same}
 use Rattle.agent_events.specs.declared.totals.Changes.{Changes}
@@ -57,11 +58,6 @@ and-first false b e = e
 and-second : (a b : Bool) → (a && b) ≡ true → b ≡ true
 and-second true b e = e
 and-second false b e = absurd (true≢false (sym e))
-
-gains-alike : (f g : ℕ → Option ClassGain) → ((q : ℕ) → f q ≡ g q) → (ns : List ℕ) → filter_map f ns ≡ filter_map g ns
-gains-alike f g same [] = refl
-gains-alike f g same (n ∷ ns) =
-    ap (λ o. cons_option o (filter_map f ns)) (same n) ∙ ap (cons_option (g n)) (gains-alike f g same ns)
 
 pub gains-over : (classes : BTreeMap ℕ ClassFlows) (changes : Changes) (sheets : List Sheet) (chosen : List ℕ) → ((q : ℕ) → flows_of classes q ≡ class_flows changes q) → IsStrictlySortedBy nat_cmp (keys classes) → IsStrictlyIncreasing chosen → HasChanged chosen changes → filter_map (λ q. gain_of_flows q (flows_of classes q) sheets) (keys classes) ≡ gains_in changes sheets chosen
 gains-over classes changes sheets chosen gathered rising increasing has =

@@ -51,28 +51,7 @@ cash-by kind trade q =
     by_kind TradeKind.Sell = flow-same _ _
         (omega (arith, either holder, either own, either other, either underwriter))
         (omega (arith, either holder, either own, either other, either underwriter, apiece own rest trade.charge))
-    by_kind TradeKind.Exchange = flow-same _ _
-        (omega (arith, either holder, either own, either other, either underwriter))
-        (omega (arith, either holder, either own, either other, either underwriter))
-    by_kind TradeKind.Letter = flow-same _ _
-        (omega (arith, either holder, either own, either other, either underwriter))
-        (omega (arith, either holder, either own, either other, either underwriter))
-    by_kind TradeKind.LetterReached = flow-same _ _
-        (omega (arith, either holder, either own, either other, either underwriter))
-        (omega (arith, either holder, either own, either other, either underwriter))
-    by_kind TradeKind.LetterEnded = flow-same _ _
-        (omega (arith, either holder, either own, either other, either underwriter))
-        (omega (arith, either holder, either own, either other, either underwriter))
-    by_kind TradeKind.ElectCash = flow-same _ _
-        (omega (arith, either holder, either own, either other, either underwriter))
-        (omega (arith, either holder, either own, either other, either underwriter))
-    by_kind TradeKind.ElectShares = flow-same _ _
-        (omega (arith, either holder, either own, either other, either underwriter))
-        (omega (arith, either holder, either own, either other, either underwriter))
-    by_kind TradeKind.DividendShares = flow-same _ _
-        (omega (arith, either holder, either own, either other, either underwriter))
-        (omega (arith, either holder, either own, either other, either underwriter))
-    by_kind TradeKind.DividendCash = flow-same _ _
+    by_kind _ = flow-same _ _
         (omega (arith, either holder, either own, either other, either underwriter))
         (omega (arith, either holder, either own, either other, either underwriter))
 
@@ -89,15 +68,7 @@ mils-by kind trade q =
 
     by_kind : (kind : TradeKind) → mils_of_flows (flows_by kind trade) q ≡ record { inflow = mils_brought_by kind q trade; outflow = mils_taken_by kind q trade }
     by_kind TradeKind.Buy = flow-same _ _ (omega (arith, either own, either other)) (omega (arith, either own, either other))
-    by_kind TradeKind.Sell = flow-same _ _ (omega (arith, either own, either other)) (omega (arith, either own, either other))
-    by_kind TradeKind.Exchange = flow-same _ _ (omega (arith, either own, either other)) (omega (arith, either own, either other))
-    by_kind TradeKind.Letter = flow-same _ _ (omega (arith, either own, either other)) (omega (arith, either own, either other))
-    by_kind TradeKind.LetterReached = flow-same _ _ (omega (arith, either own, either other)) (omega (arith, either own, either other))
-    by_kind TradeKind.LetterEnded = flow-same _ _ (omega (arith, either own, either other)) (omega (arith, either own, either other))
-    by_kind TradeKind.ElectCash = flow-same _ _ (omega (arith, either own, either other)) (omega (arith, either own, either other))
-    by_kind TradeKind.ElectShares = flow-same _ _ (omega (arith, either own, either other)) (omega (arith, either own, either other))
-    by_kind TradeKind.DividendShares = flow-same _ _ (omega (arith, either own, either other)) (omega (arith, either own, either other))
-    by_kind TradeKind.DividendCash = flow-same _ _ (omega (arith, either own, either other)) (omega (arith, either own, either other))
+    by_kind _ = flow-same _ _ (omega (arith, either own, either other)) (omega (arith, either own, either other))
 
 -- nothing of an unfilled order
 pub cash-of_trade : (trade : Trade) (q : Party) → cash_of_flows (flows_of_trade trade) q ≡ movements_flow (movements_in trade.outcome trade) q

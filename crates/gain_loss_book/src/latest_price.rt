@@ -22,8 +22,8 @@ pub fn latest_nav(prices: &PriceBook, patch: Option<Patch>, class: u32) -> u64
     }
 }
 
-// The latest sheet that lists a class.
-fn latest_sheet(sheets: &[Sheet], class: u32) -> Option<&Sheet>
+/// The latest sheet that lists a class.
+pub fn latest_sheet(sheets: &[Sheet], class: u32) -> Option<&Sheet>
     ensures { option_copied result ≡ last_of (λ sheet. lists_class sheet.prices class) sheets.now }
 {
     let mut left = sheets.len();

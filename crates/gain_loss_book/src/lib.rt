@@ -19,6 +19,7 @@ pub use crate::cash_book::CashBook;
 pub use crate::class_flows::ClassFlows;
 pub use crate::class_gains::gains;
 pub use crate::flows::{Flow, FlowRows};
+pub use crate::latest_price::latest_sheet;
 pub use crate::limits::{
     cash_within, classes_are_numbered, correction_within, gains_within, shares_within,
 };

@@ -1,5 +1,5 @@
 -- Over sheets in their order, dated near their moments, the trades of a replay are dated so.
-use Rattle.std.proofs.Common.{All, AllPairs, Bool, List, [], arith, fold, get_or, subst, suc, sym, zero, ◌++◌, ◌∷◌, ◌≤◌}
+use Rattle.std.proofs.Common.{All, AllPairs, Bool, List, [], arith, fold, get_or, subst, suc, sym, ◌++◌, ◌∷◌, ◌≤◌}
 use Rattle.std.proofs.lemmas.List.Elements.{All-append, All-filter, All-nil}
 use Rattle.std.proofs.lemmas.List.Kept.{AllPairs-filter}
 use Rattle.agent_events.specs.declared.trade.Trade.{Trade}
@@ -9,15 +9,7 @@ use Rattle.register_machine.specs.replay.Replay.{Priced, day_after_sheet, orders
 use Rattle.register_machine.specs.replay.Trades.{Day}
 use Rattle.holder_statements.specs.Periods.{AreDated, AreSheetsDated, IsNear, IsSheetNear, PartIsDated}
 use Rattle.holder_statements.proofs.SheetTrades.{Grows, IsOn, step_grows}
-
-pairs_append : {X : Type 0} (R : X → X → Type 0) (xs ys : List X) → AllPairs R xs → AllPairs R ys → All (λ x. All (R x) ys) xs → AllPairs R (xs ++ ys)
-pairs_append R [] ys first second across i j d lt short = second i j d lt short
-pairs_append R (x ∷ xs) ys first second across zero zero d lt short = absurd (omega arith)
-pairs_append R (x ∷ xs) ys first second across zero (suc j) d lt short =
-    All-append (R x) xs ys (λ k e within. first 0 (suc k) e (omega arith) (omega arith)) (across 0 x (omega arith)) j d (omega arith)
-pairs_append R (x ∷ xs) ys first second across (suc i) zero d lt short = absurd (omega arith)
-pairs_append R (x ∷ xs) ys first second across (suc i) (suc j) d lt short =
-    pairs_append R xs ys (λ a b e less within. first (suc a) (suc b) e (omega arith) (omega arith)) second (λ k e within. across (suc k) e (omega arith)) i j d (omega arith) (omega arith)
+use Rattle.household_positions.proofs.PlaceFacts.{pairs-append}
 
 -- a trade isn't later than any of these sheets
 abbrev pub IsBefore : List Sheet → Trade → Type 0
@@ -34,7 +26,7 @@ near_on sheet trade near on =
 -- trades of one sheet more
 dated_more : (sheet : Sheet) (trades new : List Trade) → IsSheetNear sheet → AreDated trades → All (λ (trade : Trade). trade.moment ≤ sheet.moment) trades → All (IsOn sheet) new → AreDated (trades ++ new)
 dated_more sheet trades new near dated before own = record {
-  in_turn = pairs_append (λ (a : Trade) (b : Trade). a.moment ≤ b.moment) trades new dated.in_turn
+  in_turn = pairs-append (λ (a : Trade) (b : Trade). a.moment ≤ b.moment) trades new dated.in_turn
       (λ i j d lt short. (let first = (own i d (omega arith)).moment in let second = (own j d short).moment in omega arith))
       (λ k d short i e within. (let earlier = before k d short in let later = (own i e within).moment in omega arith));
   near = All-append IsNear trades new dated.near (λ k d short. near_on sheet (get_or new k d) near (own k d short));

@@ -19,7 +19,7 @@ use Rattle.holder_statements.specs.Holdings.{AreListed, book_of_tables, holding_
 
 -- ---- lists
 
-none_pass : {X : Type 0} (p : X → Bool) (xs : List X) → ((k : ℕ) (d : X) → k < length xs → p (get_or xs k d) ≡ false) → filter p xs ≡ []
+pub none_pass : {X : Type 0} (p : X → Bool) (xs : List X) → ((k : ℕ) (d : X) → k < length xs → p (get_or xs k d) ≡ false) → filter p xs ≡ []
 none_pass p [] h = refl
 none_pass p (x ∷ xs) h = rw (h 0 x (omega arith)) (none_pass p xs (λ k d short. h (suc k) d (omega arith)))
 

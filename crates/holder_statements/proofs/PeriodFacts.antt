@@ -9,13 +9,10 @@ use Rattle.std.proofs.lemmas.List.Sorted.{IsPartitionedBy-ltb}
 use Rattle.agent_events.specs.declared.request.StatementForm.{StatementForm}
 use Rattle.agent_events.specs.declared.trade.Trade.{Trade}
 use Rattle.register_machine.specs.queries.Statement.{is_in_period, trade_line}
+use Rattle.holder_statements.proofs.HoldingFacts.{none_pass}
 use Rattle.holder_statements.specs.Periods.{AreDated, IsNear, line_in_period}
 
 -- ---- lists
-
-filter_none : {X : Type 0} (p : X → Bool) (xs : List X) → ((k : ℕ) (d : X) → k < length xs → p (get_or xs k d) ≡ false) → filter p xs ≡ []
-filter_none p [] h = refl
-filter_none p (x ∷ xs) h = rw (h 0 x (omega arith)) (filter_none p xs (λ k d short. h (suc k) d (omega arith)))
 
 pub filter_drop : {X : Type 0} (p : X → Bool) (xs : List X) (i : ℕ) → ((k : ℕ) (d : X) → k < i → k < length xs → p (get_or xs k d) ≡ false) → filter p (drop i xs) ≡ filter p xs
 filter_drop p [] zero h = refl
@@ -27,7 +24,7 @@ filter_drop p (x ∷ xs) (suc i) h =
 pub filter_take : {X : Type 0} (p : X → Bool) (xs : List X) (i : ℕ) → ((k : ℕ) (d : X) → i ≤ k → k < length xs → p (get_or xs k d) ≡ false) → filter p (take i xs) ≡ filter p xs
 filter_take p [] zero h = refl
 filter_take p [] (suc i) h = refl
-filter_take p (x ∷ xs) zero h = sym (filter_none p (x ∷ xs) (λ k d short. h k d (omega arith) short))
+filter_take p (x ∷ xs) zero h = sym (none_pass p (x ∷ xs) (λ k d short. h k d (omega arith) short))
 filter_take p (x ∷ xs) (suc i) h =
     ap (λ ys. cond (p x) (x ∷ ys) ys) (filter_take p xs i (λ k d le short. h (suc k) d (omega arith) (omega arith)))
 

@@ -86,7 +86,7 @@ fn add_lots(
     ensures { OnOk result
         (out.new.items ≡ out.old.items ++ line_of_lots sheets.now terms.now position.now) }
 {
-    if !position.lots().is_empty() {
+    if !position.is_empty() {
         add_holding(out, terms, latest_nav(sheets, terms.class()), position)?;
     }
     Ok(())

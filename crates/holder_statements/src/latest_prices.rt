@@ -1,12 +1,10 @@
 //! The latest net asset value of a class.
 ghost use Rattle.std.specs.Prelude.{◌≡◌, ◌≤◌};
-ghost use Rattle.std.specs.Option.{option_copied};
-ghost use Rattle.forward_price.specs.Sheets.{lists_class};
 ghost use Rattle.register_machine.specs.corrections.Gains.{latest_nav};
-ghost use Rattle.register_machine.specs.journal.Choices.{last_of};
 ghost use Rattle.register_machine.specs.replay.Trades.{nav_of};
 
-use forward_price::{Sheet, lists_class, nav_on};
+use forward_price::{Sheet, nav_on};
+use gain_loss_book::latest_sheet;
 
 /// The net asset value of a class in cents on its latest sheet, 0 where it is on none. It reads the sheets from the last one
 /// back to the one that lists the class.
@@ -29,18 +27,4 @@ fn nav_of(sheet: &Sheet, class: u32) -> u64
         Some(nav) => nav.cents(),
         None => 0,
     }
-}
-
-// The latest sheet that lists a class.
-fn latest_sheet(sheets: &[Sheet], class: u32) -> Option<&Sheet>
-    ensures { option_copied result ≡ last_of (λ sheet. lists_class sheet.prices class) sheets.now }
-{
-    let mut left = sheets.len();
-    while left > 0 {
-        left -= 1;
-        if lists_class(sheets[left].prices.as_slice(), class) {
-            return Some(&sheets[left]);
-        }
-    }
-    None
 }

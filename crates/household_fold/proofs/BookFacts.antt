@@ -1,13 +1,13 @@
 -- What the corrected book has of the tables.
 use Rattle.std.proofs.Common.{All, Bool, List, None, Option, Some, [], ap, cond, false, find, map, option_map, refl, sym, true, ℕ, ◌&&◌, ◌==◌, ◌∙◌, ◌∷◌, ◌≡◌, ◌≤◌}
 use Rattle.std.specs.Option.{option_map_or}
-use Rattle.std.proofs.lemmas.List.Elements.{All-head, All-tail}
 use Rattle.agent_events.specs.declared.rows.AccountRow.{AccountRow}
 use Rattle.agent_events.specs.declared.rows.RateRow.{RateRow}
 use Rattle.class_terms.specs.declared.form.TermsForm.{TermsForm}
 use Rattle.register_machine.specs.journal.Kinds.{class_numbered, household_of}
 use Rattle.register_machine.specs.pricing.CorrectedBook.{counts, front_of, schedule_of}
 use Rattle.register_machine.specs.pricing.DividendRates.{rate_at}
+use Rattle.household_fold.proofs.PutFacts.{find-all}
 use Rattle.household_fold.specs.Facts.{Known, account_in_book, book_of_facts, class_in_book, rate_in_book, rate_numbered, rates_in_book, row_numbered, terms_numbered}
 
 -- a search among what is made of each element
@@ -18,15 +18,6 @@ find-map f p (x ∷ xs) =
       | true ↦ refl
       | false ↦ find-map f p xs
     ]
-
--- what is found has what all have
-find-all : {X : Type 0} (P : X → Type 0) (p : X → Bool) (xs : List X) → All P xs → (x : X) → find p xs ≡ Some x → P x
-find-all P p [] all x e = cc
-find-all P p (y ∷ ys) all x e =
-    elim (p y) as (λ b. cond b (Some y) (find p ys) ≡ Some x → P x) [
-      | true ↦ λ found. (let same : y ≡ x = cc in rw (← same) (All-head P y ys all))
-      | false ↦ λ found. find-all P p ys (All-tail P y ys all) x found
-    ] e
 
 -- the terms of a class
 pub class_found : (terms : List TermsForm) (class : ℕ) → class_numbered (map class_in_book terms) class ≡ option_map class_in_book (terms_numbered terms class)

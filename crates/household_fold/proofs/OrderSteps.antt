@@ -7,6 +7,7 @@ use Rattle.agent_events.specs.declared.trade.TradeKind.{TradeKind}
 use Rattle.agent_events.specs.declared.trade.Why.{Why}
 use Rattle.forward_price.specs.declared.price_sheet.Sheet.{Sheet}
 use Rattle.fund_exchange.specs.Exchange.{transfer_of}
+use Rattle.household_fold.proofs.ExchangeFacts.{next-pieces}
 use Rattle.household_fold.proofs.FoundFacts.{found-elsewhere}
 use Rattle.household_fold.proofs.LotNumbers.{Grows, grows-on, grows-put, grows-same, next-put, next_of}
 use Rattle.household_fold.proofs.PutFacts.{all-put}
@@ -24,16 +25,17 @@ use Rattle.register_machine.specs.journal.Choices.{first_some, when}
 use Rattle.register_machine.specs.pricing.CorrectedBook.{Book, front_of}
 use Rattle.register_machine.specs.pricing.OrderClasses.{class_of, classes_in}
 use Rattle.register_machine.specs.replay.DayStep.{day_after_body, day_after_election}
-use Rattle.register_machine.specs.replay.Exchange.{day_after_exchange, exchange_reasons, exchange_trade, holding_with_piece, position_with_pieces}
+use Rattle.register_machine.specs.replay.Exchange.{day_after_exchange, exchange_reasons, exchange_trade, position_with_pieces}
 use Rattle.register_machine.specs.replay.Letter.{day_after_letter}
 use Rattle.register_machine.specs.replay.Positions.{Position, Register, has_room, is_position, position_of, put, with_holding}
 use Rattle.register_machine.specs.replay.Purchase.{credit_of, day_after_purchase, day_at_split, day_if_reached, day_with_lot, position_after_note, purchase_rate, purchase_trade}
 use Rattle.register_machine.specs.replay.Redemption.{day_after_redemption, day_after_redemption_for, day_after_sale, loose_of, position_less, short_of}
 use Rattle.register_machine.specs.replay.Trades.{Day, day_after_trade, day_unless, day_unless_any, nav_of, order_trade, with_position}
-use Rattle.share_lots.specs.Lots.{Holding, shares_added, added_to, lot_joined, new_lot, release_all}
+use Rattle.share_lots.proofs.AddedLemmas.{next_kept}
+use Rattle.share_lots.specs.Lots.{shares_added, release_all}
 use Rattle.share_lots.specs.Taking.{pieces}
 use Rattle.share_lots.specs.declared.lot.Piece.{Piece}
-use Rattle.std.proofs.Common.{Bool, List, None, Option, Some, [], ap, arith, false, fold, inl, inr, is_some, not, refl, subst, sym, true, ℕ, ◌*◌, ◌==◌, ◌∙◌, ◌∷◌, ◌≡◌, ◌≤◌}
+use Rattle.std.proofs.Common.{Bool, List, None, Option, Some, [], ap, arith, false, inl, inr, is_some, not, refl, subst, sym, true, ℕ, ◌*◌, ◌==◌, ◌∙◌, ◌∷◌, ◌≡◌, ◌≤◌}
 use Rattle.std.proofs.lemmas.Bool.{cases_Bool}
 use Rattle.std.proofs.lemmas.List.Elements.{All-head, All-tail}
 use Rattle.std.specs.Prelude.{All}
@@ -62,18 +64,6 @@ put-found R IsPlace kept r a c p account class more place =
     kept.over p r own low
 
 -- ---- the numbers of lots
-
-pub added-next : (h : Holding) (day mils cost : ℕ) (free : Bool) → h.next_lot ≤ (shares_added h day mils cost free).holding.next_lot
-added-next h day mils cost free =
-    elim (lot_joined h.lots free) as (λ o. h.next_lot ≤ (added_to h (new_lot h day mils cost free) o).holding.next_lot) [
-      | None ↦ omega arith
-      | Some number ↦ omega arith
-    ]
-
-pieces-next : (given : List Piece) (h : Holding) → h.next_lot ≤ (fold holding_with_piece h given).next_lot
-pieces-next [] h = omega arith
-pieces-next (piece ∷ given) h =
-    omega (arith, added-next h piece.day piece.mils piece.cost piece.free, pieces-next given (holding_with_piece h piece))
 
 -- ---- each kind of order
 
@@ -119,7 +109,7 @@ two-put R IsPlace kept r a c to asked given place target_place =
     let at = own-account r a to in
     let of = own-class r a to in
     let own : IsPlace q.account q.class = rw (at, of) target_place in
-    let more = pieces-next given (position_of r a to).holding in
+    let more = next-pieces given (position_of r a to).holding in
     let low : next_of (put p r) q.account q.class ≤ q.holding.next_lot = rw (at, of) (omega (arith, target-next p r a c to refl refl refl, more)) in
     kept.next r (put p r) (put q (put p r)) (put-found R IsPlace kept r a c p refl refl (omega arith) place) (kept.over q (put p r) own low)
 
@@ -149,12 +139,12 @@ lot-kept : (R : Register → Register → Type 0) (IsPlace : ℕ → ℕ → Typ
 lot-kept R IsPlace kept sheet day a c gross split trade place None =
     let position = position_of day.register a c in
     put-found R IsPlace kept day.register a c (with_holding position (shares_added position.holding sheet.day split.mils gross false).holding) refl refl
-    (added-next position.holding sheet.day split.mils gross false) place
+    (next_kept position.holding sheet.day split.mils gross false) place
 lot-kept R IsPlace kept sheet day a c gross split trade place (Some letter) =
     let position = position_of day.register a c in
     let lot = shares_added position.holding sheet.day split.mils gross false in
     reached-kept R IsPlace kept sheet day trade (position_after_note position lot letter gross split) a c refl refl
-    (added-next position.holding sheet.day split.mils gross false) place (note_of_purchase letter gross split.price split.mils).reached
+    (next_kept position.holding sheet.day split.mils gross false) place (note_of_purchase letter gross split.price split.mils).reached
 
 split-kept : (R : Register → Register → Type 0) (IsPlace : ℕ → ℕ → Type 0) → IsKept R IsPlace → (sheet : Sheet) (day : Day) (a c gross : ℕ) (trade : Trade) → IsPlace a c → (split : Option Split) → R day.register (day_at_split sheet day (position_of day.register a c) gross split trade).register
 split-kept R IsPlace kept sheet day a c gross trade place None = kept.same day.register

@@ -7,7 +7,7 @@ use Rattle.dividend_reinvest.specs.declared.payment.Payment.{Payment}
 use Rattle.dividend_reinvest.specs.declared.payment.Payment.TheVariants as pays
 use Rattle.forward_price.specs.declared.price_sheet.Sheet.{Sheet}
 use Rattle.household_fold.proofs.LotNumbers.{Grows, grows-on, numbers-before}
-use Rattle.household_fold.proofs.OrderSteps.{Anywhere, IsKept, StaysOwned, lots-grow, orders-kept, owned-stay, put-found, added-next}
+use Rattle.household_fold.proofs.OrderSteps.{Anywhere, IsKept, StaysOwned, lots-grow, orders-kept, owned-stay, put-found}
 use Rattle.household_fold.proofs.PutFacts.{letter-found, letters-put}
 use Rattle.household_fold.specs.Facts.{Known, book_of_facts, sheet_at_hand}
 use Rattle.household_fold.specs.Households.{AreOwned, IsOwnPlace, first_of, order_known, orders_known, row_of, step_known}
@@ -22,6 +22,7 @@ use Rattle.register_machine.specs.replay.Dividend.{day_after_class, day_after_di
 use Rattle.register_machine.specs.replay.Letter.{day_after_end_of, day_after_letter_end, day_after_letter_ends, has_letter_over, keys_of_letters_over}
 use Rattle.register_machine.specs.replay.Positions.{PositionKey, Register, key_of, position_of, with_holding}
 use Rattle.register_machine.specs.replay.Trades.{Day, nav_of}
+use Rattle.share_lots.proofs.AddedLemmas.{next_kept}
 use Rattle.share_lots.specs.Lots.{shares_added, held_total, release_all}
 use Rattle.share_lots.specs.Taking.{after_paying}
 
@@ -40,7 +41,7 @@ paid-kept R IsPlace kept sheet day a c place (pays.Cash cash) = kept.same day.re
 paid-kept R IsPlace kept sheet day a c place (pays.Shares cash mils) =
     let position = position_of day.register a c in
     put-found R IsPlace kept day.register a c (with_holding position (shares_added position.holding sheet.day mils cash true).holding) refl refl
-    (added-next position.holding sheet.day mils cash true) place
+    (next_kept position.holding sheet.day mils cash true) place
 
 keys-kept : (R : Register → Register → Type 0) (IsPlace : ℕ → ℕ → Type 0) → IsKept R IsPlace → (sheet : Sheet) (rate nav : ℕ) (day : Day) (keys : List PositionKey) → All (λ key. IsPlace key.account key.class) keys → R day.register (fold (day_after_dividend sheet rate nav) day keys).register
 keys-kept R IsPlace kept sheet rate nav day [] places = kept.same day.register

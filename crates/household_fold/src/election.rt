@@ -5,7 +5,7 @@ ghost use Rattle.register_machine.specs.replay.DayStep.{day_after_election};
 ghost use Rattle.household_fold.specs.Facts.{FactsFit, sheet_at_hand};
 
 use crate::facts::Facts;
-use crate::made_trades::{class_of, order_trade};
+use crate::made_trades::{class_number, order_trade};
 use agent_events::{Order, TradeKind};
 use household_positions::HouseholdDay;
 use money_units::NoMemory;
@@ -23,7 +23,7 @@ pub(crate) fn elect(
     ensures { OnOk result (day.new
         ≡ day_after_election (sheet_at_hand facts.now) day.old order.now in_cash) }
 {
-    let mut position = day.take_out(alloc, order.account.number(), class_of(&order.body))?;
+    let mut position = day.take_out(alloc, order.account.number(), class_number(&order.body))?;
     position.in_cash = in_cash;
     let trade = order_trade(facts, order, kind_of(in_cash));
     day.close_trade(position, &trade)?;

@@ -15,7 +15,7 @@ ghost use Rattle.household_fold.specs.Facts.{FactsFit, IsListed, sheet_at_hand};
 ghost use Rattle.household_fold.specs.Numbers.{AreNumbersWithin};
 
 use crate::facts::Facts;
-use crate::made_trades::{class_of, order_trade};
+use crate::made_trades::{class_number, order_trade};
 use crate::reads::has_room;
 use crate::redemption::short_of;
 use agent_events::{Order, Trade, TradeKind, Why};
@@ -53,7 +53,7 @@ pub(crate) fn exchange(
     let trade = order_trade(facts, order, TradeKind::Exchange);
     let shares = Move {
         account: order.account.number(),
-        class: class_of(&order.body),
+        class: class_number(&order.body),
         to,
         asked,
     };
@@ -80,7 +80,7 @@ pub(crate) fn exchange_all(
 {
     let loose = day
         .register()
-        .loose(order.account.number(), class_of(&order.body));
+        .loose(order.account.number(), class_number(&order.body));
     exchange(alloc, facts, day, order, to, loose)?;
     Ok(())
 }
@@ -223,7 +223,7 @@ fn give_shares(alloc: Global, day: &mut HouseholdDay, shares: &Move) -> Result<(
         return Ok(());
     }
     let mut source = day.take_out(alloc, shares.account, shares.class)?;
-    source.holding.remove(shares.asked);
+    source.holding.remove(shares.asked)?;
     day.put_back(source)?;
     Ok(())
 }

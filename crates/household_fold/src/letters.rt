@@ -10,7 +10,7 @@ ghost use Rattle.household_fold.specs.Purchases.{day_with_letter, letter_known};
 
 use crate::credits::credit_of;
 use crate::facts::Facts;
-use crate::made_trades::{class_of, order_trade, plain_trade};
+use crate::made_trades::{class_number, order_trade, plain_trade};
 use crate::reads::letter_of;
 use agent_events::{Amount, Order, Trade, TradeKind, Why};
 use household_positions::{HouseholdDay, PositionKey, PositionKeys};
@@ -36,7 +36,7 @@ pub(crate) fn day_after_letter(
     let letter = letter_of(
         day.register(),
         order.account.number(),
-        class_of(&order.body),
+        class_number(&order.body),
     );
     if letter.is_some() {
         day.add_unfilled(
@@ -66,7 +66,7 @@ fn day_with_letter(
     ensures within { OnOk result (AreLettersWithin day.new.register) }
 {
     let account = order.account.number();
-    let class = class_of(&order.body);
+    let class = class_number(&order.body);
     let start = credit_of(facts, day.register().positions(), account);
     let letter = Letter::begin(
         Cents(amount.cents()),
@@ -182,8 +182,8 @@ fn day_after_settlement(
     let mut position = day.take_out(alloc, key.account, key.class)?;
     let held = position.holding.held();
     let settled = letter.settle(facts.terms_of(key.class), facts.nav(key.class), held);
-    position.holding.pay_held(settled.paid);
-    position.holding.release();
+    position.holding.pay_held(settled.paid)?;
+    position.holding.release()?;
     position.letter = None;
     let trade = letter_end_trade(facts, key, &settled);
     day.close_trade(position, &trade)?;

@@ -7,6 +7,7 @@ ghost use Rattle.household_fold.specs.Facts.{FactsFit, sheet_at_hand};
 use crate::facts::Facts;
 use agent_events::{Body, Order, Outcome, Trade, TradeKind};
 use money_units::{Cents, Mils};
+use register_machine::{class_of, target_of};
 
 /// A trade of an account and class without an order.
 pub(crate) fn plain_trade(facts: &Facts, account: u32, class: u32, kind: TradeKind) -> Trade
@@ -36,43 +37,30 @@ pub(crate) fn order_trade(facts: &Facts, order: &Order, kind: TradeKind) -> Trad
     requires { FactsFit facts.now }
     ensures { result ≡ order_trade (sheet_at_hand facts.now) order.now kind }
 {
-    let mut trade = plain_trade(facts, order.account.number(), class_of(&order.body), kind);
+    let mut trade = plain_trade(
+        facts,
+        order.account.number(),
+        class_number(&order.body),
+        kind,
+    );
     trade.ref_no = order.ref_no.number();
-    trade.to_class = target_of(&order.body);
+    trade.to_class = target_number(&order.body);
     trade
 }
 
-/// The class of an order.
-pub(crate) fn class_of(body: &Body) -> u32
+/// The number of an order's class.
+pub(crate) fn class_number(body: &Body) -> u32
     ensures { result ≡ class_of body.now }
 {
-    match body {
-        Body::Buy { class, gross: _ } => class.number(),
-        Body::Sell { class, mils: _ } => class.number(),
-        Body::SellCash { class, amount: _ } => class.number(),
-        Body::SellAll { class } => class.number(),
-        Body::Exchange {
-            class,
-            to: _,
-            mils: _,
-        } => class.number(),
-        Body::ExchangeAll { class, to: _ } => class.number(),
-        Body::Letter { class, amount: _ } => class.number(),
-        Body::Elect { class, in_cash: _ } => class.number(),
-    }
+    class_of(body).number()
 }
 
-// The class that an exchange goes to, 0 for other orders.
-fn target_of(body: &Body) -> u32
+// The number of the class that an exchange goes to, 0 for other orders.
+fn target_number(body: &Body) -> u32
     ensures { result ≡ unwrap_or (target_of body.now) 0 }
 {
-    match body {
-        Body::Exchange {
-            class: _,
-            to,
-            mils: _,
-        } => to.number(),
-        Body::ExchangeAll { class: _, to } => to.number(),
-        _ => 0,
+    match target_of(body) {
+        Some(to) => to.number(),
+        None => 0,
     }
 }

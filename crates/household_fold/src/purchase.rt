@@ -12,7 +12,7 @@ ghost use Rattle.register_machine.specs.pricing.OrderClasses.{class_of};
 
 use crate::credits::credit_of;
 use crate::facts::Facts;
-use crate::made_trades::{class_of, order_trade, plain_trade};
+use crate::made_trades::{class_number, order_trade, plain_trade};
 use crate::reads::{has_room, letter_of};
 use agent_events::{Amount, Order, Trade, TradeKind, Why};
 use class_terms::Bracket;
@@ -40,7 +40,7 @@ pub(crate) fn day_after_purchase(
     ensures within { OnOk result (AreLettersWithin day.new.register) }
 {
     let rate = rate_of_purchase(facts, day, order, gross);
-    let nav = facts.nav(class_of(&order.body));
+    let nav = facts.nav(class_number(&order.body));
     match buy_split(Cents(gross.cents()), nav, rate) {
         Some(split) => {
             day_by_split(alloc, facts, day, order, gross, &split)?;
@@ -62,7 +62,7 @@ fn rate_of_purchase(facts: &Facts, day: &HouseholdDay, order: &Order, gross: &Am
     ensures ceiling { result ≤ 850 }
 {
     let account = order.account.number();
-    let class = class_of(&order.body);
+    let class = class_number(&order.body);
     let terms = facts.terms_of(class);
     if has_one_rate(terms.front().as_slice()) {
         return bracket(terms, u128::from(gross.cents()));
@@ -114,7 +114,7 @@ fn day_by_split(
     ensures within { OnOk result (AreLettersWithin day.new.register) }
 {
     let account = order.account.number();
-    let class = class_of(&order.body);
+    let class = class_number(&order.body);
     if has_room(
         day.register(),
         account,
@@ -165,14 +165,14 @@ fn day_with_purchase(
     ensures within { OnOk result (AreLettersWithin day.new.register) }
 {
     let account = order.account.number();
-    let class = class_of(&order.body);
+    let class = class_number(&order.body);
     let letter = letter_of(day.register(), account, class);
     let trade = trade_of_purchase(facts, order, gross, split);
     let position = day.take_out(alloc, account, class)?;
     let (bought, number) = position_with_lot(position, facts.day(), gross, split)?;
     match letter {
         Some(letter) => {
-            let (kept, reached) = position_after_note(bought, number, letter, gross, split);
+            let (kept, reached) = position_after_note(bought, number, letter, gross, split)?;
             day.close_trade(kept, &trade)?;
             day_if_reached(alloc, facts, day, order, reached)?;
             Ok(())
@@ -215,21 +215,22 @@ fn position_after_note(
     letter: Letter,
     gross: &Amount,
     split: &Split,
-) -> (HeldPosition, bool)
+) -> Result<(HeldPosition, bool), NoMemory>
     requires letter { IsLetter letter }
     requires price { 1 ≤ split.now.price }
     requires loose { HasLoose position.holding.lots number split.now.mils }
-    ensures kept { result.0 ≡ position_after_note position
-        (record { number = number; holding = position.holding }) letter gross.now split.now }
-    ensures reached { result.1
-        ≡ (note_of_purchase letter gross.now split.now.price split.now.mils).reached }
+    ensures kept { IfOk result (λ noted. noted.0
+        ≡ position_after_note position (record { number = number; holding = position.holding })
+        letter gross.now split.now) }
+    ensures reached { IfOk result (λ noted. noted.1
+        ≡ (note_of_purchase letter gross.now split.now.price split.now.mils).reached) }
 {
     let mut position = position;
     let mut letter = letter;
     let noted = letter.note_purchase(Cents(gross.cents()), split.price, split.mils);
-    position.holding.hold(number, noted.hold);
+    position.holding.hold(number, noted.hold)?;
     position.letter = Some(letter);
-    (position, noted.reached)
+    Ok((position, noted.reached))
 }
 
 // The letter ends where it is reached.
@@ -265,10 +266,10 @@ fn day_after_reaching(
         ≡ day_after_reaching (sheet_at_hand facts.now) (position_in day.old order.now) day.old) }
 {
     let account = order.account.number();
-    let class = class_of(&order.body);
+    let class = class_number(&order.body);
     let trade = plain_trade(facts, account, class, TradeKind::LetterReached);
     let mut position = day.take_out(alloc, account, class)?;
-    position.holding.release();
+    position.holding.release()?;
     position.letter = None;
     day.close_trade(position, &trade)?;
     Ok(())

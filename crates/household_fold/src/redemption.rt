@@ -11,7 +11,7 @@ ghost use Rattle.household_fold.specs.Facts.{FactsFit, IsListed, sheet_at_hand};
 ghost use Rattle.household_fold.specs.Redemptions.{charged_known, charged_of, position_of_trade, redeemed_all_known, redeemed_for_known, redeemed_known, sale_known, trade_of_sale};
 
 use crate::facts::Facts;
-use crate::made_trades::{class_of, order_trade};
+use crate::made_trades::{class_number, order_trade};
 use agent_events::{Amount, Order, Trade, TradeKind, Why};
 use contingent_charge::{Charged, charge};
 use household_positions::{HeldPosition, HouseholdDay};
@@ -32,7 +32,12 @@ pub(crate) fn redeem(
     ensures { OnOk result (day.new ≡ redeemed_known facts.now day.old order.now asked) }
 {
     let trade = order_trade(facts, order, TradeKind::Sell);
-    match short_of(day, order.account.number(), class_of(&order.body), asked) {
+    match short_of(
+        day,
+        order.account.number(),
+        class_number(&order.body),
+        asked,
+    ) {
         Some(why) => day.add_unfilled(&trade, why)?,
         None => sell(alloc, facts, day, &trade, asked)?,
     }
@@ -51,7 +56,7 @@ pub(crate) fn redeem_for(
     requires listed { IsListed facts.now (class_of order.now.body) }
     ensures { OnOk result (day.new ≡ redeemed_for_known facts.now day.old order.now amount.now) }
 {
-    let asked = mils_for(facts, class_of(&order.body), amount);
+    let asked = mils_for(facts, class_number(&order.body), amount);
     if asked == 0 {
         day.add_unfilled(&order_trade(facts, order, TradeKind::Sell), Why::TooSmall)?;
     } else {
@@ -73,7 +78,7 @@ pub(crate) fn redeem_all(
 {
     let loose = day
         .register()
-        .loose(order.account.number(), class_of(&order.body));
+        .loose(order.account.number(), class_number(&order.body));
     redeem(alloc, facts, day, order, loose.0)?;
     Ok(())
 }

@@ -181,7 +181,7 @@ without-register a c register is = record {
   kept = All-filter (λ other. not (is_position a c other)) (λ x. is_fresh x ≡ false) register is.kept;
 }
 
-pairs-append : {X : Type 0} (R : X → X → Type 0) (xs ys : List X) → AllPairs R xs → AllPairs R ys → All (λ x. All (R x) ys) xs → AllPairs R (xs ++ ys)
+pub pairs-append : {X : Type 0} (R : X → X → Type 0) (xs ys : List X) → AllPairs R xs → AllPairs R ys → All (λ x. All (R x) ys) xs → AllPairs R (xs ++ ys)
 pairs-append R [] ys left right across = right
 pairs-append R (x ∷ xs) ys left right across =
     AllPairs-cons R x (xs ++ ys)

@@ -49,7 +49,7 @@ impl HeldPosition {
     pub fn is_fresh(&self) -> bool
         ensures { result ≡ spec.is_fresh self.now }
     {
-        self.holding.lots().is_empty()
+        self.holding.is_empty()
             && (self.holding.next_lot() == 1 && (!self.in_cash && self.letter.is_none()))
     }
 }

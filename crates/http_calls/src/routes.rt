@@ -1,11 +1,11 @@
 //! The route of a path.
 ghost use Rattle.std.specs.Prelude.{◌≡◌, ◌+◌, ◌<◌, ◌≤◌, length, map, take, drop};
-ghost use Rattle.std.specs.List.{list_all, position_or_len, slice_split};
+ghost use Rattle.std.specs.List.{list_all, slice_split};
 ghost use Rattle.agent_events.specs.Forms.{field};
 ghost use Rattle.http_calls.specs.Calls as spec;
 
 use crate::body::is_posted;
-use request_fields::{is_order, same_bytes};
+use request_fields::{is_order, place_of, same_bytes};
 
 /// What stands at a path.
 #[derive(Clone, Copy, Debug)]
@@ -39,7 +39,7 @@ fn slash_parts<'a>(path: &'a [u8], room: &mut [&'a [u8]; PART_LIMIT]) -> usize
 {
     let mut rest = path;
     for place in 0..PART_LIMIT {
-        let end = slash_of(rest);
+        let end = place_of(b'/', rest);
         room[place] = front(rest, end);
         if end == rest.len() {
             return place + 1;
@@ -69,26 +69,7 @@ fn past(text: &[u8], place: usize) -> &[u8]
 fn path_of(target: &[u8]) -> &[u8]
     ensures { result.now ≡ spec.path_of target.now }
 {
-    &target[..question_of(target)]
-}
-
-// The place of the first slash, or the length where there is none.
-fn slash_of(text: &[u8]) -> usize
-    ensures value { result ≡ position_or_len spec.is_slash text.now }
-    ensures within { result ≤ length text.now }
-{
-    text.iter()
-        .position(|byte| *byte == b'/')
-        .unwrap_or(text.len())
-}
-
-fn question_of(target: &[u8]) -> usize
-    ensures { result ≡ position_or_len spec.is_question target.now }
-{
-    target
-        .iter()
-        .position(|byte| *byte == b'?')
-        .unwrap_or(target.len())
+    &target[..place_of(b'?', target)]
 }
 
 /// The part at this place, from 1; past the last it is empty.

@@ -19,7 +19,7 @@ use Rattle.class_terms.specs.declared.form.TermsForm.{TermsForm}
 use Rattle.household_fold.specs.Facts.{class_in_book, rate_numbered, row_numbered, terms_numbered}
 use Rattle.journal_tables.proofs.RowsFound.{new-count, new-length, numbered-new, rates-new, rates-put}
 use Rattle.journal_tables.proofs.StandingTables.{stand-after}
-use Rattle.journal_tables.specs.Tables.{IsInRange, Tables, accounts_after, brings_good_loads, has_account_number, has_class_number, no_tables, rates_after, row_of_account, row_of_dividend, row_of_fix, terms_after, terms_of}
+use Rattle.journal_tables.specs.Tables.{IsInRange, Tables, accounts_after, brings_good_loads, has_account_number, has_class_number, no_tables, rates_after, row_of_account, row_of_dividend, row_of_fix, terms_after}
 use Rattle.journal_tables.specs.TablesOfJournals.{AreTablesOf, LawfulBringsGoodLoads, TablesGoOn, rate_given}
 use Rattle.register_laws.proofs.FitsRows.{classes_have_good_loads}
 use Rattle.register_laws.proofs.OneEventMore.{gathers-on, rates_go_on}
@@ -30,6 +30,7 @@ use Rattle.register_machine.specs.journal.Choices.{last_of}
 use Rattle.register_machine.specs.journal.Journals.{Journal, with_event}
 use Rattle.register_machine.specs.journal.Kinds.{account_in, account_numbered, accounts_of, class_in, class_numbered, classes_of, each_in, sheet_in}
 use Rattle.register_machine.specs.pricing.DividendRates.{Rates, declares, fixes_rate, rates_of}
+use Rattle.register_machine.specs.rules.Terms.{terms_of}
 
 -- ---- what is made of what is found
 

@@ -19,6 +19,7 @@ use Rattle.journal_tables.proofs.SheetsOfJournals.{corrected-known}
 use Rattle.journal_tables.specs.Tables.{IsInRange, Tables, row_of_account, tables_after}
 use Rattle.journal_tables.specs.TablesOfJournals.{AreTablesOf, IsSheetOf, ServeFor}
 use Rattle.register_laws.proofs.Choosing.{none_some}
+use Rattle.register_laws.proofs.Isolation.{some-map}
 use Rattle.register_laws.proofs.KeepsLimits.{keeps_its_limits}
 use Rattle.register_laws.proofs.OrderlyBooks.{sheets_are_numbered}
 use Rattle.register_laws.proofs.PricesAnew.{prices_anew}
@@ -98,16 +99,12 @@ numbered-there journal sheet is = elim (slice_get_cases (corrected_table journal
 
 -- ---- the facts
 
-mapped-some : {X Y : Type 0} (f : X → Y) (o : Option X) → is_some (option_map f o) ≡ is_some o
-mapped-some f None = refl
-mapped-some f (Some x) = refl
-
 pub serve : (known : Known) (journal : Journal) → IsLawful journal → AreTablesOf journal (tables_in known) → sheets_known known ≡ (corrected_table journal).sheets → is_some (sheet_numbered known.table.sheets known.sheet) ≡ true → IsSheetOf journal known.sheet → ServeFor known journal
 serve known journal lawful are sheets there is = record {
   fit = record {
     sheet = there;
     terms_there = λ class listed.
-        sym (mapped-some class_in_book (terms_numbered known.terms class))
+        sym (some-map class_in_book (terms_numbered known.terms class))
         ∙ (ap is_some (are.terms class)
         ∙ (find-any (is_class class) (classes_of journal)
         ∙ found-has (λ sheet. lists_class sheet.prices class ≡ true → list_any (is_class class) (classes_of journal) ≡ true) (corrected_table journal).sheets (known.sheet - 1) (sheet_at_hand known) (corrected-known journal class lawful) at listed));

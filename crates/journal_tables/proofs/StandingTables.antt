@@ -7,7 +7,8 @@ use Rattle.agent_events.specs.declared.rows.RateRow.{RateRow}
 use Rattle.class_terms.specs.declared.form.TermsForm.{TermsForm}
 use Rattle.household_fold.specs.Facts.{rate_stands_before}
 use Rattle.journal_tables.proofs.PutRows.{Ranks, new-all, put-all, put-pairs}
-use Rattle.journal_tables.specs.Tables.{IsInRange, StandByNumber, Tables, has_account_number, has_class_number, is_rate_of, row_of_account, row_of_dividend, row_of_fix, tables_after, terms_of, with_account, with_dividend, with_fixed_rate, with_terms}
+use Rattle.journal_tables.specs.Tables.{IsInRange, StandByNumber, Tables, has_account_number, has_class_number, is_rate_of, row_of_account, row_of_dividend, row_of_fix, tables_after, with_account, with_dividend, with_fixed_rate, with_terms}
+use Rattle.register_machine.specs.rules.Terms.{terms_of}
 
 -- ---- by one number
 

@@ -2,7 +2,6 @@
 use Rattle.std.specs.Prelude.{All, AllPairs, Bool, List, [], true, ℕ, ◌&&◌, ◌<◌, ◌==◌, ◌≡◌, ◌≤◌, nat_lt}
 use Rattle.agent_events.specs.declared.event.EventKind.{EventKind}
 use Rattle.agent_events.specs.declared.request.AccountForm.{AccountForm}
-use Rattle.agent_events.specs.declared.request.ClassForm.{ClassForm}
 use Rattle.agent_events.specs.declared.request.DividendForm.{DividendForm}
 use Rattle.agent_events.specs.declared.request.FixRateForm.{FixRateForm}
 use Rattle.agent_events.specs.declared.rows.AccountRow.{AccountRow}
@@ -11,6 +10,7 @@ use Rattle.class_terms.specs.declared.form.TermsForm.{TermsForm}
 use Rattle.household_fold.specs.Facts.{rate_stands_before}
 use Rattle.journal_tables.specs.Places.{put_new, put_row}
 use Rattle.register_laws.specs.LawfulLimits.{has_good_loads}
+use Rattle.register_machine.specs.rules.Terms.{terms_of}
 
 -- the terms of the classes, the accounts with their households, and the dividend rates
 pub record Tables : Type 0 where
@@ -22,20 +22,6 @@ abbrev pub no_tables : Tables
 no_tables = record { terms = []; accounts = []; rates = [] }
 
 -- ---- the rows of events
-
-abbrev pub terms_of : ClassForm → TermsForm
-terms_of form = record {
-  class = form.class;
-  calendar = form.calendar;
-  fund = form.fund;
-  name = form.name;
-  family = form.family;
-  counts = form.counts;
-  first_min = form.first_min;
-  later_min = form.later_min;
-  front = form.front;
-  deferred = form.deferred;
-}
 
 abbrev pub row_of_account : AccountForm → AccountRow
 row_of_account form = record { account = form.account; household = form.household; dealer = form.dealer }

@@ -1,7 +1,8 @@
 //! The rows that events bring.
 ghost use Rattle.std.specs.Prelude.{◌≡◌, ◌≤◌, None, IfOk};
 ghost use Rattle.class_terms.specs.Tables.{deferred_fault, front_fault};
-ghost use Rattle.journal_tables.specs.Tables.{IsInRange, row_of_account, row_of_dividend, row_of_fix, terms_of};
+ghost use Rattle.journal_tables.specs.Tables.{IsInRange, row_of_account, row_of_dividend, row_of_fix};
+ghost use Rattle.register_machine.specs.rules.Terms.{terms_of};
 
 use agent_events::{
     AccountForm, AccountRow, ClassForm, DividendForm, EventKind, FixRateForm, RateRow,

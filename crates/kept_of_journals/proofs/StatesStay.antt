@@ -1,6 +1,5 @@
 -- Kept states are what the households came to, and which events and corrections leave them so.
 use Rattle.std.proofs.Common.{List, [], ap, arith, false, length, refl, subst, sym, take, ℕ, ◌∙◌, ◌∷◌, ◌≡◌, ◌≤◌}
-use Rattle.std.proofs.Math.Seq.{take-length}
 use Rattle.std.proofs.lemmas.Bool.{true≢false}
 use Rattle.std.proofs.lemmas.List.{length-append, length-map}
 use Rattle.std.proofs.lemmas.List.Elements.{All-nil, All-weaker}
@@ -18,6 +17,7 @@ use Rattle.kept_states.specs.declared.states.HouseholdStates.{HouseholdStates}
 use Rattle.kept_states.specs.declared.states.KeptState.{KeptState}
 use Rattle.register_laws.proofs.BooksGoOn.{book_goes_on}
 use Rattle.register_laws.proofs.NothingBefore.{last-brought}
+use Rattle.register_laws.proofs.RegistersKept.{at-last}
 use Rattle.register_laws.specs.Households.{part_of}
 use Rattle.register_laws.specs.Lawful.{book_behind}
 use Rattle.register_laws.specs.OneEventMore.{book_after, orders_after, replaced_by, struck_by}
@@ -26,22 +26,17 @@ use Rattle.register_machine.specs.journal.Kinds.{accounts_of}
 use Rattle.register_machine.specs.journal.Lawful.{IsLawful}
 use Rattle.register_machine.specs.pricing.CorrectedBook.{Book}
 use Rattle.register_machine.specs.pricing.CorrectedOrders.{row_as_sent}
-use Rattle.register_machine.specs.replay.Replay.{replay, replay_over, replay_to}
+use Rattle.register_machine.specs.replay.Replay.{replay, replay_to}
 use Rattle.register_machine.specs.replay.Trades.{Day}
 use Rattle.waiting_laws.proofs.SettledStay.{event_leaves_settled}
 
 pub none_kept : (book : Book) → AreKeptOf book []
 none_kept book household = All-nil (IsAsOf book household)
 
--- the replay up to the last sheet is the whole replay
-last-whole : (book : Book) → replay_to book (length book.table.sheets) ≡ replay book
-unfolding replay
-last-whole book = ap (replay_over book) (take-length book.table.sheets)
-
 pub last_is_as_of : (book : Book) (household : ℕ) (kept : KeptState) → LastIsAsOf book household kept
 last_is_as_of book household kept is =
     let whole : part_to book household kept.sheet ≡ part_of book.accounts household (replay book) =
-    ap (part_to book household) is.sheet ∙ ap (part_of book.accounts household) (last-whole book) in
+    ap (part_to book household) is.sheet ∙ ap (part_of book.accounts household) (at-last book) in
     record {
       published = omega (arith, is.sheet);
       own = is.own;

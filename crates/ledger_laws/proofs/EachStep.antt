@@ -1,12 +1,12 @@
 -- Over each sheet of a sound book a household's step can be taken from its part, and over many its replay.
 use Rattle.std.proofs.Common.{List, None, Option, Some, ap, arith, get_or, is_some, length, option_map, refl, subst, sym, true, unwrap_or, ℕ, ◌+◌, ◌-◌, ◌<◌, ◌∙◌, ◌≡◌, ◌≤◌}
-use Rattle.std.proofs.lemmas.List.Elements.{All-weaker}
 use Rattle.forward_price.specs.PriceTables.{sheet_numbered}
 use Rattle.forward_price.specs.declared.price_sheet.Sheet.{Sheet}
 use Rattle.household_fold.proofs.SheetFacts.{numbered-patched}
 use Rattle.household_fold.specs.Facts.{FactsFit, Known, no_sheet, on_trial, sheet_at_hand}
-use Rattle.household_fold.specs.Households.{AreOrdersOf, AreOwned, IsOwnPlace}
+use Rattle.household_fold.specs.Households.{AreOrdersOf}
 use Rattle.household_fold.specs.Numbers.{AreNumbersWithin}
+use Rattle.household_replay.proofs.PremiseFacts.{owned_on}
 use Rattle.household_replay.specs.Replays.{NumberedOrder, known_on, orders_under, day_behind, days_behind}
 use Rattle.ledger_laws.proofs.OwnedParts.{owned_by_accounts}
 use Rattle.ledger_laws.proofs.PartLimits.{numbers_within}
@@ -16,7 +16,6 @@ use Rattle.ledger_laws.specs.PartsByFacts.{AreFactsOf, orders_of_part, AreRowsOf
 use Rattle.ledger_laws.specs.SoundBooks.{HaveTerms, IsSoundBook, ListsItsClasses}
 use Rattle.register_laws.specs.Households.{part_of}
 use Rattle.register_machine.specs.pricing.CorrectedBook.{Book}
-use Rattle.register_machine.specs.replay.Positions.{Position, Register}
 use Rattle.register_machine.specs.replay.Replay.{replay_to}
 use Rattle.register_machine.specs.replay.Trades.{Day}
 
@@ -46,12 +45,6 @@ facts-fit known book sound facts have stand place d short =
       few_accounts = stand.few_accounts;
     }
 
--- whose positions are doesn't hang on the sheet at hand
-pub owned-on : (known : Known) (number household : ℕ) (register : Register) → AreOwned known household register → AreOwned (known_on known number) household register
-owned-on known number household register owned =
-    All-weaker (λ (p : Position). IsOwnPlace known household p.account p.class) (λ (p : Position). IsOwnPlace (known_on known number) household p.account p.class)
-    (λ p is. record { owner = is.owner; terms = is.terms }) register owned
-
 -- the lots behind the step have numbers within 32 bits
 pub lots-behind-step : (known : Known) (book : Book) (household : ℕ) → IsSoundBook book → AreFactsOf known book → (place : ℕ) (d : Sheet) → place < length book.table.sheets → AreNumbersWithin (day_behind (known_on known (place + 1)) (orders_of_part book household (get_or book.table.sheets place d)) (part_of book.accounts household (replay_to book place))).register
 lots-behind-step known book household sound facts place d short =
@@ -63,7 +56,7 @@ lets_step known book household sound facts have stand place d short =
     let owned = owned_by_accounts known book household sound facts have in
     record {
       facts = facts-fit known book sound facts have stand place d short;
-      owned = owned-on known (place + 1) household (part_of book.accounts household (replay_to book place)).register (owned.positions place);
+      owned = owned_on known (place + 1) household (part_of book.accounts household (replay_to book place)).register (owned.positions place);
       orders_owned = owned.orders place d short;
       lots = lots-behind-step known book household sound facts place d short;
     }

@@ -1,10 +1,10 @@
 -- Orders sheet by sheet are those on each sheet under its number, and their numbers never fall.
-use Rattle.std.proofs.Common.{All, List, [], Bool, ap, append-nil, arith, cond, false, filter, flat_map, get_or, length, map, refl, suc, true, zero, ℕ, ◌++◌, ◌+◌, ◌<◌, ◌==◌, ◌∙◌, ◌∷◌, ◌≡◌, ◌≤◌}
-use Rattle.std.proofs.lemmas.List.{map-append}
-use Rattle.std.proofs.lemmas.List.Elements.{All-append, All-map, All-nil, All-weaker, filter-append}
+use Rattle.std.proofs.Common.{All, List, [], ap, append-nil, arith, cond, false, filter, flat_map, get_or, length, map, refl, suc, true, zero, ℕ, ◌++◌, ◌+◌, ◌<◌, ◌==◌, ◌∙◌, ◌∷◌, ◌≡◌, ◌≤◌}
+use Rattle.std.proofs.lemmas.List.Elements.{All-append, All-map, All-nil, All-weaker}
 use Rattle.std.specs.Prelude.{AllPairs}
 use Rattle.agent_events.specs.declared.order.Order.{Order}
 use Rattle.forward_price.specs.declared.price_sheet.Sheet.{Sheet}
+use Rattle.household_replay.proofs.NumberFacts.{under-append}
 use Rattle.household_replay.specs.Replays.{NumberedOrder, orders_under}
 use Rattle.ledger_laws.specs.OrderRows.{under_number}
 use Rattle.register_laws.proofs.Comparisons.{eq-no, eq-yes}
@@ -25,12 +25,6 @@ other-number number asked differs (order ∷ orders) =
     ap (λ b. map (λ (row : NumberedOrder). row.order) (cond b (under_number number order ∷ filter (λ (row : NumberedOrder). row.number == asked) (map (under_number number) orders)) (filter (λ (row : NumberedOrder). row.number == asked) (map (under_number number) orders)))) differs
     ∙ other-number number asked differs orders
 
-under-both : (asked : ℕ) (rows more : List NumberedOrder) → orders_under asked (rows ++ more) ≡ orders_under asked rows ++ orders_under asked more
-under-both asked rows more =
-    let test : NumberedOrder → Bool = λ row. row.number == asked in
-    ap (map (λ (row : NumberedOrder). row.order)) (filter-append test rows more)
-    ∙ map-append (λ (row : NumberedOrder). row.order) (filter test rows) (filter test more)
-
 -- ---- sheet by sheet
 
 module _ (orders_on : Sheet → List Order) where
@@ -41,7 +35,7 @@ module _ (orders_on : Sheet → List Order) where
   none-under asked first [] are less = refl
   none-under asked first (sheet ∷ sheets) are less =
       let differs = eq-no sheet.number asked (λ e. omega (arith, e, numbered-first first sheet sheets are, less)) in
-      under-both asked (numbered sheet) (flat_map numbered sheets)
+      under-append asked (numbered sheet) (flat_map numbered sheets)
       ∙ (ap (λ os. os ++ orders_under asked (flat_map numbered sheets)) (other-number sheet.number asked differs (orders_on sheet))
       ∙ none-under asked (suc first) sheets (numbered-rest first sheet sheets are) (omega (arith, less)))
 
@@ -49,14 +43,14 @@ module _ (orders_on : Sheet → List Order) where
   found-under first [] are place d short = absurd (omega (arith, short))
   found-under first (sheet ∷ sheets) are zero d short =
       let own = eq-yes sheet.number (zero + first) (omega (arith, numbered-first first sheet sheets are)) in
-      under-both (zero + first) (numbered sheet) (flat_map numbered sheets)
+      under-append (zero + first) (numbered sheet) (flat_map numbered sheets)
       ∙ (ap (λ os. os ++ orders_under (zero + first) (flat_map numbered sheets)) (own-number sheet.number (zero + first) own (orders_on sheet))
       ∙ (ap (λ os. orders_on sheet ++ os) (none-under (zero + first) (suc first) sheets (numbered-rest first sheet sheets are) (omega arith))
       ∙ append-nil (orders_on sheet)))
   found-under first (sheet ∷ sheets) are (suc place) d short =
       let differs = eq-no sheet.number (suc place + first) (λ e. omega (arith, e, numbered-first first sheet sheets are)) in
       let later : suc place + first ≡ place + suc first = omega arith in
-      under-both (suc place + first) (numbered sheet) (flat_map numbered sheets)
+      under-append (suc place + first) (numbered sheet) (flat_map numbered sheets)
       ∙ (ap (λ os. os ++ orders_under (suc place + first) (flat_map numbered sheets)) (other-number sheet.number (suc place + first) differs (orders_on sheet))
       ∙ (ap (λ n. orders_under n (flat_map numbered sheets)) later
       ∙ found-under (suc first) sheets (numbered-rest first sheet sheets are) place d (omega (arith, short))))

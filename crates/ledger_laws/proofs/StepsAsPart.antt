@@ -1,7 +1,7 @@
 -- A household's step by facts makes of its part what the sheet makes of all.
-use Rattle.std.proofs.Common.{All, Bool, List, Option, [], ap, cond, false, filter, get_or, map, refl, subst, sym, true, ℕ, ◌&&◌, ◌++◌, ◌==◌, ◌∙◌, ◌∷◌, ◌≡◌}
+use Rattle.std.proofs.Common.{All, Bool, List, Option, ap, false, filter, get_or, map, refl, subst, sym, true, ℕ, ◌&&◌, ◌++◌, ◌==◌, ◌∙◌, ◌≡◌}
 use Rattle.std.proofs.lemmas.List.{map-id}
-use Rattle.std.proofs.lemmas.List.Elements.{All-head, All-tail, All-weaker, filter_passes}
+use Rattle.std.proofs.lemmas.List.Elements.{All-weaker, filter_passes}
 use Rattle.std.specs.Option.{option_map_or}
 use Rattle.agent_events.specs.declared.order.OrderRow.{OrderRow}
 use Rattle.forward_price.specs.declared.price_sheet.Sheet.{Sheet}
@@ -11,7 +11,7 @@ use Rattle.household_replay.specs.Replays.{day_behind}
 use Rattle.ledger_laws.proofs.StepsAlone.{rows-alone, step-alone}
 use Rattle.ledger_laws.specs.PartsByFacts.{StepsAsPart}
 use Rattle.offering_price.specs.Accumulation.{credit}
-use Rattle.register_laws.proofs.ListParts.{map-agree}
+use Rattle.register_laws.proofs.ListParts.{filter-known, map-agree}
 use Rattle.register_laws.proofs.PositionsInOrder.{put-all}
 use Rattle.register_laws.proofs.ReplayedAlone.{own-household, part-day, step-part}
 use Rattle.register_laws.proofs.StepsAlike.{PositionCounts, RowCounts, SheetAlike, step-after}
@@ -26,13 +26,6 @@ use Rattle.register_machine.specs.replay.Purchase.{credit_of, is_counted, worth_
 use Rattle.register_machine.specs.replay.Replay.{day_after_sheet, orders_on, priced_orders}
 use Rattle.forward_price.specs.PriceTables.{with_prices}
 use Rattle.register_machine.specs.replay.Trades.{Day, nav_of, with_position, with_trade}
-
--- tests that agree on all elements keep the same ones
-filter-agrees : {X : Type 0} (p q : X → Bool) (xs : List X) → All (λ x. p x ≡ q x) xs → filter p xs ≡ filter q xs
-filter-agrees p q [] agree = refl
-filter-agrees p q (x ∷ xs) agree =
-    ap (λ b. cond b (x ∷ filter p xs) (filter p xs)) (All-head (λ x. p x ≡ q x) x xs agree)
-    ∙ ap (λ ys. cond (q x) (x ∷ ys) ys) (filter-agrees p q xs (All-tail (λ x. p x ≡ q x) x xs agree))
 
 -- all positions are of these accounts, in classes that count
 abbrev pub AreOf : (ℕ → Bool) → (ℕ → Bool) → Register → Type 0
@@ -59,7 +52,7 @@ module _ (book other : Book) (alike : BooksAlike other book) (household : ℕ) (
       let own = own_book household book in
       let owner = household_of other.accounts account in
       ap (λ o. credit (map (worth_on own sheet) (filter (is_counted own o) register))) (own-household book.accounts household account mine ∙ sym (alike.household account))
-      ∙ (ap (λ some. credit (map (worth_on own sheet) some)) (filter-agrees (is_counted own owner) (is_counted other owner) register
+      ∙ (ap (λ some. credit (map (worth_on own sheet) some)) (filter-known (is_counted own owner) (is_counted other owner) register
       (All-weaker (PositionCounts (is_of_household book.accounts household) named) (λ p. is_counted own owner p ≡ is_counted other owner p) (λ p is. counted-same owner p is.account) register owned))
       ∙ ap credit (map-agree (worth_on own sheet) (worth_on other sheet) worth-same (filter (is_counted other owner) register)))
 

@@ -1,12 +1,11 @@
 -- The book of a correction that no rule before the last one refuses is sound.
-use Rattle.std.proofs.Common.{All, Bool, List, None, Option, Some, [], ap, count_by, false, filter, is_some, length, map, nat_le, not, option_and_then, option_map, option_to_list, refl, subst, sym, true, ℕ, ◌&&◌, ◌++◌, ◌+◌, ◌==◌, ◌∙◌, ◌∷◌, ◌≡◌, ◌≤◌}
-use Rattle.std.proofs.lemmas.Bool.{and_parts, eqb-true, true≢false}
+use Rattle.std.proofs.Common.{All, Bool, List, None, Option, Some, [], ap, count_by, false, filter, is_some, length, nat_le, not, option_and_then, option_map, option_to_list, refl, subst, sym, true, ℕ, ◌++◌, ◌+◌, ◌∙◌, ◌∷◌, ◌≡◌, ◌≤◌}
+use Rattle.std.proofs.lemmas.Bool.{true≢false}
 use Rattle.std.proofs.lemmas.List.Elements.{All-weaker}
 use Rattle.std.specs.Option.{option_map_or}
-use Rattle.std.specs.List.{AllByRecursion, list_all, list_any}
+use Rattle.std.specs.List.{list_all, list_any}
 use Rattle.agent_events.specs.Events.{Event, request_of}
 use Rattle.agent_events.specs.declared.event.EventKind.{EventKind}
-use Rattle.agent_events.specs.declared.order.Body.{Body}
 use Rattle.agent_events.specs.declared.order.Order.{Order}
 use Rattle.agent_events.specs.declared.order.OrderRow.{OrderRow}
 use Rattle.agent_events.specs.declared.reply.Refusal.{Refusal}
@@ -23,17 +22,17 @@ use Rattle.ledger_laws.specs.SoundBooks.{IsSoundBook}
 use Rattle.ledger_laws.specs.TrialBooks.{LawfulTrialIsSound}
 use Rattle.register_laws.proofs.BookOrders.{SaidAs, order_said}
 use Rattle.register_laws.proofs.Choosing.{not_when}
-use Rattle.register_laws.proofs.Comparisons.{eq-yes}
 use Rattle.register_laws.proofs.CorrectedAgain.{book-again}
+use Rattle.register_laws.proofs.CorrectionsLeaveFilled.{corrected-table}
 use Rattle.register_laws.proofs.NothingBefore.{all-named, begins-by}
 use Rattle.register_laws.proofs.OneEventMore.{gathers-on, rates_go_on, table_goes_on}
 use Rattle.register_laws.proofs.OrderlyBooks.{sheets_are_numbered}
 use Rattle.register_laws.proofs.OrdersGoOn.{orders_go_on}
 use Rattle.register_laws.proofs.PricesAnew.{more-still}
 use Rattle.register_laws.proofs.RulesByName.{not_broken}
-use Rattle.register_laws.proofs.TablesAreOrderly.{IsCalendar, kept, orderly-corrected}
+use Rattle.register_laws.proofs.TablesAreOrderly.{kept, orderly-corrected}
 use Rattle.register_laws.proofs.TablesGoOn.{corrected_table_goes_on}
-use Rattle.register_laws.proofs.Tests.{all-kept, find-any}
+use Rattle.register_laws.proofs.Tests.{all-kept}
 use Rattle.register_laws.specs.Identities.{is_class}
 use Rattle.register_laws.specs.Lawful.{book_behind, own_at}
 use Rattle.register_laws.specs.OneEventMore.{book_after, corrected_table, corrected_table_by, is_unfixed, orders_after}
@@ -46,14 +45,15 @@ use Rattle.register_machine.specs.pricing.CorrectedBook.{Book, book_of}
 use Rattle.register_machine.specs.pricing.CorrectedOrders.{order_named, orders_of, row_as_sent, stands}
 use Rattle.register_machine.specs.pricing.DividendRates.{Rates, rates_of}
 use Rattle.register_machine.specs.pricing.OrderClasses.{class_of, classes_in, target_of}
-use Rattle.register_machine.specs.pricing.PublishedTable.{table_by, table_of}
+use Rattle.register_machine.specs.pricing.PublishedTable.{table_of}
 use Rattle.register_machine.specs.rules.Identities.{reference_of}
 use Rattle.register_machine.specs.rules.InOrder.{Rule, broken_rule}
 use Rattle.register_machine.specs.rules.Limits.{is_of_account, most_orders}
-use Rattle.register_machine.specs.rules.NamedThings.{has_class, none_such, things_named}
-use Rattle.register_machine.specs.rules.Orders.{family_of, is_exchangeable, is_offered, not_offered, refused_order}
-use Rattle.register_machine.specs.rules.Situations.{Situation}
+use Rattle.register_machine.specs.rules.NamedThings.{none_such, things_named}
+use Rattle.register_machine.specs.rules.Orders.{is_offered, not_offered, refused_order}
 use Rattle.register_laws.proofs.KeepsLimits.{keeps_its_limits}
+use Rattle.register_laws.proofs.NamesStand.{classes-named}
+use Rattle.register_laws.proofs.OrdersLeaveTheirClass.{offered-leaves}
 
 -- ---- the order that a correction says
 
@@ -61,41 +61,19 @@ use Rattle.register_laws.proofs.KeepsLimits.{keeps_its_limits}
 abbrev NamesIn : Journal → Order → Type 0
 NamesIn journal order = list_all (λ class. list_any (is_class class) (classes_of journal)) (classes_in order.body) ≡ true
 
-classes-there : (situation : Situation) (place class : ℕ) (target : Option ℕ) → AllByRecursion (λ (field : ℕ × Bool). field.1 ≡ true) ((place + 2, has_class situation class) ∷ map (λ to. (place + 3, has_class situation to)) (option_to_list target)) → list_all (λ c. list_any (is_class c) situation.book.classes) (class ∷ option_to_list target) ≡ true
-classes-there situation place class None all =
-    ap (λ b. b && true) (sym (find-any (is_class class) situation.book.classes) ∙ all.0)
-classes-there situation place class (Some to) all =
-    ap (λ b. b && (list_any (is_class to) situation.book.classes && true)) (sym (find-any (is_class class) situation.book.classes) ∙ all.0)
-    ∙ ap (λ b. b && true) (sym (find-any (is_class to) situation.book.classes) ∙ all.1.0)
-
 said-named : (journal : Journal) (now : ℕ) (caller : Caller) (kind : EventKind) → is_some (bearer_in kind) ≡ true → none_such (own_at journal now caller) (request_of kind) ≡ None → SaidAs (NamesIn journal) (order_said kind)
 said-named journal now caller (EventKind.Order placed) corrects known = absurd (true≢false (sym corrects))
 said-named journal now caller (EventKind.Enter form) corrects known =
     let each = all-named (things_named (own_at journal now caller) (Request.Enter form)) known in
-    classes-there (own_at journal now caller) 5 (class_of form.order.body) (target_of form.order.body) each.1.1
+    classes-named (own_at journal now caller) 5 (class_of form.order.body) (target_of form.order.body) each.1.1
 said-named journal now caller (EventKind.Replace form) corrects known =
     let each = all-named (things_named (own_at journal now caller) (Request.Replace form)) known in
-    classes-there (own_at journal now caller) 5 (class_of form.order.body) (target_of form.order.body) each.1.1.1
+    classes-named (own_at journal now caller) 5 (class_of form.order.body) (target_of form.order.body) each.1.1.1
 said-named journal now caller _ corrects known = tt
 
 -- and it doesn't exchange a class into itself
 abbrev LeavesClass : Order → Type 0
 LeavesClass order = stays_in_class order.body ≡ false
-
-apart : (book : Book) (class to : ℕ) → is_exchangeable book class to ≡ true → (to == class) ≡ false
-apart book class to e = by (to == class) refl
-  where
-    by : (b : Bool) → (to == class) ≡ b → b ≡ false
-    by false is = refl
-    by true is =
-        let same = eqb-true to class is in
-        let differs = (and_parts (not (class == to)) (not (family_of book class == 0) && family_of book class == family_of book to) e).0 in
-        absurd (true≢false (sym differs ∙ ap not (eq-yes class to (sym same))))
-
-offered-leaves : (book : Book) (body : Body) → is_offered book body ≡ true → stays_in_class body ≡ false
-offered-leaves book (Body.Exchange class to quantity) e = apart book class to e
-offered-leaves book (Body.ExchangeAll class to) e = apart book class to e
-offered-leaves book body e = refl
 
 is-true : (b : Bool) → not b ≡ false → b ≡ true
 is-true true e = refl
@@ -120,21 +98,13 @@ said-leaves journal now caller _ corrects known clear = tt
 
 -- ---- the tables
 
-table-stays : (table : Table) (moment : ℕ) (kind : EventKind) → is_some (bearer_in kind) ≡ true → table_by table moment kind ≡ table
-table-stays table moment (EventKind.FixPrice form) corrects = refl
-table-stays table moment (EventKind.FixRate form) corrects = refl
-table-stays table moment (EventKind.Enter form) corrects = refl
-table-stays table moment (EventKind.Replace form) corrects = refl
-table-stays table moment (EventKind.Void form) corrects = refl
-table-stays table moment _ corrects = absurd (true≢false (sym corrects))
-
 pub unfixed : (journal : Journal) (kind : EventKind) → is_some (bearer_in kind) ≡ true → is_unfixed journal kind ≡ true
 unfixed journal (EventKind.Sheet form) corrects = absurd (true≢false (sym corrects))
 unfixed journal _ corrects = refl
 
 same-table : (journal : Journal) (event : Event) → is_some (bearer_in event.kind) ≡ true → table_of (with_event journal event) ≡ table_of journal
 same-table journal event corrects =
-    table_goes_on journal event ∙ table-stays (table_of journal) event.moment event.kind corrects
+    table_goes_on journal event ∙ corrected-table (table_of journal) event.moment event.kind corrects
 
 -- ---- the book goes on
 

@@ -59,7 +59,7 @@ ledger_corrected known before after parts new serves same is each = record {
   ];
 }
 
-opens-none : (kind : EventKind) → is_correction kind ≡ true → account_in kind ≡ None
+pub opens-none : (kind : EventKind) → is_correction kind ≡ true → account_in kind ≡ None
 opens-none (EventKind.Account form) corrects = absurd (true≢false (sym corrects))
 opens-none _ corrects = refl
 

@@ -7,6 +7,7 @@ use Rattle.std.specs.Prelude.{◌-ℤ◌}
 use Rattle.agent_events.specs.declared.request.AccountForm.{AccountForm}
 use Rattle.agent_events.specs.declared.totals.Changes.{Changes}
 use Rattle.agent_events.specs.declared.trade.Trade.{Trade}
+use Rattle.checkpoint_replay.proofs.FlowsOfMoves.{IsAdditive, all-same, all-still, cash-additive, mils-additive, same-flows, with_move}
 use Rattle.checkpoint_replay.specs.Differences.{trades_cash}
 use Rattle.checkpoint_replay.specs.Moves.{day_if_moved, households_of}
 use Rattle.checkpoint_replay.specs.Parts.{Households, part_in}
@@ -20,7 +21,7 @@ use Rattle.gain_loss_book.specs.Flows.{net, no_flow}
 use Rattle.gain_loss_book.specs.Movements.{trades_mils}
 use Rattle.gain_loss_book.specs.declared.flows.Flow.{Flow}
 use Rattle.ledger_laws.proofs.ClassTotals.{totals_by_differences}
-use Rattle.ledger_of_journals.proofs.SumsOfMoves.{CoversMoves, IsAdditive, all-same, all-still, cash-additive, mils-additive, moves-sum, same-flows, with_move}
+use Rattle.ledger_of_journals.proofs.SumsOfMoves.{CoversMoves, moves-sum}
 use Rattle.ledger_of_journals.proofs.SumsOverLedgers.{ShowTrades, joined, joined-distinct, not-joined, one-sum, owners, owners-cover, owners-distinct, sum-of-all}
 use Rattle.ledger_of_journals.specs.LedgerTotals.{ChangesAreDifferences, IsOfAHousehold, IsOfHouseholds, LawfulIsOfHouseholds, MovesLedger, TalliedHasTotals}
 use Rattle.ledger_of_journals.specs.Ledgers.{IsLedgerOf}
@@ -39,7 +40,7 @@ use Rattle.register_machine.specs.replay.Trades.{Day}
 
 -- ---- books
 
-owner-there : (found : Option AccountForm) → is_some found ≡ true → is_some (option_map (λ (form : AccountForm). form.household) found) ≡ true
+pub owner-there : (found : Option AccountForm) → is_some found ≡ true → is_some (option_map (λ (form : AccountForm). form.household) found) ≡ true
 owner-there None there = there
 owner-there (Some form) there = refl
 
@@ -52,7 +53,7 @@ is_of_households journal lawful = record {
       (filter stands (book_behind journal).orders) (known-rows journal lawful);
 }
 
-trades-owned : (book : Book) → IsOfHouseholds book → All (λ (trade : Trade). is_some (household_of book.accounts trade.account) ≡ true) (replay book).trades
+pub trades-owned : (book : Book) → IsOfHouseholds book → All (λ (trade : Trade). is_some (household_of book.accounts trade.account) ≡ true) (replay book).trades
 unfolding replay
 trades-owned book is =
     (known-replay book (λ number. is_some (household_of book.accounts number)) is.owned book.table.sheets).trades
@@ -103,7 +104,7 @@ moved-by flow additive before after parts new moves of other is =
     let moved = moves-sum flow additive parts all distinct moves is.apart covers (part_in parts) (all-still parts moves) in
     last ∙ (shown ∙ (moved ∙ ap (λ (z : ℤ). z +ℤ net (fold (with_move flow parts) no_flow moves)) (sym first)))
 
-difference : (before after change : ℤ) → after ≡ before +ℤ change → change ≡ after -ℤ before
+pub difference : (before after change : ℤ) → after ≡ before +ℤ change → change ≡ after -ℤ before
 difference before after change sum = omega (arith, ints, sum)
 
 pub are_differences : (changes : Changes) (before after : Book) (parts new : List (ℕ × HouseholdPart)) (moves : List HouseholdMove) → ChangesAreDifferences changes before after parts new moves

@@ -10,6 +10,8 @@ pub mod SumsOfMoves
 pub mod SumsOverLedgers
 -- the totals of a ledger, and by how much they differ between two
 pub mod LedgerTotals
+-- by how much moves change the totals, told by the days that they leave
+pub mod MovedDays
 -- the facts that serve the books of journals
 pub mod ServedBooks
 -- the moves that reopen households

@@ -3,6 +3,7 @@ use Rattle.std.proofs.Common.{Bool, List, [], ap, cond, eqb-true, false, fold, i
 use Rattle.std.proofs.lemmas.List.Sums.{fold-append}
 use Rattle.std.proofs.lemmas.Map.Keys.{IsDistinct-head, IsDistinct-tail}
 use Rattle.std.specs.List.{IsDistinct, list_any}
+use Rattle.checkpoint_replay.proofs.SheetMoves.{none-from-apart}
 use Rattle.checkpoint_replay.specs.Moves.{day_after_move, day_if_moved, households_of, part_after}
 use Rattle.checkpoint_replay.specs.Parts.{part_in}
 use Rattle.checkpoint_replay.specs.declared.change.HouseholdMove.{HouseholdMove}
@@ -10,13 +11,12 @@ use Rattle.checkpoint_replay.specs.declared.part.HouseholdPart.{HouseholdPart}
 use Rattle.household_fold.specs.Facts.{Known}
 use Rattle.household_replay.specs.Replays.{NumberedOrder}
 use Rattle.ledger_of_journals.proofs.CorrectedParts.{ledger_corrected}
-use Rattle.ledger_of_journals.proofs.SumsOverLedgers.{not-among}
 use Rattle.ledger_of_journals.specs.CorrectedLedgers.{AreReopenings, IsLeft, IsMovedByReplay, IsReopened, OneIsReopened, ReopeningsCorrect, ReopeningsJoin, is_moved, EachIsReopenedOrLeft, LeavesUnmoved}
 use Rattle.register_machine.specs.pricing.CorrectedBook.{Book}
 use Rattle.register_machine.specs.replay.Trades.{Day}
 
 -- a household that isn't moved stays
-unmoved : (moves : List HouseholdMove) (household : ℕ) (day : Day) → is_moved moves household ≡ false → fold (day_if_moved household) day moves ≡ day
+pub unmoved : (moves : List HouseholdMove) (household : ℕ) (day : Day) → is_moved moves household ≡ false → fold (day_if_moved household) day moves ≡ day
 unmoved [] household day none = refl
 unmoved (change ∷ moves) household day none =
     by (nat_eq household change.household) refl none (unmoved moves household day)
@@ -56,7 +56,7 @@ apart-behind (change ∷ moves) others household distinct is =
     by : (b : Bool) → nat_eq household change.household ≡ b → (b || is_moved moves household) ≡ true → (is_moved moves household ≡ true → is_moved others household ≡ false) → is_moved others household ≡ false
     by true same found rest =
         subst (λ n. is_moved others n ≡ false) (sym (eqb-true household change.household same))
-        (none-behind moves others change.household (not-among change.household (households_of (moves ++ others)) (IsDistinct-head nat_eq change.household (households_of (moves ++ others)) distinct)))
+        (none-behind moves others change.household (none-from-apart change.household (households_of (moves ++ others)) (IsDistinct-head nat_eq change.household (households_of (moves ++ others)) distinct)))
     by false same found rest = rest found
 
 -- ---- reopenings

@@ -16,10 +16,12 @@ use Rattle.event_laws.specs.EventReplays.{is_correction}
 use Rattle.forward_price.specs.PriceTables.{Table, corrected_sheet}
 use Rattle.household_fold.specs.Facts.{Known, rate_numbered}
 use Rattle.journal_tables.proofs.EventTables.{tables_go_on}
+use Rattle.journal_tables.proofs.ServedFacts.{tables-behind}
 use Rattle.journal_tables.specs.Tables.{IsInRange, Tables, row_of_account, row_of_fix, tables_after, with_fixed_rate}
 use Rattle.journal_tables.specs.TablesOfJournals.{AreTablesOf, known_of, known_with_patch, known_with_rates, patch_by}
 use Rattle.ledger_laws.proofs.SoundBooks.{books-alike, have-terms}
 use Rattle.ledger_laws.specs.SoundBooks.{TablesAgree}
+use Rattle.ledger_of_journals.proofs.CorrectedParts.{opens-none}
 use Rattle.ledger_of_journals.specs.BookFacts.{ServeLastSheet}
 use Rattle.ledger_of_journals.specs.TableFacts.{AreFactsBehind, FactsBehindServe, HasFewRows, IsOnTrial, NewSheetServed, OrderCorrectionServed, PriceCorrectionServed, RateCorrectionServed, IsLastSheet}
 use Rattle.register_laws.proofs.KeepsLimits.{keeps_its_limits}
@@ -91,11 +93,6 @@ few-of-lawful journal lawful =
 
 -- ---- lawful journals
 
-pub tables-behind : (journal : Journal) (tables : Tables) (event : Event) (kind : EventKind) → event.kind ≡ kind → IsInRange kind → AreTablesOf journal tables → AreTablesOf (with_event journal event) (tables_after tables kind)
-tables-behind journal tables event kind is range are =
-    subst (λ k. AreTablesOf (with_event journal event) (tables_after tables k)) is
-    (tables_go_on journal tables event are (subst IsInRange (sym is) range))
-
 pub new_sheet_served : (journal : Journal) (tables : Tables) (event : Event) (form : SheetForm) (sheet : ℕ) → NewSheetServed journal tables event form sheet
 new_sheet_served journal tables event form sheet lawful is are last =
     let later = with_event journal event in
@@ -110,15 +107,11 @@ no-class : (kind : EventKind) → is_correction kind ≡ true → class_in kind 
 no-class (EventKind.Class form) corrects = absurd (true≢false (sym corrects))
 no-class _ corrects = refl
 
-no-account : (kind : EventKind) → is_correction kind ≡ true → account_in kind ≡ None
-no-account (EventKind.Account form) corrects = absurd (true≢false (sym corrects))
-no-account _ corrects = refl
-
 few-on-trial : (journal : Journal) (event : Event) → IsOnTrial journal event → HasFewRows (with_event journal event)
 few-on-trial journal event is =
     let few = few-of-lawful journal is.lawful in
     let classes = gathers-on class_in journal event ∙ (ap (λ (found : Option ClassForm). classes_of journal ++ option_to_list found) (no-class event.kind is.corrects) ∙ append-nil (classes_of journal)) in
-    let accounts = gathers-on account_in journal event ∙ (ap (λ (found : Option AccountForm). accounts_of journal ++ option_to_list found) (no-account event.kind is.corrects) ∙ append-nil (accounts_of journal)) in
+    let accounts = gathers-on account_in journal event ∙ (ap (λ (found : Option AccountForm). accounts_of journal ++ option_to_list found) (opens-none event.kind is.corrects) ∙ append-nil (accounts_of journal)) in
     record {
       classes = subst (λ (forms : List ClassForm). length forms ≤ 1000) (sym classes) few.classes;
       accounts = λ household. subst (λ (forms : List AccountForm). count_by (λ (form : AccountForm). form.household == household) forms ≤ 64) (sym accounts) (few.accounts household);
@@ -130,7 +123,7 @@ table-on-trial journal event kind is by =
     ap (λ (book : Book). book.table) is.goes_on
     ∙ ap (corrected_table_by (book_behind journal).table event.moment) by
 
-order-table : (table : Table) (moment : ℕ) (kind : EventKind) → is_some (order_changed kind) ≡ true → corrected_table_by table moment kind ≡ table
+pub order-table : (table : Table) (moment : ℕ) (kind : EventKind) → is_some (order_changed kind) ≡ true → corrected_table_by table moment kind ≡ table
 order-table table moment (EventKind.Order placed) changes = refl
 order-table table moment (EventKind.Enter form) changes = refl
 order-table table moment (EventKind.Replace form) changes = refl

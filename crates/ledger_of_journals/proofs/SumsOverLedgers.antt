@@ -4,17 +4,19 @@ use Rattle.std.proofs.lemmas.Int.{ints}
 use Rattle.std.proofs.lemmas.List.Elements.{All-head, All-tail}
 use Rattle.std.proofs.lemmas.Map.Keys.{IsDistinct-cons, IsDistinct-head, IsDistinct-tail}
 use Rattle.std.specs.Cmp.{nat_eq_equiv}
-use Rattle.std.specs.List.{AllByRecursion, IsDistinct, list_any}
+use Rattle.std.specs.List.{IsDistinct, list_any}
 use Rattle.std.specs.Option.{option_map_or}
 use Rattle.agent_events.specs.declared.request.AccountForm.{AccountForm}
 use Rattle.agent_events.specs.declared.trade.Trade.{Trade}
+use Rattle.checkpoint_replay.proofs.FlowsOfMoves.{IsAdditive, all-same, same-flows}
+use Rattle.checkpoint_replay.proofs.SheetMoves.{none-from-apart}
+use Rattle.checkpoint_replay.proofs.TalliedLaw.{none-apart}
 use Rattle.checkpoint_replay.specs.Parts.{part_in}
 use Rattle.checkpoint_replay.specs.Tallied.{IsSumOver, flow_of_all}
 use Rattle.checkpoint_replay.specs.declared.part.HouseholdPart.{HouseholdPart}
 use Rattle.gain_loss_book.proofs.PostedFacts.{flow-in, flow-out}
 use Rattle.gain_loss_book.specs.Flows.{net, with_flow}
 use Rattle.gain_loss_book.specs.declared.flows.Flow.{Flow}
-use Rattle.ledger_of_journals.proofs.SumsOfMoves.{IsAdditive, all-same, same-flows}
 use Rattle.register_machine.specs.journal.Kinds.{household_of}
 use Rattle.register_machine.specs.replay.Trades.{Day}
 
@@ -32,10 +34,6 @@ abbrev days_by : List AccountForm → List Trade → ℕ → Day
 days_by accounts trades household = record { register = []; trades = trades_by accounts trades household }
 
 -- ---- each trade is of one household
-
-pub not-among : (k : ℕ) (hs : List ℕ) → AllByRecursion (λ y. nat_eq k y ≡ false) hs → list_any (nat_eq k) hs ≡ false
-not-among k [] all = refl
-not-among k (h ∷ hs) all = ap (λ b. b || list_any (nat_eq k) hs) all.0 ∙ not-among k hs all.1
 
 -- what one trade more brings, where its household is among these
 abbrev brought_once : Bool → ℤ → ℤ
@@ -57,7 +55,7 @@ one-more flow additive accounts trade trades k owner (h ∷ hs) distinct =
     let rest = flow_of_all flow (days_by accounts trades) hs in
     let more = flow_of_all flow (days_by accounts (trade ∷ trades)) hs in
     let apart : nat_eq k h ≡ true → list_any (nat_eq k) hs ≡ false = λ same.
-    subst (λ n. list_any (nat_eq n) hs ≡ false) (sym (eqb-true k h same)) (not-among h hs (IsDistinct-head nat_eq h hs distinct)) in
+    subst (λ n. list_any (nat_eq n) hs ≡ false) (sym (eqb-true k h same)) (none-from-apart h hs (IsDistinct-head nat_eq h hs distinct)) in
     ap (λ (found : Option ℕ). net (with_flow (flow (cond (is_by found h) (trade ∷ own) own)) more)) owner
     ∙ first-more flow additive trade own (nat_eq k h) (list_any (nat_eq k) hs) rest more apart
     (one-more flow additive accounts trade trades k owner hs (IsDistinct-tail nat_eq h hs distinct))
@@ -130,14 +128,6 @@ pub owners : List AccountForm → List Trade → List ℕ
 owners accounts [] = []
 owners accounts (trade ∷ trades) = with_owner (owner_of accounts trade) (owners accounts trades)
 
-apart-from : (k : ℕ) (hs : List ℕ) → list_any (nat_eq k) hs ≡ false → AllByRecursion (λ y. nat_eq k y ≡ false) hs
-apart-from k [] none = tt
-apart-from k (h ∷ hs) none = by (nat_eq k h) refl none (λ rest. apart-from k hs rest)
-  where
-    by : (b : Bool) → nat_eq k h ≡ b → (b || list_any (nat_eq k) hs) ≡ false → (list_any (nat_eq k) hs ≡ false → AllByRecursion (λ y. nat_eq k y ≡ false) hs) → AllByRecursion (λ y. nat_eq k y ≡ false) (h ∷ hs)
-    by true is e behind = absurd (true≢false e)
-    by false is e behind = (is, behind e)
-
 with-distinct : (found : Option ℕ) (hs : List ℕ) → IsDistinct nat_eq hs → IsDistinct nat_eq (with_owner found hs)
 unfolding with_owner
 with-distinct None hs distinct = distinct
@@ -145,7 +135,7 @@ with-distinct (Some k) hs distinct = by (list_any (nat_eq k) hs) refl
   where
     by : (b : Bool) → list_any (nat_eq k) hs ≡ b → IsDistinct nat_eq (cond b hs (k ∷ hs))
     by true there = distinct
-    by false none = IsDistinct-cons nat_eq k hs (apart-from k hs none) distinct
+    by false none = IsDistinct-cons nat_eq k hs (none-apart k hs none) distinct
 
 pub owners-distinct : (accounts : List AccountForm) (trades : List Trade) → IsDistinct nat_eq (owners accounts trades)
 unfolding owners IsDistinct

@@ -1,9 +1,9 @@
 -- The calendar of a load, computed once: its terms are lawful, and all its pricing moments come before 2034.
-use Rattle.std.proofs.Common.{◌≡◌, ℕ, zero, suc, ◌≤◌, ◌+◌, Bool, true, false, ◌&&◌, nat_le, nat_lt, cond, find, Some, List, [], ◌∷◌, Ok, Err, refl, sym, subst, ap, ◌∙◌, inl, inr, arith, option_map}
+use Rattle.std.proofs.Common.{◌≡◌, ℕ, zero, suc, ◌≤◌, Bool, true, false, nat_le, nat_lt, cond, find, Some, List, [], ◌∷◌, Ok, Err, refl, sym, subst, ap, ◌∙◌, inl, inr, arith, option_map}
 use Rattle.std.specs.Prelude.{unwrap_or}
 use Rattle.std.specs.Result.{is_ok}
 use Rattle.std.specs.List.{list_all}
-use Rattle.std.proofs.lemmas.Bool.{true≢false}
+use Rattle.std.proofs.lemmas.Bool.{and_parts, true≢false}
 use Rattle.std.proofs.lemmas.Bool.Decides.{leb_tells}
 use Rattle.fund_calendar.specs.declared.pricing_day.PricingDay.{PricingDay}
 use Rattle.fund_calendar.specs.Refusals.{RefusedAs}
@@ -50,10 +50,6 @@ made_so listing first last begins ends made =
     (subst (λ d. Ok listing ≡ new_calendar (terms_over d 23375)) begins
     (subst (λ d. Ok listing ≡ new_calendar (terms_over first d)) ends made))
 
-both : (a b : Bool) → (a && b) ≡ true → (a ≡ true) × (b ≡ true)
-both true b e = (refl, e)
-both false b e = absurd (true≢false (sym e))
-
 moment_before : (entry : PricingDay) → is_before_2034 entry ≡ true → entry.moment ≤ 2019686400
 moment_before entry e = elim (leb_tells entry.moment 2019686400) [
   | inl (_, le) ↦ le
@@ -63,7 +59,7 @@ moment_before entry e = elim (leb_tells entry.moment 2019686400) [
 after_within : (days : List PricingDay) (moment : ℕ) → list_all is_before_2034 days ≡ true → moment ≤ 2019686400 → unwrap_or (first_above days moment) moment ≤ 2019686400
 after_within [] moment early h = h
 after_within (entry ∷ later) moment early h =
-    let parts = both (is_before_2034 entry) (list_all is_before_2034 later) early in
+    let parts = and_parts (is_before_2034 entry) (list_all is_before_2034 later) early in
     elim (nat_lt moment entry.moment) as (λ b. unwrap_or (option_map (λ (e : PricingDay). e.moment) (cond b (Some entry) (find (λ e. nat_lt moment e.moment) later))) moment ≤ 2019686400) [
       | true ↦ moment_before entry parts.0
       | false ↦ after_within later moment parts.1 h

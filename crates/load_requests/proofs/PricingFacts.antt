@@ -2,7 +2,7 @@
 -- pricing moments lie more than two hours apart.
 use Rattle.std.proofs.Common.{◌≡◌, ℕ, zero, suc, ◌<◌, ◌≤◌, ◌+◌, Bool, true, false, ◌&&◌, nat_le, nat_lt, List, [], ◌∷◌, length, get_or, slice_get, Option, Some, option_map, refl, sym, ap, ◌∙◌, inl, inr, arith}
 use Rattle.std.specs.Prelude.{unwrap_or}
-use Rattle.std.proofs.lemmas.Bool.{true≢false}
+use Rattle.std.proofs.lemmas.Bool.{and_parts, true≢false}
 use Rattle.std.proofs.lemmas.Bool.Decides.{Decides-ltb, leb_tells}
 use Rattle.fund_calendar.specs.declared.pricing_day.PricingDay.{PricingDay}
 use Rattle.fund_calendar.specs.PricingDays.{first_above}
@@ -24,10 +24,6 @@ long : nat_le 2600 (length load_listing.days) ≡ true
 unfolding load_on_literals
 long = refl
 
-both : (a b : Bool) → (a && b) ≡ true → (a ≡ true) × (b ≡ true)
-both true b e = (refl, e)
-both false b e = absurd (true≢false (sym e))
-
 is_le : (a b : ℕ) → nat_le a b ≡ true → a ≤ b
 is_le a b e = elim (leb_tells a b) [ inl (_, le) ↦ le | inr (f, _) ↦ absurd (true≢false (sym e ∙ f)) ]
 
@@ -42,11 +38,11 @@ ge_is a b h = elim (nat_lt a b) as (λ t. nat_lt a b ≡ t → t ≡ false) [
 
 apart_first : (low : ℕ) (entry : PricingDay) (later : List PricingDay) → apart_from low (entry ∷ later) ≡ true → low + 7200 ≤ entry.moment
 unfolding apart_from
-apart_first low entry later e = is_le (low + 7200) entry.moment (both (nat_le (low + 7200) entry.moment) (apart_from entry.moment later) e).0
+apart_first low entry later e = is_le (low + 7200) entry.moment (and_parts (nat_le (low + 7200) entry.moment) (apart_from entry.moment later) e).0
 
 apart_later : (low : ℕ) (entry : PricingDay) (later : List PricingDay) → apart_from low (entry ∷ later) ≡ true → apart_from entry.moment later ≡ true
 unfolding apart_from
-apart_later low entry later e = (both (nat_le (low + 7200) entry.moment) (apart_from entry.moment later) e).1
+apart_later low entry later e = (and_parts (nat_le (low + 7200) entry.moment) (apart_from entry.moment later) e).1
 
 -- all lie above what the first lies above
 above_low : (days : List PricingDay) (low place : ℕ) (x : PricingDay) → apart_from low days ≡ true → slice_get days place ≡ Some x → low + 7200 ≤ x.moment

@@ -12,7 +12,7 @@ use Rattle.load_requests.specs.declared.load.Load.{Load}
 use Rattle.load_requests.specs.declared.load.Sent.{Sent}
 use Rattle.load_requests.proofs.PricingFacts.{days_apart}
 
-from_lower : (low high : ℕ) (sent : List Sent) → low ≤ high → NeverFall high sent → NeverFall low sent
+pub from_lower : (low high : ℕ) (sent : List Sent) → low ≤ high → NeverFall high sent → NeverFall low sent
 from_lower low high [] le falls = tt
 from_lower low high (one ∷ later) le falls = (let first = falls.0 in omega (arith, le, first), falls.1)
 
@@ -46,13 +46,13 @@ never_fall load short =
     (omega arith, (omega arith, (omega arith, of_one_moment household_sent opening_moment (numbers_from (load.households + 1 - 1) 1) (map account_sent (numbers_from (load.households + 1 - 1) 1) ++ days_after load 0) (λ n. refl) opening_moment (omega arith) accounts)))
 
 -- an answer leaves the journal's last moment at or before the request's
-ends_by : (journal : Journal) (sent : Sent) → last_moment journal ≤ sent.moment → last_moment (journal ++ (answer_to journal sent).events) ≤ sent.moment
+pub ends_by : (journal : Journal) (sent : Sent) → last_moment journal ≤ sent.moment → last_moment (journal ++ (answer_to journal sent).events) ≤ sent.moment
 ends_by journal sent late =
     each-new (λ said. last_moment (journal ++ said.events) ≤ sent.moment) (operator_at journal sent.moment) sent.request
     (λ reply. subst (λ (j : Journal). last_moment j ≤ sent.moment) (sym (append-nil journal)) late)
     (λ allowed new clear kind brings keeps. let last = last-more journal (record { moment = sent.moment; kind = kind }) in omega (arith, last))
 
-step_ends_by : (run : LoadRun) (sent : Sent) → last_moment run.journal ≤ sent.moment → last_moment (load_step run sent).journal ≤ sent.moment
+pub step_ends_by : (run : LoadRun) (sent : Sent) → last_moment run.journal ≤ sent.moment → last_moment (load_step run sent).journal ≤ sent.moment
 unfolding load_step
 step_ends_by run sent late = ends_by run.journal sent late
 

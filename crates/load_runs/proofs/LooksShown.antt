@@ -1,5 +1,5 @@
 -- The operator's looks break no rule: an order that stands is traced, and the books are shown.
-use Rattle.std.proofs.Common.{Bool, Contains, List, None, Option, Some, [], ap, arith, cond, false, filter, find, is_some, length, not, option_map, refl, suc, sym, true, true≢false, zero, ℕ, ◌==◌, ◌||◌, ◌∙◌, ◌∷◌, ◌≡◌, ◌≤◌}
+use Rattle.std.proofs.Common.{Bool, Contains, None, Option, Some, [], ap, cond, false, find, is_some, not, option_map, refl, sym, true, true≢false, ℕ, ◌==◌, ◌∙◌, ◌∷◌, ◌≡◌}
 use Rattle.std.proofs.lemmas.Bool.{and_from, and_parts}
 use Rattle.std.specs.List.{list_any}
 use Rattle.std.specs.Option.{option_map_or, option_or}
@@ -8,7 +8,8 @@ use Rattle.agent_events.specs.declared.reply.Refusal.{Refusal}
 use Rattle.agent_events.specs.declared.reply.Reply.{Reply}
 use Rattle.agent_events.specs.declared.request.Request.{Request}
 use Rattle.agent_events.specs.declared.verdict.Caller.{Caller}
-use Rattle.forward_price.proofs.OrderlyFacts.{all_to, any_from}
+use Rattle.event_laws.proofs.OrderTurns.{found-itself}
+use Rattle.forward_price.proofs.OrderlyFacts.{all_to}
 use Rattle.load_requests.specs.Summaries as summaries
 use Rattle.load_runs.specs.Looks.{classes_in, classes_shown, look_at, state_in, state_traced}
 use Rattle.load_runs.specs.OrderNames.{name_of}
@@ -33,29 +34,6 @@ use Rattle.register_machine.specs.run.Answers.{Answer, answer}
 use Rattle.request_rules.proofs.RulesByVerb.{rule_by_verb}
 
 -- ---- the one that is named
-
-none-left : {X : Type 0} (named : X → Bool) (xs : List X) → length (filter named xs) ≤ 0 → list_any named xs ≡ false
-none-left named [] few = refl
-none-left {X = X} named (x ∷ xs) few = by (named x) few (none-left named xs)
-  where
-    by : (b : Bool) → length (cond b (x ∷ filter named xs) (filter named xs)) ≤ 0 → (length (filter named xs) ≤ 0 → list_any named xs ≡ false) → (b || list_any named xs) ≡ false
-    by true few later = absurd (omega (arith, few))
-    by false few later = later few
-
--- where one passes at most, one that passes is the one that is found
-found-alone : {X : Type 0} (named : X → Bool) (xs : List X) (x : X) → Contains xs x → named x ≡ true → length (filter named xs) ≤ 1 → find named xs ≡ Some x
-found-alone named [] x (k, short, is) on few = absurd (omega (arith, short))
-found-alone {X = X} named (y ∷ ys) x (zero, short, is) on few =
-    ap (λ b. cond b (Some y) (find named ys)) (ap named is ∙ on) ∙ ap Some is
-found-alone {X = X} named (y ∷ ys) x (suc k, short, is) on few =
-    by (named y) few (found-alone named ys x (k, omega (arith, short), is) on)
-  where
-    there : list_any named ys ≡ true
-    there = any_from named ys x (k, omega (arith, short), is) on
-
-    by : (b : Bool) → length (cond b (y ∷ filter named ys) (filter named ys)) ≤ 1 → (length (filter named ys) ≤ 1 → find named ys ≡ Some x) → cond b (Some y) (find named ys) ≡ Some x
-    by true few later = absurd (true≢false (sym there ∙ none-left named ys (omega (arith, few))))
-    by false few later = later few
 
 -- ---- no rule is broken
 
@@ -88,7 +66,7 @@ module _ (journal : Journal) (lawful : IsLawful journal) (row : OrderRow) (there
 
   order-found : order_named (orders_of journal) row.order.account row.order.ref_no ≡ Some row
   order-found =
-      found-alone (λ (other : OrderRow). is_named row.order.account row.order.ref_no other.order) (orders_of journal) row there
+      found-itself (λ (other : OrderRow). is_named row.order.account row.order.ref_no other.order) (orders_of journal) row there
       (and_from (row.order.account == row.order.account) (row.order.ref_no == row.order.ref_no) (eq-yes row.order.account row.order.account refl) (eq-yes row.order.ref_no row.order.ref_no refl))
       (one-named journal lawful row.order.account row.order.ref_no)
 

@@ -1,20 +1,18 @@
 -- One request after the other: what is sent is a step of the run, and the rest comes no earlier.
-use Rattle.std.proofs.Common.{Bool, List, None, Some, [], ap, append-nil, arith, cond, drop, false, fold, length, refl, slice_get, subst, sym, true, ℕ, ◌++◌, ◌+◌, ◌∙◌, ◌∷◌, ◌≡◌, ◌≤◌}
+use Rattle.std.proofs.Common.{Bool, List, None, Some, [], ap, arith, cond, drop, false, fold, length, refl, slice_get, subst, sym, true, ℕ, ◌++◌, ◌+◌, ◌∙◌, ◌∷◌, ◌≡◌, ◌≤◌}
 use Rattle.std.proofs.Math.Nat.{mul-le-mul}
 use Rattle.std.proofs.lemmas.List.Elements.{filter_map-append}
 use Rattle.agent_events.specs.Events.{Event}
 use Rattle.agent_events.specs.declared.reply.Reply.{Reply}
 use Rattle.agent_events.specs.declared.verdict.Caller.{Caller}
 use Rattle.load_requests.proofs.CountFacts.{count_requests}
-use Rattle.load_requests.proofs.TurnFacts.{never_fall}
+use Rattle.load_requests.proofs.TurnFacts.{from_lower, never_fall, step_ends_by}
 use Rattle.load_requests.specs.Requests.{requests_of}
-use Rattle.load_requests.specs.Runs.{LoadRun, NeverFall, answer_to, first_run, is_refusal, load_step, operator_at, run_over}
+use Rattle.load_requests.specs.Runs.{LoadRun, NeverFall, answer_to, first_run, is_refusal, load_step, run_over}
 use Rattle.load_requests.specs.declared.load.Load.{Load}
 use Rattle.load_requests.specs.declared.load.Sent.{Sent}
 use Rattle.load_runs.specs.OrderNames.{name_begun, order_names}
 use Rattle.load_runs.specs.Running.{most_requests}
-use Rattle.register_laws.proofs.AnswersByCases.{each-new}
-use Rattle.register_laws.proofs.MomentsNeverFall.{last-more}
 use Rattle.register_laws.specs.Lawful.{own_at}
 use Rattle.register_machine.specs.journal.Journals.{Journal, last_moment}
 use Rattle.register_machine.specs.run.Answers.{Answer, answer}
@@ -49,20 +47,6 @@ step_is run sent reply events next is = same-run run next (answer_to run.journal
 
 -- ---- moments
 
-ends-by : (journal : Journal) (sent : Sent) → last_moment journal ≤ sent.moment → last_moment (journal ++ (answer_to journal sent).events) ≤ sent.moment
-ends-by journal sent late =
-    each-new (λ said. last_moment (journal ++ said.events) ≤ sent.moment) (operator_at journal sent.moment) sent.request
-    (λ reply. subst (λ (j : Journal). last_moment j ≤ sent.moment) (sym (append-nil journal)) late)
-    (λ allowed new clear kind brings keeps. let last = last-more journal (record { moment = sent.moment; kind = kind }) in omega (arith, last))
-
-step-ends-by : (run : LoadRun) (sent : Sent) → last_moment run.journal ≤ sent.moment → last_moment (load_step run sent).journal ≤ sent.moment
-unfolding load_step
-step-ends-by run sent late = ends-by run.journal sent late
-
-from-lower : (low high : ℕ) (sent : List Sent) → low ≤ high → NeverFall high sent → NeverFall low sent
-from-lower low high [] le falls = tt
-from-lower low high (one ∷ later) le falls = (let first = falls.0 in omega (arith, le, first), falls.1)
-
 -- ---- the request that is next
 
 some-same : {X : Type 0} (x y : X) → Some x ≡ Some y → x ≡ y
@@ -83,7 +67,7 @@ falls_on run next [] rest sent is drops step falls = absurd (none-next sent is)
 falls_on run next (first ∷ later) rest sent is drops step falls =
     subst (λ (sents : List Sent). NeverFall (last_moment next.journal) sents) (sym drops)
     (subst (λ (after : LoadRun). NeverFall (last_moment after.journal) later) (sym (step ∙ ap (load_step run) (sym (some-same first sent is))))
-    (from-lower (last_moment (load_step run first).journal) first.moment later (step-ends-by run first falls.0) falls.1))
+    (from_lower (last_moment (load_step run first).journal) first.moment later (step_ends_by run first falls.0) falls.1))
 
 -- the run over all is that over the rest, from what it leaves on
 pub goes_on : (run next : LoadRun) (requests rest : List Sent) (sent : Sent) → slice_get requests 0 ≡ Some sent → rest ≡ drop 1 requests → next ≡ load_step run sent → fold load_step next rest ≡ fold load_step run requests

@@ -17,6 +17,7 @@ use Rattle.order_book.specs.Books.{begins_new_name, is_new_order}
 use Rattle.order_book.specs.FitsNext.{FitsNext, FreshFits, LawfulFits}
 use Rattle.register_laws.proofs.AnswersByCases.{asks}
 use Rattle.register_laws.proofs.Choosing.{not_when}
+use Rattle.register_laws.proofs.KeepsLimits.{event-brings}
 use Rattle.register_laws.proofs.NoIdentityTwice.{ref_parts}
 use Rattle.register_laws.proofs.NothingBefore.{begins-by, known_order, last-brought}
 use Rattle.register_laws.proofs.RulesByName.{not_broken}
@@ -48,14 +49,6 @@ new-name journal now caller (EventKind.Order placed) free = by_source placed.sou
 new-name journal now caller (EventKind.Enter form) free = new-order journal form.order free
 new-name journal now caller _ free = refl
 
-brings-one : (kind : EventKind) → brings_event (request_of kind) ≡ true
-brings-one (EventKind.Order placed) = by_source placed.source
-  where
-    by_source : (from : Source) → brings_event (order_request from placed.receipt placed.order) ≡ true
-    by_source Source.Direct = refl
-    by_source Source.Dealer = refl
-brings-one _ = refl
-
 pub clear-fits : (journal : Journal) (now : ℕ) (caller : Caller) (kind : EventKind) (moment : ℕ) → IsLawful journal → broken_rule (own_at journal now caller) (request_of kind) ≡ None → FitsNext journal (record { moment = moment; kind = kind })
 clear-fits journal now caller kind moment lawful clear = record {
   fits = record {
@@ -63,7 +56,7 @@ clear-fits journal now caller kind moment lawful clear = record {
     untouched = begins-by journal now caller kind lawful (not_broken situation (request_of kind) clear Rule.RefUsed);
   };
   few = leb-false 100000000 (length journal)
-      (ap (λ is. is && nat_le 100000000 (length journal)) (sym (brings-one kind))
+      (ap (λ is. is && nat_le 100000000 (length journal)) (sym (event-brings kind))
       ∙ not_when (brings_event (request_of kind) && nat_le 100000000 (length journal)) Refusal.JournalFull (not_broken situation (request_of kind) clear Rule.JournalFull));
 }
   where

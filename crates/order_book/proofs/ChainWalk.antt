@@ -10,7 +10,7 @@ use Rattle.register_machine.specs.journal.Choices.{when}
 use Rattle.register_machine.specs.pricing.CorrectedOrders.{stands}
 use Rattle.register_machine.specs.rules.Orders.{buys_class, ordered_before}
 
-shifted : {X : Type 0} (test : X → Bool) (place : ℕ) (xs : List X) → last_place_from (place + 1) test xs ≡ option_map suc (last_place_from place test xs)
+pub shifted : {X : Type 0} (test : X → Bool) (place : ℕ) (xs : List X) → last_place_from (place + 1) test xs ≡ option_map suc (last_place_from place test xs)
 shifted test place [] = refl
 shifted {X} test place (x ∷ xs) =
     ap (λ (found : Option ℕ). option_or found (when (test x) (place + 1))) (shifted test (place + 1) xs) ∙ by_parts (last_place_from (place + 1) test xs) (test x)
@@ -75,13 +75,13 @@ some-last {X} test passes within (x ∷ xs) n is =
 
 -- ---- within the first items
 
-got-within : {X : Type 0} (bound : ℕ) (xs : List X) (n : ℕ) (x : X) → slice_get (take bound xs) n ≡ Some x → slice_get xs n ≡ Some x
+pub got-within : {X : Type 0} (bound : ℕ) (xs : List X) (n : ℕ) (x : X) → slice_get (take bound xs) n ≡ Some x → slice_get xs n ≡ Some x
 got-within zero xs n x is = cc
 got-within (suc bound) [] n x is = cc
 got-within (suc bound) (y ∷ xs) zero x is = is
 got-within (suc bound) (y ∷ xs) (suc n) x is = got-within bound xs n x is
 
-took-within : {X : Type 0} (bound : ℕ) (xs : List X) (n : ℕ) → n < length (take bound xs) → take n (take bound xs) ≡ take n xs
+pub took-within : {X : Type 0} (bound : ℕ) (xs : List X) (n : ℕ) → n < length (take bound xs) → take n (take bound xs) ≡ take n xs
 took-within zero xs n within = absurd (omega arith)
 took-within (suc bound) [] n within = absurd (omega arith)
 took-within (suc bound) (y ∷ xs) zero within = refl

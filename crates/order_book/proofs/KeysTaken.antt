@@ -13,12 +13,13 @@ use Rattle.agent_events.specs.Fields.{is_dealer_key, is_household_key}
 use Rattle.agent_events.specs.declared.event.EventKind.{EventKind}
 use Rattle.agent_events.specs.declared.request.DealerForm.{DealerForm}
 use Rattle.agent_events.specs.declared.request.HouseholdForm.{HouseholdForm}
-use Rattle.order_book.proofs.Places.{or-none, position-more}
+use Rattle.order_book.proofs.Places.{position-more}
 use Rattle.order_book.specs.Brought.{brings_key, dealer_key_in, household_key_in}
 use Rattle.order_book.specs.Indexes.{key_text, same_text}
 use Rattle.order_book.specs.Kept.{KeepsKeys}
 use Rattle.order_book.specs.declared.keys.KeyText.{KeyText}
 use Rattle.order_book.specs.declared.keys.Keys.{Keys}
+use Rattle.register_laws.proofs.PositionsInOrder.{option_or-none}
 use Rattle.register_laws.proofs.Tests.{is-false}
 use Rattle.register_machine.specs.journal.Journals.{Journal, with_event}
 
@@ -83,7 +84,7 @@ key-taken chosen old new journal moment place kind by own text kind_is key_is sh
       position-more (brings_key chosen key) journal (record { moment = moment; kind = kind })
       ∙ (ap (λ found. option_or (position (brings_key chosen key) journal) (cond (option_map_or (λ k. bytes_eq k key) found false) (Some (length journal)) None)) (ap chosen kind_is ∙ key_is)
       ∙ (ap (λ is. option_or (position (brings_key chosen key) journal) (cond is (Some (length journal)) None)) (other-length own key short is_long)
-      ∙ (or-none (position (brings_key chosen key) journal) ∙ kept.long key is_long)));
+      ∙ (option_or-none (position (brings_key chosen key) journal) ∙ kept.long key is_long)));
 }
 
 pub no-dealer-key : (kind : EventKind) → ((form : DealerForm) → kind ≡ EventKind.Dealer form → ⊥) → dealer_key_in kind ≡ None
@@ -98,11 +99,11 @@ pub keys-left : (chosen : EventKind → Option (List ℕ)) (keys : Keys) (journa
 keys-left chosen keys journal event none kept = record {
   places = λ key short.
       kept.places key short
-      ∙ (sym (or-none (position (brings_key chosen key) journal))
+      ∙ (sym (option_or-none (position (brings_key chosen key) journal))
       ∙ (ap (λ found. option_or (position (brings_key chosen key) journal) (cond (option_map_or (λ own. bytes_eq own key) found false) (Some (length journal)) None)) (sym none)
       ∙ sym (position-more (brings_key chosen key) journal event)));
   long = λ key is_long.
       position-more (brings_key chosen key) journal event
       ∙ (ap (λ found. option_or (position (brings_key chosen key) journal) (cond (option_map_or (λ own. bytes_eq own key) found false) (Some (length journal)) None)) none
-      ∙ (or-none (position (brings_key chosen key) journal) ∙ kept.long key is_long));
+      ∙ (option_or-none (position (brings_key chosen key) journal) ∙ kept.long key is_long));
 }

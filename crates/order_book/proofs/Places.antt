@@ -4,6 +4,7 @@ use Rattle.std.proofs.lemmas.Iterator.Adapters.{position_from-zero}
 use Rattle.std.specs.List.{position, position_from, slice_get}
 use Rattle.std.specs.Option.{option_or, unwrap_or}
 use Rattle.std.specs.Prelude.{option_and_then}
+use Rattle.register_laws.proofs.PositionsInOrder.{option_or-none}
 
 from-more : {X : Type 0} (test : X → Bool) (place : ℕ) (xs : List X) (x : X) → position_from test place (xs ++ x ∷ []) ≡ option_or (position_from test place xs) (cond (test x) (Some (place + length xs)) None)
 from-more {X} test place [] x = ap (λ at. cond (test x) (Some at) None) at
@@ -32,10 +33,6 @@ pub or-twice : {X : Type 0} (found : Option X) (a b : Bool) (x : X) → option_o
 or-twice (Some y) a b x = refl
 or-twice None true b x = refl
 or-twice None false b x = refl
-
-pub or-none : {X : Type 0} (found : Option X) → option_or found None ≡ found
-or-none None = refl
-or-none (Some x) = refl
 
 -- behind what stands before, the first of the rest is at the length of what stands before
 pub got-behind : {X : Type 0} (before : List X) (x : X) (later : List X) → slice_get (before ++ x ∷ later) (length before) ≡ Some x
@@ -77,4 +74,4 @@ put-or-kept {K} {X} same one old new key x kept is put q = put q ∙ by_test (sa
     by_test true e =
         some-or (old key) x kept is
         ∙ ap (λ (found : Option X). option_or found (Some x)) (ap old (one key q e))
-    by_test false e = sym (or-none (old q))
+    by_test false e = sym (option_or-none (old q))

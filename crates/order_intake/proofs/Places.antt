@@ -6,9 +6,7 @@ use Rattle.std.specs.List.{prefix_len}
 use Rattle.std.specs.Option.{option_map_or}
 use Rattle.std.specs.Prelude.{option_and_then}
 use Rattle.register_machine.specs.journal.Choices.{when}
-
-below-next : (n m : ℕ) → nat_lt (1 + n) (suc m) ≡ nat_lt n m
-below-next n m = grind (arith, nat_tests)
+use Rattle.request_rules.proofs.LookUps.{below-next}
 
 below-first : (m : ℕ) → nat_lt 0 (suc m) ≡ true
 below-first m = grind (arith, nat_tests)

@@ -1,6 +1,6 @@
 -- The events of a lawful journal can change the book of its prices.
 use Rattle.std.proofs.Common.{AllPairs, Bool, Contains, Err, List, None, Ok, Option, Result, Some, [], ap, arith, cond, false, find, is_some, option_map, refl, subst, suc, sym, true, zero, ℕ, ◌&&◌, ◌<◌, ◌==◌, ◌∙◌, ◌∷◌, ◌≡◌}
-use Rattle.std.proofs.lemmas.Bool.{and_parts, eqb-true, true≢false}
+use Rattle.std.proofs.lemmas.Bool.{and_parts, eqb-true}
 use Rattle.std.specs.List.{list_any}
 use Rattle.std.specs.Prelude.{not, option_and_then}
 use Rattle.agent_events.specs.Events.{Event, request_of}
@@ -26,6 +26,7 @@ use Rattle.register_laws.proofs.NoIdentityTwice.{number_free}
 use Rattle.register_laws.proofs.NoPricingTwice.{listing-number}
 use Rattle.register_laws.proofs.NothingBefore.{last-brought}
 use Rattle.register_laws.proofs.PricesAnew.{prices_anew}
+use Rattle.register_laws.proofs.RefusedByFirst.{none-of}
 use Rattle.register_laws.proofs.RulesByName.{not_broken}
 use Rattle.register_laws.proofs.TablesAreOrderly.{calendar-unknown, classes-seen, few_sheets, numbered, without-fault}
 use Rattle.register_laws.proofs.Tests.{find-any}
@@ -58,13 +59,9 @@ good-listing number (Err (CalendarRefusal.NotRising place)) e = absurd (some_non
 
 -- ---- a class is new, and its calendar is there
 
-none-found : {X : Type 0} (found : Option X) → is_some found ≡ false → found ≡ None
-none-found None e = refl
-none-found (Some x) e = absurd (true≢false e)
-
 class-free : (journal : Journal) (number : ℕ) → is_some (class_numbered (classes_of journal) number) ≡ false → class_opened (corrected_table journal).classes number ≡ None
 class-free journal number unknown =
-    none-found (find (λ (class : Opening). class.class == number) (table_of journal).classes)
+    none-of (find (λ (class : Opening). class.class == number) (table_of journal).classes)
     (find-any (λ (class : Opening). class.class == number) (table_of journal).classes
     ∙ (classes-seen number journal ∙ (sym (find-any (is_class number) (classes_of journal)) ∙ unknown)))
 

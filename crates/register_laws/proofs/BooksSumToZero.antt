@@ -221,13 +221,13 @@ own-classes (first ∷ classes) =
     let form = get_or classes k d in
     or_right (first.class == form.class) (list_any (is_class form.class) classes) (own-classes classes k d short))
 
-placed-all : (P : ℕ → Type 0) (n : ℕ) (ns : List ℕ) → P n → All P ns → All P (in_its_place n ns)
+pub placed-all : (P : ℕ → Type 0) (n : ℕ) (ns : List ℕ) → P n → All P ns → All P (in_its_place n ns)
 placed-all P n ns own all =
     All-append P (filter (λ other. nat_lt other n) ns) (n ∷ filter (λ other. nat_lt n other) ns)
     (All-filter (λ other. nat_lt other n) P ns all)
     (All-cons P n (filter (λ other. nat_lt n other) ns) own (All-filter (λ other. nat_lt n other) P ns all))
 
-rising-all : (P : ℕ → Type 0) (ordered ns : List ℕ) → All P ordered → All P ns → All P (fold (λ lots_with n. in_its_place n lots_with) ordered ns)
+pub rising-all : (P : ℕ → Type 0) (ordered ns : List ℕ) → All P ordered → All P ns → All P (fold (λ lots_with n. in_its_place n lots_with) ordered ns)
 rising-all P ordered [] done all = done
 rising-all P ordered (n ∷ ns) done all =
     rising-all P (in_its_place n ordered) ns (placed-all P n ordered (All-head P n ns all) done) (All-tail P n ns all)

@@ -40,7 +40,7 @@ unbroken event before trade whole unfilled =
     record { was_unfilled = parts.0; not_corrected = parts.1 }
 
 -- a correction brings no sheet, calendar or class
-corrected-table : (table : Table) (moment : ℕ) (kind : EventKind) → is_some (bearer_in kind) ≡ true → table_by table moment kind ≡ table
+pub corrected-table : (table : Table) (moment : ℕ) (kind : EventKind) → is_some (bearer_in kind) ≡ true → table_by table moment kind ≡ table
 corrected-table table moment (EventKind.FixPrice form) e = refl
 corrected-table table moment (EventKind.FixRate form) e = refl
 corrected-table table moment (EventKind.Enter form) e = refl

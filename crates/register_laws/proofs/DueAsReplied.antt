@@ -252,7 +252,7 @@ row-due first situation row agree named offered ended =
     (not-false (is_offered situation.book row.order.body) (not_when (not (is_offered situation.book row.order.body)) Refusal.NotOffered offered)) there.0 there.1) in
     is.1 ∙ ap Some (sym (ap (λ found. unwrap_or found 0) is.1))
 
-placed-same : (a b : Placed) → Some (EventKind.Order a) ≡ Some (EventKind.Order b) → a ≡ b
+pub placed-same : (a b : Placed) → Some (EventKind.Order a) ≡ Some (EventKind.Order b) → a ≡ b
 placed-same a b e = cc
 
 asked-due : (journal : Journal) (now : ℕ) (caller : Caller) (source : Source) (order : Order) (receipt due : ℕ) → FamiliesAgree (classes_of journal) → broken_rule (own_at journal now caller) (order_request source receipt order) ≡ None → event_of (order_request source receipt order) now (due_now (own_at journal now caller) (order_request source receipt order)) ≡ Some (EventKind.Order (record { order = order; source = source; receipt = receipt; due = due })) → due_moment (book_behind journal) (row_as_sent (length journal) receipt order) ≡ Some due

@@ -1,5 +1,5 @@
 -- The orders of a sheet stand in turn: by receipt, and at equal receipts by place in the journal.
-use Rattle.std.proofs.Common.{All, Bool, List, None, Option, Some, [], ap, arith, cond, false, filter, find, fold, get_or, inl, inr, length, map, nat_le, nat_lt, not, option_map, option_to_list, refl, slice_get, subst, suc, sym, take, true, ℕ, ◌&&◌, ◌++◌, ◌+◌, ◌<◌, ◌∙◌, ◌∷◌, ◌≡◌, ◌≤◌}
+use Rattle.std.proofs.Common.{All, Bool, List, None, Option, Some, [], ap, arith, cond, false, filter, find, fold, get_or, inl, inr, length, map, nat_le, nat_lt, not, option_map, option_to_list, refl, slice_get, subst, suc, sym, take, true, ℕ, ◌&&◌, ◌+◌, ◌<◌, ◌∙◌, ◌∷◌, ◌≡◌, ◌≤◌}
 use Rattle.std.proofs.lemmas.Bool.{cases_lt, ltb-true, true≢false}
 use Rattle.std.proofs.lemmas.Bool.Decides.{leb_tells}
 use Rattle.std.proofs.lemmas.List.{get_or-map, length-map}
@@ -15,6 +15,7 @@ use Rattle.forward_price.specs.PriceTables.{Table}
 use Rattle.forward_price.specs.declared.price_sheet.Sheet.{Sheet}
 use Rattle.share_lots.proofs.LotLemmas.{All-head, All-tail, AllPairs-head, AllPairs-tail}
 use Rattle.register_laws.proofs.Choosing.{none_some}
+use Rattle.register_laws.proofs.ListParts.{pairs-append}
 use Rattle.register_laws.proofs.OneTradeAnOrder.{is_bare, no_bare}
 use Rattle.register_laws.specs.Lawful.{book_behind}
 use Rattle.register_machine.specs.pricing.PublishedTable.{table_of}
@@ -29,14 +30,7 @@ use Rattle.agent_events.specs.declared.trade.Trade.{Trade}
 use Rattle.register_machine.specs.rules.Breaks.{breaks_by, is_broken, is_filled, order_corrected}
 use Rattle.register_machine.specs.rules.Situations.{Situation}
 
-pairs-append : {X : Type 0} (R : X → X → Type 0) (xs ys : List X) → AllPairs R xs → AllPairs R ys → All (λ x. All (R x) ys) xs → AllPairs R (xs ++ ys)
-pairs-append R [] ys first second across = second
-pairs-append R (x ∷ xs) ys first second across =
-    AllPairs-cons R x (xs ++ ys)
-    (All-append (R x) xs ys (AllPairs-head R x xs first) (All-head (λ y. All (R y) ys) x xs across))
-    (pairs-append R xs ys (AllPairs-tail R x xs first) second (All-tail (λ y. All (R y) ys) x xs across))
-
-pairs-none : {X : Type 0} (R : X → X → Type 0) → AllPairs R []
+pub pairs-none : {X : Type 0} (R : X → X → Type 0) → AllPairs R []
 pairs-none R i j d lt short = absurd (omega (arith, short))
 
 -- ---- a row goes into its turn

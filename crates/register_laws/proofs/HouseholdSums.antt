@@ -61,7 +61,7 @@ cash-total taken given a b (h ∷ households) =
 
 -- ---- each account of the journal is of one household
 
-some-pass : {X : Type 0} (test : X → Bool) (xs : List X) → list_any test xs ≡ true → 1 ≤ count_by test xs
+pub some-pass : {X : Type 0} (test : X → Bool) (xs : List X) → list_any test xs ≡ true → 1 ≤ count_by test xs
 some-pass test [] e = absurd (true≢false (sym e))
 some-pass test (x ∷ xs) e =
     elim (test x) as (λ b. (b || list_any test xs) ≡ true → count_by test (x ∷ xs) ≡ cond b 1 0 + count_by test xs → 1 ≤ count_by test (x ∷ xs)) [

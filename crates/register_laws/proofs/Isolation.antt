@@ -79,7 +79,7 @@ sit base parts = record { journal = parts.journal; book = book_at base parts; no
 
 -- ---- orders that are found, but for their places
 
-some-map : {X Y : Type 0} (f : X → Y) (found : Option X) → is_some (option_map f found) ≡ is_some found
+pub some-map : {X Y : Type 0} (f : X → Y) (found : Option X) → is_some (option_map f found) ≡ is_some found
 some-map f None = refl
 some-map f (Some x) = refl
 
@@ -283,7 +283,7 @@ pub record ReplaysAlike (book other : Book) (account : ℕ) : Type 0 where
   pub traded : (ref_no : ℕ) → find (is_trade_of account ref_no) (replay book).trades ≡ find (is_trade_of account ref_no) (replay other).trades
   pub in_period : (form : StatementForm) → form.account ≡ account → filter (is_in_period form) (replay book).trades ≡ filter (is_in_period form) (replay other).trades
 
-find-passes : {X : Type 0} (p : X → Bool) (xs : List X) (x : X) → find p xs ≡ Some x → p x ≡ true
+pub find-passes : {X : Type 0} (p : X → Bool) (xs : List X) (x : X) → find p xs ≡ Some x → p x ≡ true
 find-passes p [] x e = absurd (none_some e)
 find-passes {X = X} p (y ∷ ys) x e = by (p y) refl e (find-passes p ys x)
   where

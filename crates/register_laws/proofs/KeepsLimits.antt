@@ -87,7 +87,7 @@ order-room situation request account (Some named) is few old = by_own (named.0 =
         let here = subst (λ n. count_by (is_of_account n) situation.journal < 4096) (eqb-true named.0 account own) less in
         omega (arith, here)
 
-event-brings : (kind : EventKind) → brings_event (request_of kind) ≡ true
+pub event-brings : (kind : EventKind) → brings_event (request_of kind) ≡ true
 event-brings (EventKind.Order placed) = by_source placed.source
   where
     by_source : (from : Source) → brings_event (order_request from placed.receipt placed.order) ≡ true

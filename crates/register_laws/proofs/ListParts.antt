@@ -84,6 +84,13 @@ filter-none p (x ∷ xs) all =
     ap (λ c. cond c (x ∷ filter p xs) (filter p xs)) (All-head (λ y. p y ≡ false) x xs all)
     ∙ filter-none p xs (All-tail (λ y. p y ≡ false) x xs all)
 
+-- tests that agree on what is there keep the same
+pub filter-known : {X : Type 0} (p q : X → Bool) (xs : List X) → All (λ x. p x ≡ q x) xs → filter p xs ≡ filter q xs
+filter-known p q [] all = refl
+filter-known p q (x ∷ xs) all =
+    ap (λ b. cond b (x ∷ filter p xs) (filter p xs)) (All-head (λ x. p x ≡ q x) x xs all)
+    ∙ ap (λ rest. cond (q x) (x ∷ rest) rest) (filter-known p q xs (All-tail (λ x. p x ≡ q x) x xs all))
+
 -- what is found among those that pass
 pub found-within : {X : Type 0} (p q : X → Bool) → ((x : X) → q x ≡ true → p x ≡ true) → (xs : List X) → find q (filter p xs) ≡ find q xs
 found-within p q within [] = refl

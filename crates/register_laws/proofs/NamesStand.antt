@@ -78,7 +78,7 @@ calendar-named journal now caller (EventKind.Class form) named =
 calendar-named journal now caller _ named = refl
 
 -- the classes of an order
-classes-named : (situation : Situation) (place class : ℕ) (target : Option ℕ) → AllByRecursion (λ (field : ℕ × Bool). field.1 ≡ true) ((place + 2, has_class situation class) ∷ map (λ to. (place + 3, has_class situation to)) (option_to_list target)) → list_all (λ c. list_any (is_class c) situation.book.classes) (class ∷ option_to_list target) ≡ true
+pub classes-named : (situation : Situation) (place class : ℕ) (target : Option ℕ) → AllByRecursion (λ (field : ℕ × Bool). field.1 ≡ true) ((place + 2, has_class situation class) ∷ map (λ to. (place + 3, has_class situation to)) (option_to_list target)) → list_all (λ c. list_any (is_class c) situation.book.classes) (class ∷ option_to_list target) ≡ true
 classes-named situation place class None all =
     ap (λ b. b && true) (sym (find-any (is_class class) situation.book.classes) ∙ all.0)
 classes-named situation place class (Some to) all =

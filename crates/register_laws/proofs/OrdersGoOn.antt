@@ -167,3 +167,22 @@ orders_go_on journal event untouched =
     begun =
         begun-on 0 journal event
         ∙ ap (λ place. orders_begun 0 journal ++ option_to_list (order_begun place event.kind)) at
+
+-- ---- each order as corrected keeps its name
+
+pub struck-named : (named : ℕ × ℕ) (account ref_no : ℕ) (row : OrderRow) → is_named account ref_no (struck_by named row).order ≡ is_named account ref_no row.order
+struck-named named account ref_no row = by (is_named named.0 named.1 row.order)
+  where
+    by : (b : Bool) → is_named account ref_no (cond b (record { place = row.place; receipt = row.receipt; struck = true; order = row.order }) row).order ≡ is_named account ref_no row.order
+    by true = refl
+    by false = refl
+
+pub replaced-named : (form : EntryForm) (account ref_no : ℕ) (row : OrderRow) → is_named account ref_no (replaced_by form row).order ≡ is_named account ref_no row.order
+replaced-named form account ref_no row = by (replaces row.order form) refl
+  where
+    by : (b : Bool) → replaces row.order form ≡ b → is_named account ref_no (cond b (record { place = row.place; receipt = form.receipt; struck = row.struck; order = form.order }) row).order ≡ is_named account ref_no row.order
+    by true is =
+        let same = and_parts (form.order.account == row.order.account) (form.order.ref_no == row.order.ref_no) is in
+        ap (λ n. n == account && form.order.ref_no == ref_no) (eqb-true form.order.account row.order.account same.0)
+        ∙ ap (λ n. row.order.account == account && n == ref_no) (eqb-true form.order.ref_no row.order.ref_no same.1)
+    by false is = refl

@@ -15,7 +15,7 @@ use Rattle.agent_events.specs.declared.request.EntryForm.{EntryForm}
 use Rattle.agent_events.specs.declared.request.Request.{Request}
 use Rattle.share_lots.specs.Lots.{lots_with}
 use Rattle.register_laws.proofs.BookOrders.{SaidAs, SaysAs, order_said, orders-as}
-use Rattle.register_laws.proofs.Choosing.{not_when}
+use Rattle.register_laws.proofs.Choosing.{not_mapped, not_when}
 use Rattle.register_laws.proofs.LawfulJournals.{lawful-keeps}
 use Rattle.register_laws.proofs.RulesByName.{not_broken}
 use Rattle.register_laws.specs.Lawful.{own_at}
@@ -63,7 +63,7 @@ apart book class to e =
       | inr (t, differs) ↦ absurd (differs refl)
     ]
 
-offered-leaves : (book : Book) (body : Body) → is_offered book body ≡ true → stays_in_class body ≡ false
+pub offered-leaves : (book : Book) (body : Body) → is_offered book body ≡ true → stays_in_class body ≡ false
 offered-leaves book (Body.Exchange class to quantity) e = apart book class to e
 offered-leaves book (Body.ExchangeAll class to) e = apart book class to e
 offered-leaves book body e = refl
@@ -84,13 +84,6 @@ all-there p x xs e =
     some_none : (Some x ≡ None) → ⊥
     some_none h = cc
 
-no-map : {X Y : Type 0} (f : X → Y) (found : Option X) → option_map f found ≡ None → found ≡ None
-no-map f None e = refl
-no-map f (Some x) e = absurd (some_none e)
-  where
-    some_none : (Some (f x) ≡ None) → ⊥
-    some_none h = cc
-
 replaced-leaves : (situation : Situation) (form : EntryForm) (found : Option OrderRow) → is_some found ≡ true → option_and_then (not_offered situation.book) (option_map (λ row. row_as_sent row.place form.receipt form.order) found) ≡ None → stays_in_class form.order.body ≡ false
 replaced-leaves situation form None there clear = absurd (true≢false (sym there))
 replaced-leaves situation form (Some row) there clear = row-leaves situation.book (row_as_sent row.place form.receipt form.order) clear
@@ -103,7 +96,7 @@ brings-leaving situation (Request.Line line) now due known clear =
 brings-leaving situation (Request.Enter form) now due known clear =
     row-leaves situation.book (row_as_sent (length situation.journal) form.receipt form.order) clear
 brings-leaving situation (Request.Replace form) now due known clear =
-    let none = no-map (λ (field : ℕ × Bool). Refusal.NoSuch field.0) (find (λ (field : ℕ × Bool). not field.1) (things_named situation (Request.Replace form))) known in
+    let none = not_mapped (λ (field : ℕ × Bool). Refusal.NoSuch field.0) (find (λ (field : ℕ × Bool). not field.1) (things_named situation (Request.Replace form))) known in
     let first = all-there (λ (field : ℕ × Bool). not field.1) (2, has_bearer situation form.bearer) (named_in_replacement situation form) none in
     let second = all-there (λ (field : ℕ × Bool). not field.1) (5, has_account situation form.order.account) ((6, has_order situation form.order.account form.order.ref_no) ∷ drop 1 (named_in_order situation 5 form.order)) first.1 in
     let third = all-there (λ (field : ℕ × Bool). not field.1) (6, has_order situation form.order.account form.order.ref_no) (drop 1 (named_in_order situation 5 form.order)) second.1 in

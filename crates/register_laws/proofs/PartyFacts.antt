@@ -1,7 +1,7 @@
 -- The parties of the books, each once, and what their figures come to.
-use Rattle.std.proofs.Common.{◌≡◌, ℕ, ◌+◌, ◌≤◌, Bool, true, false, cond, ◌==◌, ◌||◌, nat_lt, List, [], ◌∷◌, ◌++◌, filter, fold, map, sum_by, count_by, ℤ, pos, ◌+ℤ◌, inl, inr, refl, sym, ◌∙◌, ap, arith}
+use Rattle.std.proofs.Common.{◌≡◌, ℕ, ◌+◌, Bool, true, false, cond, ◌==◌, ◌||◌, nat_lt, List, [], ◌∷◌, ◌++◌, filter, fold, map, sum_by, count_by, ℤ, pos, ◌+ℤ◌, inl, inr, refl, sym, ◌∙◌, ap, arith}
 use Rattle.std.specs.List.{list_any}
-use Rattle.std.proofs.lemmas.Bool.{eq-eqb, eqb-true, ne_eqb, or_right, true≢false}
+use Rattle.std.proofs.lemmas.Bool.{eq-eqb, eqb-true, ne_eqb, or_right}
 use Rattle.std.proofs.lemmas.Bool.Decides.{eqb_tells, nat_tests}
 use Rattle.std.proofs.lemmas.List.Folds.{fold-map}
 use Rattle.std.proofs.lemmas.List.Sums.{fold-append, length-filter, sum_by-append, sum_by-cons}
@@ -12,6 +12,7 @@ use Rattle.agent_events.specs.declared.request.ClassForm.{ClassForm}
 use Rattle.agent_events.specs.declared.request.DealerForm.{DealerForm}
 use Rattle.register_machine.specs.rules.Situations.{Situation}
 use Rattle.register_machine.specs.corrections.Cash.{Movement, balance, same_party}
+use Rattle.register_laws.proofs.HouseholdSums.{some-pass}
 use Rattle.register_laws.specs.CashBooks.{books_total, classes_cash, dealers_cash, times_among, total_balance}
 use Rattle.register_machine.specs.corrections.Gains.{class_numbers_of, dealer_numbers_of, in_its_place, rising_numbers}
 use Rattle.register_laws.specs.Identities.{NoAccountTwice, has_number, is_class, is_dealer}
@@ -129,14 +130,6 @@ dealer-once journal dealer known =
     counts-alike (Party.Dealer dealer) of_dealer (λ x. dealer == x) (λ x. refl) (dealer_numbers_of journal)
     ∙ rising-once dealer numbers (any-mapped (is_dealer dealer) (λ x. dealer == x) (λ (form : DealerForm). form.dealer) (λ form e. same_way form.dealer dealer e) (dealers_of journal) known)
 
-some-passes : {X : Type 0} (p : X → Bool) (xs : List X) → list_any p xs ≡ true → 1 ≤ count_by p xs
-some-passes p [] e = absurd (true≢false (sym e))
-some-passes p (x ∷ xs) e = by_one (p x) (some-passes p xs) e (sum_by-cons (λ y. cond (p y) 1 0) x xs)
-  where
-    by_one : (here : Bool) → (list_any p xs ≡ true → 1 ≤ count_by p xs) → (here || list_any p xs) ≡ true → count_by p (x ∷ xs) ≡ cond here 1 0 + count_by p xs → 1 ≤ count_by p (x ∷ xs)
-    by_one true later h s = omega (arith, s)
-    by_one false later h s = omega (arith, s, later h)
-
 same-both : (a b : ℕ) → (a == b) ≡ (b == a)
 same-both a b = elim (eqb_tells a b) [
   | inl (is, same) ↦ is ∙ sym (same_way a b is)
@@ -146,7 +139,7 @@ same-both a b = elim (eqb_tells a b) [
 holder-once : (journal : Journal) (account : ℕ) → NoAccountTwice journal → Known journal (Party.Holder account) → count_by (same_party (Party.Holder account)) (map of_account (accounts_of journal)) ≡ 1
 holder-once journal account once known =
     let alike = counts-alike (Party.Holder account) of_account (has_number account) (λ form. same-both account form.account) (accounts_of journal) in
-    omega (arith, alike, some-passes (has_number account) (accounts_of journal) known, length-filter (has_number account) (accounts_of journal), once account)
+    omega (arith, alike, some-pass (has_number account) (accounts_of journal) known, length-filter (has_number account) (accounts_of journal), once account)
 
 pub stands-once : (journal : Journal) → NoAccountTwice journal → (party : Party) → Known journal party → times_among (booked_parties (class_numbers_of journal) (dealer_numbers_of journal) (accounts_of journal)) party ≡ 1
 stands-once journal once (Party.Holder account) known =

@@ -4,12 +4,13 @@ use Rattle.std.proofs.lemmas.Bool.{and_from, and_parts, cases_lt, eqb-true, or_f
 use Rattle.std.proofs.lemmas.Bool.Decides.{Decides-and, Decides-eqb, Decides-ltb, Decides-or}
 use Rattle.std.proofs.lemmas.List.Elements.{All-append, All-cons, All-filter, All-head, All-nil, All-tail, filter-append, filter_passes}
 use Rattle.std.proofs.lemmas.List.Folds.{find-append}
-use Rattle.std.proofs.lemmas.List.Kept.{AllPairs-cons, AllPairs-filter}
+use Rattle.std.proofs.lemmas.List.Kept.{AllPairs-filter}
 use Rattle.std.proofs.lemmas.List.Sums.{sum_by-append, sum_by-cons}
 use Rattle.std.specs.Option.{option_or}
 use Rattle.std.specs.Prelude.{AllPairs, Decides}
 use Rattle.letter_of_intent.specs.declared.letter.Letter.{Letter}
 use Rattle.register_laws.proofs.Comparisons.{and-false, eq-yes, lt-no, same-twice, three-two}
+use Rattle.register_laws.proofs.ListParts.{found-within, pairs-append}
 use Rattle.register_laws.proofs.Sums.{found-is, sum-filtered, sum-found, sum-same, sum-three}
 use Rattle.register_laws.specs.ReplayKeeps.{AreInOrder}
 use Rattle.register_machine.specs.replay.Positions.{Position, Register, fresh_position, is_fresh, is_position, position_of, put, stands_before, unless_fresh}
@@ -189,13 +190,6 @@ order-of p q = elim (cases_lt p.account q.account) [
     later : Before q p → Order p q
     later h = let is = (before-tells q p).1 h in Order.Later (not-both q p is) is
 
-pairs-append : {X : Type 0} (R : X → X → Type 0) (xs ys : List X) → AllPairs R xs → AllPairs R ys → All (λ x. All (R x) ys) xs → AllPairs R (xs ++ ys)
-pairs-append R [] ys left right across = right
-pairs-append R (x ∷ xs) ys left right across =
-    AllPairs-cons R x (xs ++ ys)
-    (All-append (R x) xs ys (AllPairs-head R x xs left) (All-head (λ x. All (R x) ys) x xs across))
-    (pairs-append R xs ys (AllPairs-tail R x xs left) right (All-tail (λ x. All (R x) ys) x xs across))
-
 -- a register in order stays so
 pub put-in_order : (p : Position) (register : Register) → AreInOrder register → AreInOrder (put p register)
 put-in_order p register ordered =
@@ -267,18 +261,6 @@ put-all P p register here all =
 
 -- ---- what is found in a place
 
-kept-found : {X : Type 0} (p s : X → Bool) → ((x : X) → p x ≡ true → s x ≡ true) → (xs : List X) → find p (filter s xs) ≡ find p xs
-kept-found p s passes [] = refl
-kept-found p s passes (x ∷ xs) =
-    elim (s x) as (λ b. s x ≡ b → find p (cond b (x ∷ filter s xs) (filter s xs)) ≡ cond (p x) (Some x) (find p xs)) [
-      | true ↦ λ e. ap (cond (p x) (Some x)) (kept-found p s passes xs)
-      | false ↦ λ e.
-          elim (p x) as (λ b. p x ≡ b → find p (filter s xs) ≡ cond b (Some x) (find p xs)) [
-            | true ↦ λ t. absurd (true≢false (sym (passes x t) ∙ e))
-            | false ↦ λ t. kept-found p s passes xs
-          ] refl
-    ] refl
-
 lost-found : {X : Type 0} (p s : X → Bool) → ((x : X) → p x ≡ true → s x ≡ false) → (xs : List X) → find p (filter s xs) ≡ None
 lost-found p s fails [] = refl
 lost-found p s fails (x ∷ xs) =
@@ -291,7 +273,7 @@ lost-found p s fails (x ∷ xs) =
       | false ↦ λ e. lost-found p s fails xs
     ] refl
 
-option_or-none : {X : Type 0} (found : Option X) → option_or found None ≡ found
+pub option_or-none : {X : Type 0} (found : Option X) → option_or found None ≡ found
 option_or-none None = refl
 option_or-none (Some x) = refl
 
@@ -317,12 +299,12 @@ looked_up-elsewhere p register a c away =
     by_order (Order.Same account class) =
         absurd (true≢false (sym (and_from (p.account == a) (p.class == c) (eq-yes p.account a (sym account)) (eq-yes p.class c (sym class))) ∙ away))
     by_order (Order.First early not_late) =
-        let left = kept-found (is_position a c) (λ other. stands_before other p) (λ x e. let is = same-place a c x e in rw (is.0, is.1) early) register in
+        let left = found-within (λ other. stands_before other p) (is_position a c) (λ x e. let is = same-place a c x e in rw (is.0, is.1) early) register in
         let right = lost-found (is_position a c) (λ other. stands_before p other) (λ x e. let is = same-place a c x e in rw (is.0, is.1) not_late) register in
         rw (left, none, right, option_or-none (find (is_position a c) register), option_or-none (find (is_position a c) register)) refl
     by_order (Order.Later not_early late) =
         let left = lost-found (is_position a c) (λ other. stands_before other p) (λ x e. let is = same-place a c x e in rw (is.0, is.1) not_early) register in
-        let right = kept-found (is_position a c) (λ other. stands_before p other) (λ x e. let is = same-place a c x e in rw (is.0, is.1) late) register in
+        let right = found-within (λ other. stands_before p other) (is_position a c) (λ x e. let is = same-place a c x e in rw (is.0, is.1) late) register in
         rw (left, none, right) refl
 
 -- a fresh position is what is found where there is none

@@ -145,7 +145,7 @@ or-clear : {X : Type 0} (one other : Option X) → option_or one other ≡ None 
 or-clear None other e = (refl, e)
 or-clear (Some x) other e = absurd (some_none e)
 
-none-of : {X : Type 0} (found : Option X) → is_some found ≡ false → found ≡ None
+pub none-of : {X : Type 0} (found : Option X) → is_some found ≡ false → found ≡ None
 none-of None e = refl
 none-of (Some x) e = absurd (true≢false e)
 

@@ -21,7 +21,7 @@ pub table-one : (journal : Journal) (event : Event) → table_of (with_event jou
 unfolding table_behind
 table-one journal event = fold-append table_after empty_table journal (event ∷ [])
 
-table-more : (table : Table) (journal events : Journal) → table ≡ table_of journal → table_behind table events ≡ table_of (journal ++ events)
+pub table-more : (table : Table) (journal events : Journal) → table ≡ table_of journal → table_behind table events ≡ table_of (journal ++ events)
 unfolding table_behind
 table-more table journal events e =
     ap (λ known. fold table_after known events) e ∙ sym (fold-append table_after empty_table journal events)

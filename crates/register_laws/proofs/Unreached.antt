@@ -32,7 +32,7 @@ all-flat : {X Y : Type 0} (P : Y → Type 0) (f : X → List Y) (xs : List X) �
 all-flat P f [] each = All-nil P
 all-flat P f (x ∷ xs) each = All-append P (f x) (flat_map f xs) (each x) (all-flat P f xs each)
 
-all-unfiltered : {X : Type 0} (P : X → Type 0) (p : X → Bool) (xs : List X) → All P (filter p xs) → All (λ x. p x ≡ true → P x) xs
+pub all-unfiltered : {X : Type 0} (P : X → Type 0) (p : X → Bool) (xs : List X) → All P (filter p xs) → All (λ x. p x ≡ true → P x) xs
 all-unfiltered P p [] all = All-nil (λ x. p x ≡ true → P x)
 all-unfiltered {X = X} P p (x ∷ xs) all = by (p x) refl all (all-unfiltered P p xs)
   where

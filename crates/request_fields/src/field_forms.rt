@@ -1,5 +1,5 @@
 //! The forms of single fields: a value, exactly where the text is in the form.
-ghost use Rattle.std.specs.Prelude.{◌≡◌, IfOk};
+ghost use Rattle.std.specs.Prelude.{◌==◌, ◌≡◌, ◌≤◌, IfOk, length};
 ghost use Rattle.std.specs.List.{before_first, after_first, position_or_len};
 ghost use Rattle.agent_events.specs.Fields as form;
 
@@ -95,12 +95,13 @@ pub(crate) fn name_of(alloc: Global, text: &[u8]) -> Result<Option<Name>, NoMemo
     Ok(Name::new(label))
 }
 
-// The place of the first colon, or the length where there is none.
-fn colon_of(text: &[u8]) -> usize
-    ensures { result ≡ position_or_len form.is_colon text.now }
+/// The place of the first of a byte, or the length where there is none.
+pub fn place_of(byte: u8, text: &[u8]) -> usize
+    ensures value { result ≡ position_or_len (λ other. other == byte) text.now }
+    ensures within { result ≤ length text.now }
 {
     text.iter()
-        .position(|byte| *byte == b':')
+        .position(|other| *other == byte)
         .unwrap_or(text.len())
 }
 
@@ -108,14 +109,14 @@ fn colon_of(text: &[u8]) -> usize
 pub(crate) fn before_colon(text: &[u8]) -> &[u8]
     ensures { result.now ≡ before_first form.is_colon text.now }
 {
-    &text[..colon_of(text)]
+    &text[..place_of(b':', text)]
 }
 
 /// What stands behind the first colon, nothing where there is none.
 pub(crate) fn after_colon(text: &[u8]) -> &[u8]
     ensures { result.now ≡ after_first form.is_colon text.now }
 {
-    let colon = colon_of(text);
+    let colon = place_of(b':', text);
     if colon < text.len() {
         &text[colon + 1..]
     } else {

@@ -11,7 +11,7 @@ mod text_forms;
 mod verb_forms;
 
 pub use crate::fault::FormFault;
-pub use crate::field_forms::moment_of;
+pub use crate::field_forms::{moment_of, place_of};
 pub use crate::order_forms::{is_order, line_asked, order_count};
 pub use crate::verb_forms::asked_by;
 pub use money_units::same_bytes;

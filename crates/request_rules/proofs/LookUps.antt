@@ -1,32 +1,22 @@
 -- What look-ups say of tests over whole lists: what is found passes, and where keys differ at most one passes.
-use Rattle.std.proofs.Common.{Bool, List, None, Option, Some, [], cond, false, filter, find, is_some, length, nat_lt, not, option_map, position, refl, subst, suc, arith, sym, true, ℕ, ◌&&◌, ◌+◌, ◌==◌, ◌||◌, ◌∙◌, ◌∷◌, ◌≡◌, ◌≤◌, ◌≢◌}
+use Rattle.std.proofs.Common.{Bool, List, None, Some, [], cond, false, filter, find, is_some, length, nat_lt, not, option_map, position, refl, subst, suc, arith, sym, true, ℕ, ◌&&◌, ◌+◌, ◌==◌, ◌||◌, ◌∙◌, ◌∷◌, ◌≡◌, ◌≤◌, ◌≢◌}
 use Rattle.std.proofs.lemmas.Bool.{eqb-true}
 use Rattle.std.proofs.lemmas.Bool.Decides.{nat_tests}
 use Rattle.std.specs.List.{list_any, prefix_len}
 use Rattle.std.specs.Option.{option_map_or}
 use Rattle.std.specs.Prelude.{All, AllPairs}
 use Rattle.share_lots.proofs.LotLemmas.{All-head, All-tail, AllPairs-head, AllPairs-tail}
-
-pub find_any : {X : Type 0} (test : X → Bool) (xs : List X) → is_some (find test xs) ≡ list_any test xs
-find_any test [] = refl
-find_any test (x ∷ xs) = by_test (test x) (find_any test xs)
-  where
-    by_test : (b : Bool) → is_some (find test xs) ≡ list_any test xs → is_some (cond b (Some x) (find test xs)) ≡ (b || list_any test xs)
-    by_test true later = refl
-    by_test false later = later
-
-mapped-is : {X Y : Type 0} (f : X → Y) (found : Option X) → is_some (option_map f found) ≡ is_some found
-mapped-is f None = refl
-mapped-is f (Some x) = refl
+use Rattle.register_laws.proofs.Isolation.{some-map}
+use Rattle.register_laws.proofs.Tests.{find-any}
 
 pub found_any : {X Y : Type 0} (f : X → Y) (test : X → Bool) (xs : List X) → is_some (option_map f (find test xs)) ≡ list_any test xs
-found_any f test xs = mapped-is f (find test xs) ∙ find_any test xs
+found_any f test xs = some-map f (find test xs) ∙ find-any test xs
 
 some-where : (b : Bool) (n : ℕ) → is_some (cond b (Some n) None) ≡ b
 some-where true n = refl
 some-where false n = refl
 
-below-next : (n m : ℕ) → nat_lt (1 + n) (suc m) ≡ nat_lt n m
+pub below-next : (n m : ℕ) → nat_lt (1 + n) (suc m) ≡ nat_lt n m
 below-next n m = grind (arith, nat_tests)
 
 below-first : (m : ℕ) → nat_lt 0 (suc m) ≡ true

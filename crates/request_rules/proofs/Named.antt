@@ -1,5 +1,5 @@
 -- What has a name, by the look-ups of the book and the prices.
-use Rattle.std.proofs.Common.{Bool, List, [], ap, false, is_some, position, refl, true, ℕ, ◌&&◌, ◌==◌, ◌||◌, ◌∙◌, ◌∷◌, ◌≡◌}
+use Rattle.std.proofs.Common.{Bool, false, is_some, position, refl, true, ℕ, ◌&&◌, ◌==◌, ◌||◌, ◌∙◌, ◌≡◌}
 use Rattle.std.specs.List.{list_any}
 use Rattle.std.specs.Option.{option_map_or}
 use Rattle.agent_events.specs.Events.{order_request}
@@ -7,6 +7,7 @@ use Rattle.agent_events.specs.declared.event.EventKind.{EventKind}
 use Rattle.agent_events.specs.declared.event.Source.{Source}
 use Rattle.order_book.specs.Brought.{brings}
 use Rattle.order_book.specs.declared.identity.Identity.{Identity}
+use Rattle.request_rules.proofs.Declared.{same-any}
 use Rattle.request_rules.proofs.LookUps.{place_any}
 use Rattle.register_machine.specs.journal.Journals.{Journal}
 use Rattle.register_machine.specs.rules.Identities.{brings_fix, brings_reference, fix_of, reference_of}
@@ -57,16 +58,12 @@ fix-brought fix moment (EventKind.Enter form) = or-false (form.fix == fix)
 fix-brought fix moment (EventKind.Replace form) = or-false (form.fix == fix)
 fix-brought fix moment (EventKind.Void form) = or-false (form.fix == fix)
 
-any-same : {X : Type 0} (f g : X → Bool) (xs : List X) → ((x : X) → f x ≡ g x) → list_any f xs ≡ list_any g xs
-any-same f g [] same = refl
-any-same f g (x ∷ xs) same = ap (λ b. b || list_any f xs) (same x) ∙ ap (λ b. g x || b) (any-same f g xs same)
-
 pub reference_placed : (account ref_no : ℕ) (journal : Journal) → is_some (position (brings (Identity.Reference account ref_no)) journal) ≡ list_any (brings_reference (account, ref_no)) journal
 reference_placed account ref_no journal =
     place_any (brings (Identity.Reference account ref_no)) journal
-    ∙ any-same (brings (Identity.Reference account ref_no)) (brings_reference (account, ref_no)) journal (λ event. reference-brought account ref_no event.moment event.kind)
+    ∙ same-any (brings (Identity.Reference account ref_no)) (brings_reference (account, ref_no)) journal (λ event. reference-brought account ref_no event.moment event.kind)
 
 pub fix_placed : (fix : ℕ) (journal : Journal) → is_some (position (brings (Identity.Fix fix)) journal) ≡ list_any (brings_fix fix) journal
 fix_placed fix journal =
     place_any (brings (Identity.Fix fix)) journal
-    ∙ any-same (brings (Identity.Fix fix)) (brings_fix fix) journal (λ event. fix-brought fix event.moment event.kind)
+    ∙ same-any (brings (Identity.Fix fix)) (brings_fix fix) journal (λ event. fix-brought fix event.moment event.kind)

@@ -7,11 +7,12 @@ ghost use Rattle.register_machine.specs.rules.Identities.{ref_used};
 ghost use Rattle.register_machine.specs.rules.NamedThings.{none_such};
 ghost use Rattle.register_machine.specs.rules.Orders.{below_minimum, calendar_ended, not_offered, receipt_ahead, refused_order, row_asked};
 
-use crate::inquiry::{Inquiry, class_of, target_of};
+use crate::inquiry::Inquiry;
 use crate::limits::{fix_used, journal_full, orders_full};
 use crate::orders::{below_minimum, calendar_ended, not_offered, receipt_ahead, row_as_sent};
 use crate::rules::{first_absent, first_broken, refused_when};
 use agent_events::{EntryForm, FixPriceForm, FixRateForm, OrderRow, Refusal, VoidForm};
+use register_machine::{class_of, target_of};
 
 /// The bearer, the class or its sheet isn't there.
 fn fix_price_absent(inquiry: &Inquiry, form: &FixPriceForm) -> Option<Refusal>

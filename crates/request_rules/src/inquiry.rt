@@ -7,7 +7,6 @@ ghost use Rattle.forward_price.specs.Orderly.{IsOrderly};
 ghost use Rattle.forward_price.specs.PriceTables.{calendar_numbered, number_at};
 ghost use Rattle.forward_price.specs.Turns.{due_of};
 ghost use Rattle.request_rules.specs.Inquiries.{FitsJournal, calendar_lists_day, calendar_prices_at, account_is_of, account_names, class_has_moment, opening_prices_at, situation_with};
-ghost use Rattle.register_machine.specs.pricing.OrderClasses.{class_of, target_of};
 ghost use Rattle.register_machine.specs.journal.Kinds.{account_numbered, class_numbered, dealers_of, dealer_numbered, households_of};
 ghost use Rattle.register_machine.specs.pricing.CorrectedOrders.{order_named};
 ghost use Rattle.register_machine.specs.pricing.CorrectedBook.{calendar_of, due_at};
@@ -33,6 +32,7 @@ use forward_price::{Opening, PriceBook, PublishFault, Sheet, lists_class};
 use fund_calendar::{Calendar, Day};
 use money_units::Moment;
 use order_book::{Identity, OrderBook};
+use register_machine::{class_of, target_of};
 use std::marker::Model;
 
 /// The book of orders, the prices that fit it, now, and the caller. Contracts see it as the situation of the definitions.
@@ -473,41 +473,6 @@ fn is_listed_at(class: u32, moment: Moment, sheet: &Sheet) -> bool
     ensures { result ≡ lists_at class moment sheet.now }
 {
     sheet.moment == moment && lists_class(sheet.prices.as_slice(), class)
-}
-
-/// The class of an order.
-pub(crate) fn class_of(body: &Body) -> Identifier
-    ensures { result ≡ class_of body.now }
-{
-    match body {
-        Body::Buy { class, gross: _ } => *class,
-        Body::Sell { class, mils: _ } => *class,
-        Body::SellCash { class, amount: _ } => *class,
-        Body::SellAll { class } => *class,
-        Body::Exchange {
-            class,
-            to: _,
-            mils: _,
-        } => *class,
-        Body::ExchangeAll { class, to: _ } => *class,
-        Body::Letter { class, amount: _ } => *class,
-        Body::Elect { class, in_cash: _ } => *class,
-    }
-}
-
-/// The class that an exchange goes to.
-pub(crate) fn target_of(body: &Body) -> Option<Identifier>
-    ensures { result ≡ target_of body.now }
-{
-    match body {
-        Body::Exchange {
-            class: _,
-            to,
-            mils: _,
-        } => Some(*to),
-        Body::ExchangeAll { class: _, to } => Some(*to),
-        _ => None,
-    }
 }
 
 /// The least other class of a class's family that has another calendar or schedule.

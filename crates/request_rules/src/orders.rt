@@ -11,11 +11,12 @@ ghost use Rattle.register_machine.specs.pricing.CorrectedOrders.{row_as_sent};
 ghost use Rattle.register_machine.specs.rules.NamedThings.{has_class, named_in_order};
 ghost use Rattle.register_machine.specs.rules.Orders.{below_minimum, calendar_ended, family_of, has_one_calendar, is_exchangeable, is_of_calendar, is_offered, late_by, not_offered, window_of};
 
-use crate::inquiry::{Inquiry, class_of, target_of};
+use crate::inquiry::Inquiry;
 use crate::limits::{journal_full, orders_full, reference_used};
 use crate::rules::{first_absent, first_broken, refused_when};
 use agent_events::{Body, Caller, ClassForm, Identifier, LineForm, Order, OrderRow, Refusal};
 use money_units::Moment;
+use register_machine::{class_of, target_of};
 
 /// An order as it is sent, behind all events.
 pub(crate) fn row_as_sent(inquiry: &Inquiry, receipt: Moment, order: &Order) -> OrderRow

@@ -11,20 +11,15 @@ use Rattle.agent_events.specs.declared.reply.Refusal.{Refusal}
 use Rattle.agent_events.specs.VerbForms.{Asked}
 use Rattle.agent_events.specs.declared.request.Request.{Request}
 use Rattle.agent_events.specs.declared.verdict.Caller.{Caller}
-use Rattle.forward_price.specs.PriceTables.{Table}
 use Rattle.register_desk.specs.Rows.{TellsRowsOf}
+use Rattle.register_laws.proofs.Runs.{table-more}
 use Rattle.register_laws.specs.Lawful.{own_at}
 use Rattle.register_machine.specs.journal.Journals.{Journal, last_moment}
-use Rattle.register_machine.specs.pricing.PublishedTable.{empty_table, table_after, table_behind, table_of}
+use Rattle.register_machine.specs.pricing.PublishedTable.{table_of}
 use Rattle.register_machine.specs.rules.Callers.{caller_of}
 use Rattle.register_machine.specs.rules.Situations.{situation_at}
 use Rattle.register_machine.specs.run.Answers.{answer, answer_asked, refuses}
 use Rattle.register_machine.specs.run.Scripts.{Run, item_answer, item_step, reply_line, run_from, situation_in}
-
-table-more : (table : Table) (journal events : Journal) → table ≡ table_of journal → table_behind table events ≡ table_of (journal ++ events)
-unfolding table_behind
-table-more table journal events own =
-    ap (λ known. fold table_after known events) own ∙ sym (fold-append table_after empty_table journal events)
 
 table-kept : (operator : List ℕ) (run : Run) (items : List ScriptItem) → run.table ≡ table_of run.journal → (fold (item_step operator) run items).table ≡ table_of (fold (item_step operator) run items).journal
 unfolding item_step

@@ -8,7 +8,7 @@ use Rattle.share_lots.specs.Lots.{Holding, shares_added, added_to, new_lot, mils
 use Rattle.share_lots.proofs.LotLemmas.{All-head, All-tail, AllPairs-head, All-placed, sum-placed, sum-mils, owned_behind, map-join_none, join-free}
 
 -- where the first lot isn't free, none is
-none_found : (lots : List Lot) → All (λ l. l.free ≡ false) lots → find (λ l. l.free) lots ≡ None
+pub none_found : (lots : List Lot) → All (λ l. l.free ≡ false) lots → find (λ l. l.free) lots ≡ None
 none_found [] owned = refl
 none_found (x ∷ xs) owned =
     ap (λ b. cond b (Some x) (find (λ l. l.free) xs)) (All-head (λ l. l.free ≡ false) x xs owned)

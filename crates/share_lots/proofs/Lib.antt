@@ -7,3 +7,4 @@ pub mod PaidLemmas
 pub mod RelationLemmas
 pub mod ValueLemmas
 pub mod AddedLemmas
+pub mod RowLemmas

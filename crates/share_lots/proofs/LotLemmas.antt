@@ -181,15 +181,15 @@ pub reduced-all : (lots init : List Lot) (i left asked : ℕ) → length lots �
 reduced-all lots init i left asked h done =
     rw (lots_less-all lots i left h, append-nil, take_all i lots h) at done
 
-pub taken-more : (taken next : List Piece) (lots : List Lot) (i left asked : ℕ) (x : Lot) → i < length lots → x ≡ get_or lots i x → next ≡ taken ++ pieces_of x (min x.loose left) → taken ++ pieces left (drop i lots) ≡ pieces asked lots → next ++ pieces (left - min x.loose left) (drop (i + 1) lots) ≡ pieces asked lots
-taken-more taken next lots i left asked x h is new done =
+pub taken-more : (taken next all : List Piece) (lots : List Lot) (i left : ℕ) (x : Lot) → i < length lots → x ≡ get_or lots i x → next ≡ taken ++ pieces_of x (min x.loose left) → taken ++ pieces left (drop i lots) ≡ all → next ++ pieces (left - min x.loose left) (drop (i + 1) lots) ≡ all
+taken-more taken next all lots i left x h is new done =
     rw (new, append_assoc) (ap (λ rest. taken ++ rest) (rw (← is) at (sym (pieces-more lots i left x h))) ∙ done)
 
-pub taken-all : (taken : List Piece) (lots : List Lot) (i left asked : ℕ) → length lots ≤ i → taken ++ pieces left (drop i lots) ≡ pieces asked lots → taken ≡ pieces asked lots
-taken-all taken lots i left asked h done = rw (pieces-all lots i left h, append-nil) at done
+pub taken-all : (taken all : List Piece) (lots : List Lot) (i left : ℕ) → length lots ≤ i → taken ++ pieces left (drop i lots) ≡ all → taken ≡ all
+taken-all taken all lots i left h done = rw (pieces-all lots i left h, append-nil) at done
 
 -- where nothing is left to be taken, the lots that are left give nothing and stay
-nothing-taken : (lots : List Lot) → pieces 0 lots ≡ []
+pub nothing-taken : (lots : List Lot) → pieces 0 lots ≡ []
 unfolding pieces
 nothing-taken [] = refl
 nothing-taken (x ∷ xs) =
@@ -197,13 +197,13 @@ nothing-taken (x ∷ xs) =
     let rest : 0 - x.loose ≡ 0 = omega arith in
     ap (λ n. pieces_of x n ++ pieces (0 - x.loose) xs) none ∙ ap (λ n. pieces n xs) rest ∙ nothing-taken xs
 
-pub taken-up : (taken : List Piece) (lots : List Lot) (i left asked : ℕ) → left ≡ 0 → taken ++ pieces left (drop i lots) ≡ pieces asked lots → taken ≡ pieces asked lots
-taken-up taken lots i left asked none done =
+pub taken-up : (taken all : List Piece) (lots : List Lot) (i left : ℕ) → left ≡ 0 → taken ++ pieces left (drop i lots) ≡ all → taken ≡ all
+taken-up taken all lots i left none done =
     sym (ap (λ n. taken ++ pieces n (drop i lots)) none
     ∙ ap (λ ps. taken ++ ps) (nothing-taken (drop i lots))
     ∙ append-nil taken) ∙ done
 
-nothing-lessened : (lots : List Lot) → All (λ l. 1 ≤ mils l) lots → lots_less 0 lots ≡ lots
+pub nothing-lessened : (lots : List Lot) → All (λ l. 1 ≤ mils l) lots → lots_less 0 lots ≡ lots
 unfolding lots_less
 nothing-lessened [] all = refl
 nothing-lessened (x ∷ xs) all =
@@ -296,7 +296,7 @@ parted_by_rank lot lots ranked i j d le short first = elim (cases_lt i j) [
 ]
 
 -- where no lot comes before this one, it stands first
-none_before : (lot : Lot) (lots : List Lot) → All (λ other. ranks_before other lot ≡ false) lots → (filter (λ other. ranks_before other lot) lots ≡ []) × (filter (λ other. not (ranks_before other lot)) lots ≡ lots)
+pub none_before : (lot : Lot) (lots : List Lot) → All (λ other. ranks_before other lot ≡ false) lots → (filter (λ other. ranks_before other lot) lots ≡ []) × (filter (λ other. not (ranks_before other lot)) lots ≡ lots)
 none_before lot [] all = (refl, refl)
 none_before lot (x ∷ xs) all =
     let behind = All-head (λ other. ranks_before other lot ≡ false) x xs all in
@@ -314,7 +314,7 @@ inserted (x ∷ xs) lot (suc i) point =
     rw first (ap (λ ys. x ∷ ys) (inserted xs lot i (λ k d lo lt. point.0 (suc k) d (omega arith) (omega arith), λ k d lo lt. point.1 (suc k) d (omega arith) (omega arith))))
 
 -- a lot placed before or behind the first
-placed-behind : (x lot : Lot) (xs : List Lot) → ranks_before x lot ≡ true → lots_with lot (x ∷ xs) ≡ x ∷ lots_with lot xs
+pub placed-behind : (x lot : Lot) (xs : List Lot) → ranks_before x lot ≡ true → lots_with lot (x ∷ xs) ≡ x ∷ lots_with lot xs
 placed-behind x lot xs first = rw first refl
 
 placed-first : (lot : Lot) (xs : List Lot) → All (λ other. ranks_before other lot ≡ false) xs → lots_with lot xs ≡ lot ∷ xs

@@ -2,3 +2,4 @@ pub mod Lots
 pub mod Tally
 pub mod Taking
 pub mod Values
+pub mod Rows

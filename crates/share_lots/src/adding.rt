@@ -10,15 +10,8 @@ use fund_calendar::Day;
 use money_units::{Cents, Mils, NoMemory};
 use std::alloc::Global;
 
-/// The number of the free lot that free mils join.
-pub(crate) fn lot_joined(lots: &[Lot], free: bool) -> Option<u32>
-    ensures { result ≡ spec.lot_joined lots.now free }
-{
-    if free { free_number(lots) } else { None }
-}
-
 /// The number of the free lot, where there is one.
-fn free_number(lots: &[Lot]) -> Option<u32>
+pub(crate) fn free_number(lots: &[Lot]) -> Option<u32>
     ensures { result ≡ spec.free_number lots.now }
 {
     lots.iter().find(|lot| lot.free).map(|lot| lot.number)
@@ -101,13 +94,4 @@ pub(crate) fn ranked_lots(alloc: Global, lots: &[Lot], next_lot: u32) -> Result<
         insert_lot(&mut places, copy_of(lot))?;
     }
     Ok(places)
-}
-
-/// A copy of the lots, with room for the lot that the next order brings.
-pub(crate) fn copied_lots(alloc: Global, lots: &[Lot]) -> Result<Vec<Lot>, NoMemory>
-    ensures { IfOk result (λ copy. copy.items ≡ lots.now) }
-{
-    let mut copy = Vec::with_capacity(alloc, lots.len() + 1)?;
-    copy.extend_from_slice(lots)?;
-    Ok(copy)
 }

@@ -1,10 +1,18 @@
 //! Loose mils that are held under a letter, and held mils that become loose.
-ghost use Rattle.std.specs.Prelude.{◌≡◌, ◌≤◌, map, All};
+ghost use Rattle.std.specs.Prelude.{◌≡◌, ◌≤◌, ◌==◌, map, All};
+ghost use Rattle.std.specs.List.{list_any};
 ghost use Rattle.share_lots.specs.Lots as spec;
 
 use crate::Lot;
 use crate::lot_list::{cost_of, held_of, loose_of};
 use money_units::{Cents, Mils};
+
+/// One of the lots has this number.
+pub(crate) fn has_number(lots: &[Lot], number: u32) -> bool
+    ensures { result ≡ list_any (λ lot. lot.number == number) lots.now }
+{
+    lots.iter().any(|lot| lot.number == number)
+}
 
 /// Keeps loose mils of the lot with a number back.
 pub(crate) fn hold_back(lots: &mut [Lot], number: u32, quantity: u64)

@@ -10,6 +10,8 @@ mod lot_list;
 mod paying;
 mod pieces;
 mod position;
+mod position_lots;
+mod shared_block;
 mod taking;
 mod value;
 pub mod worked;

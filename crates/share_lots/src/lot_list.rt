@@ -1,5 +1,5 @@
 //! What the lots of a list hold and cost together, and which of two lots comes first.
-ghost use Rattle.std.specs.Prelude.{◌≡◌, ◌+◌, ◌≤◌, sum_by, map};
+ghost use Rattle.std.specs.Prelude.{◌≡◌, ◌+◌, ◌≤◌, true, sum_by, map, All};
 ghost use Rattle.share_lots.specs.Lots as spec;
 
 use crate::Lot;
@@ -62,6 +62,17 @@ pub(crate) fn ranks_before(lot: &Lot, other: &Lot) -> bool
     ensures { result ≡ spec.ranks_before lot.now other.now }
 {
     !other.free && (lot.free || before_by_date(lot, other))
+}
+
+/// All lots come before this one by rank, as their last one does.
+pub(crate) fn precede(lots: &[Lot], lot: &Lot) -> bool
+    requires { spec.AreRanked lots.now }
+    ensures { result ≡ true → All (λ other. spec.ranks_before other lot.now ≡ true) lots.now }
+{
+    match lots.last() {
+        Some(last) => ranks_before(last, lot),
+        None => true,
+    }
 }
 
 /// The lot has the earlier date, or at equal dates the smaller number.

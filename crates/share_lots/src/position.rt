@@ -1,12 +1,10 @@
 //! A position: the lots of one account and class, by rank.
-ghost use Rattle.std.specs.Prelude.{◌≡◌, [], ◌+◌, ◌≤◌, ◌<◌, ◌⊎◌, sum_by, IfOk, IfErr, OnOk, OnErr};
+ghost use Rattle.std.specs.Prelude.{◌≡◌, [], ◌+◌, ◌≤◌, ◌<◌, ◌⊎◌, ◌==◌, length, sum_by, IfOk, IfErr, OnOk, OnErr};
 ghost use Rattle.share_lots.specs.declared.position.TakeFault.TheVariants.{Short, NoMemory};
 
-use crate::adding::{copied_lots, insert_lot, join_free, lot_joined, new_lot, ranked_lots};
-use crate::escrow::{hold_back, release_lots};
-use crate::lot_list::{cost_total, held_total, loose_total, mils_total};
-use crate::paying::pay_lots;
-use crate::taking::{reduce_lots, remove_empty, take_pieces};
+use crate::adding::{new_lot, ranked_lots};
+use crate::lot_list::{cost_total, held_total, mils_total};
+use crate::position_lots::PositionLots;
 use crate::{Lot, Pieces};
 use fund_calendar::Day;
 use money_units::{Cents, Mils};
@@ -43,26 +41,28 @@ impl From<money_units::NoMemory> for TakeFault {
     }
 }
 
-/// The lots of one account and class, by rank: the free lot first, then by date and number. Their mils and cost together
-/// are kept beside them, so that neither is summed up when it is asked for.
+/// The lots of one account and class, by rank: the free lot first, then by date and number. Their mils, those that are held
+/// and their cost together are kept beside them, so that none is summed up when it is asked for.
 #[derive(Debug, Drop)]
 pub struct Position {
-    lots: Vec<Lot>,
+    lots: PositionLots,
     next_lot: u32,
     mils: u64,
+    held: u64,
     cost: u64,
 }
 
 impl Model for Position {
     ghost use Rattle.share_lots.specs.Lots.{Holding};
     ghost use Rattle.share_lots.specs.Tally.{IsTallied};
+    ghost use Rattle.share_lots.specs.Rows.{lots_in};
 
     ghost Value = { Holding };
 
-    ghost view = { λ p. record { lots = p.lots.items; next_lot = p.next_lot } };
+    ghost view = { λ p. record { lots = lots_in p.lots; next_lot = p.next_lot } };
 
     ghost invariant = { λ p.
-        IsTallied (record { lots = p.lots.items; next_lot = p.next_lot }) p.mils p.cost };
+        IsTallied (record { lots = lots_in p.lots; next_lot = p.next_lot }) p.mils p.held p.cost };
 }
 
 impl Position {
@@ -74,9 +74,10 @@ impl Position {
         ensures { result ≡ record { lots = []; next_lot = 1 } }
     {
         Position {
-            lots: Vec::new(alloc),
+            lots: PositionLots::none(alloc),
             next_lot: 1,
             mils: 0,
+            held: 0,
             cost: 0,
         }
     }
@@ -95,21 +96,30 @@ impl Position {
     {
         let lots = ranked_lots(alloc, lots, next_lot)?;
         let mils = mils_total(&lots);
+        let held = held_total(&lots);
         let cost = cost_total(&lots);
         Ok(Position {
-            lots,
+            lots: PositionLots::of(alloc, lots),
             next_lot,
             mils,
+            held,
             cost,
         })
     }
 
-    /// The lots by rank.
-    pub fn lots(&self) -> &[Lot]
-        ensures lots { result.now ≡ self.now.lots }
+    /// A copy of the lots by rank.
+    pub fn copied_lots(&self, alloc: Global) -> Result<Vec<Lot>, money_units::NoMemory>
+        ensures { IfOk result (λ lots. lots.items ≡ self.now.lots) }
+    {
+        self.lots.copied_lots(alloc)
+    }
+
+    /// There is no lot.
+    pub fn is_empty(&self) -> bool
+        ensures empty { result ≡ (length self.now.lots == 0) }
         ensures holding { spec.IsHolding self.now }
     {
-        &self.lots
+        self.mils == 0
     }
 
     /// The number of the next lot.
@@ -124,7 +134,7 @@ impl Position {
         ensures total { result ≡ spec.loose_total self.now }
         ensures bound { result ≤ spec.most_mils }
     {
-        Mils(loose_total(&self.lots))
+        Mils(self.mils - self.held)
     }
 
     /// The mils that are held in escrow.
@@ -132,7 +142,7 @@ impl Position {
         ensures total { result ≡ spec.held_total self.now }
         ensures bound { result ≤ spec.most_mils }
     {
-        Mils(held_total(&self.lots))
+        Mils(self.held)
     }
 
     /// The mils, loose and held together.
@@ -156,9 +166,10 @@ impl Position {
         ensures { IfOk result (λ copy. copy ≡ self.now) }
     {
         Ok(Position {
-            lots: copied_lots(alloc, &self.lots)?,
+            lots: self.lots.copied(alloc)?,
             next_lot: self.next_lot,
             mils: self.mils,
+            held: self.held,
             cost: self.cost,
         })
     }
@@ -169,7 +180,7 @@ impl Position {
         ensures few_mils { IfOk result (λ pieces. sum_by (λ p. p.mils) pieces ≤ spec.most_mils) }
         ensures low_cost { IfOk result (λ pieces. sum_by (λ p. p.cost) pieces ≤ spec.most_cost) }
     {
-        let pieces = take_pieces(alloc, &self.lots, mils.0)?;
+        let pieces = self.lots.pieces(alloc, mils.0)?;
         Ok(pieces)
     }
 
@@ -201,16 +212,16 @@ impl Position {
         ensures next_after { OnOk result (self.new.next_lot ≤ self.old.next_lot + 1) }
         ensures unchanged { OnErr result (self.new ≡ self.old) }
     {
-        match lot_joined(&self.lots, free) {
+        match self.lots.lot_joined(free)? {
             Some(number) => {
-                join_free(&mut self.lots, &mils, &cost);
+                self.lots.join(&mils, &cost)?;
                 self.mils += mils.0;
                 self.cost += cost.0;
                 Ok(number)
             }
             None => {
                 let number = self.next_lot;
-                insert_lot(&mut self.lots, new_lot(number, day, mils, cost, free))?;
+                self.lots.insert(new_lot(number, day, mils, cost, free))?;
                 self.next_lot += 1;
                 self.mils += mils.0;
                 self.cost += cost.0;
@@ -220,22 +231,30 @@ impl Position {
     }
 
     /// Keeps loose mils of a lot back in escrow.
-    pub fn hold(&mut self, lot: u32, mils: Mils)
+    pub fn hold(&mut self, lot: u32, mils: Mils) -> Result<(), money_units::NoMemory>
         requires { spec.HasLoose self.old.lots lot mils }
-        ensures held { self.new ≡ spec.hold_mils self.old lot mils }
-        ensures mils_kept { sum_by spec.mils self.new.lots ≡ sum_by spec.mils self.old.lots }
-        ensures cost_kept { spec.cost_total self.new ≡ spec.cost_total self.old }
+        ensures held { OnOk result (self.new ≡ spec.hold_mils self.old lot mils) }
+        ensures mils_kept { OnOk result
+            (sum_by spec.mils self.new.lots ≡ sum_by spec.mils self.old.lots) }
+        ensures cost_kept { OnOk result (spec.cost_total self.new ≡ spec.cost_total self.old) }
+        ensures unchanged { OnErr result (self.new ≡ self.old) }
     {
-        hold_back(&mut self.lots, lot, mils.0);
+        self.lots.hold(lot, mils.0)?;
+        self.held = self.lots.held();
+        Ok(())
     }
 
     /// Makes all held mils loose.
-    pub fn release(&mut self)
-        ensures released { self.new ≡ spec.release_all self.old }
-        ensures mils_kept { sum_by spec.mils self.new.lots ≡ sum_by spec.mils self.old.lots }
-        ensures cost_kept { spec.cost_total self.new ≡ spec.cost_total self.old }
+    pub fn release(&mut self) -> Result<(), money_units::NoMemory>
+        ensures released { OnOk result (self.new ≡ spec.release_all self.old) }
+        ensures mils_kept { OnOk result
+            (sum_by spec.mils self.new.lots ≡ sum_by spec.mils self.old.lots) }
+        ensures cost_kept { OnOk result (spec.cost_total self.new ≡ spec.cost_total self.old) }
+        ensures unchanged { OnErr result (self.new ≡ self.old) }
     {
-        release_lots(&mut self.lots);
+        self.lots.release()?;
+        self.held = 0;
+        Ok(())
     }
 
     /// Takes loose mils by rank, and answers a piece for each lot that gives any.
@@ -259,42 +278,45 @@ impl Position {
             × (spec.loose_total self.old < mils))) }
         ensures unchanged { OnErr result (self.new ≡ self.old) }
     {
-        let loose = loose_total(&self.lots);
+        let loose = self.mils - self.held;
         if loose < mils.0 {
             return Err(TakeFault::Short(Mils(loose)));
         }
-        let pieces = take_pieces(alloc, &self.lots, mils.0)?;
-        reduce_lots(&mut self.lots, mils.0);
-        remove_empty(&mut self.lots);
+        let pieces = self.lots.own_pieces(alloc, mils.0)?;
+        let cost = self.lots.take_off(mils.0)?;
         self.mils -= mils.0;
-        self.cost = cost_total(&self.lots);
+        self.cost -= cost;
         Ok(pieces)
     }
 
     /// Takes loose mils by rank whose pieces were looked at before.
-    pub fn remove(&mut self, mils: Mils)
+    pub fn remove(&mut self, mils: Mils) -> Result<(), money_units::NoMemory>
         requires enough { mils ≤ spec.loose_total self.old }
-        ensures rest { self.new ≡ taking.after_taking self.old mils }
+        ensures rest { OnOk result (self.new ≡ taking.after_taking self.old mils) }
+        ensures unchanged { OnErr result (self.new ≡ self.old) }
     {
-        reduce_lots(&mut self.lots, mils.0);
-        remove_empty(&mut self.lots);
+        let cost = self.lots.take_off(mils.0)?;
         self.mils -= mils.0;
-        self.cost = cost_total(&self.lots);
+        self.cost -= cost;
+        Ok(())
     }
 
     /// Pays held mils by date and number; each lot keeps the rest of its cost.
-    pub fn pay_held(&mut self, mils: Mils)
+    pub fn pay_held(&mut self, mils: Mils) -> Result<(), money_units::NoMemory>
         requires { mils ≤ spec.held_total self.old }
-        ensures paid { self.new ≡ taking.after_paying self.old mils }
-        ensures whole { spec.held_total self.new + mils ≡ spec.held_total self.old }
-        ensures loose_kept { spec.loose_total self.new ≡ spec.loose_total self.old }
-        ensures cost_kept { sum_by (taking.cost_paid self.old.lots mils) self.old.lots
+        ensures paid { OnOk result (self.new ≡ taking.after_paying self.old mils) }
+        ensures whole { OnOk result (spec.held_total self.new + mils ≡ spec.held_total self.old) }
+        ensures loose_kept { OnOk result (spec.loose_total self.new ≡ spec.loose_total self.old) }
+        ensures cost_kept { OnOk result
+            (sum_by (taking.cost_paid self.old.lots mils) self.old.lots
             + spec.cost_total self.new
-            ≡ spec.cost_total self.old }
+            ≡ spec.cost_total self.old) }
+        ensures unchanged { OnErr result (self.new ≡ self.old) }
     {
-        pay_lots(&mut self.lots, mils.0);
-        remove_empty(&mut self.lots);
-        self.mils = mils_total(&self.lots);
-        self.cost = cost_total(&self.lots);
+        self.lots.pay(mils.0)?;
+        self.mils -= mils.0;
+        self.held -= mils.0;
+        self.cost = cost_total(&self.lots.front);
+        Ok(())
     }
 }

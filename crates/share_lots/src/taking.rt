@@ -1,19 +1,18 @@
 //! What a redemption takes of each lot, by rank, and what it leaves.
-ghost use Rattle.std.specs.Prelude.{◌≡◌, ◌≤◌, ◌<◌, ◌++◌, All, filter, IfOk, OnOk, OnErr};
+ghost use Rattle.std.specs.Prelude.{◌≡◌, ◌+◌, ◌≤◌, ◌<◌, ◌++◌, All, filter, sum_by, IfOk, OnOk, OnErr};
 ghost use Rattle.share_lots.specs.Lots as spec;
 ghost use Rattle.share_lots.specs.Taking as taking;
 
-use crate::lot_list::{cost_of, held_of, loose_of};
+use crate::lot_list::{cost_of, cost_total, held_of, loose_of};
 use crate::{Lot, Piece, Pieces};
 use money_units::{Cents, Mils, NoMemory, half};
-use std::alloc::Global;
 
-/// The pieces of lots by rank: each gives its loose mils as far as any are still asked for.
-pub(crate) fn take_pieces(alloc: Global, lots: &[Lot], asked: u64) -> Result<Pieces, NoMemory>
+/// Appends the pieces of lots by rank: each gives its loose mils as far as any are still asked for.
+pub(crate) fn take_pieces(given: Pieces, lots: &[Lot], asked: u64) -> Result<Pieces, NoMemory>
     requires { All spec.IsLot lots.now }
-    ensures { IfOk result (λ pieces. pieces ≡ taking.pieces asked lots.now) }
+    ensures { IfOk result (λ pieces. pieces ≡ given ++ taking.pieces asked lots.now) }
 {
-    let mut taken = Pieces::new(alloc);
+    let mut taken = given;
     let mut left = asked;
     for lot in lots {
         if left == 0 {
@@ -114,4 +113,18 @@ pub(crate) fn remove_empty(lots: &mut Vec<Lot>)
     ensures { lots.new.items ≡ filter taking.has_mils lots.old.items }
 {
     lots.retain(|lot| has_mils(lot));
+}
+
+/// Takes mils from lots by rank and removes those without mils, and answers the cost that the mils had.
+pub(crate) fn take_row(lots: &mut Vec<Lot>, asked: u64) -> u64
+    requires lots { All spec.IsLot lots.old.items }
+    requires cost { sum_by (λ lot. lot.cost) lots.old.items ≤ spec.most_cost }
+    ensures rest { lots.new.items ≡ filter taking.has_mils (taking.lots_less asked lots.old.items) }
+    ensures cost { result + sum_by (λ lot. lot.cost) lots.new.items
+        ≡ sum_by (λ lot. lot.cost) lots.old.items }
+{
+    let before = cost_total(lots);
+    reduce_lots(lots, asked);
+    remove_empty(lots);
+    before - cost_total(lots)
 }

@@ -54,8 +54,9 @@ fn expect_taking(
 }
 
 // How many lots there are, and the number of the next one.
-fn lots_and_next(position: &Position) -> (usize, u32) {
-    (position.lots().len(), position.next_lot())
+fn lots_and_next(alloc: Global, position: &Position) -> Result<(usize, u32), NoMemory> {
+    let lots = position.copied_lots(alloc)?;
+    Ok((lots.len(), position.next_lot()))
 }
 
 fn add_free_shares(position: &mut Position) -> Result<(), Fail> {
@@ -72,19 +73,19 @@ fn with_free_shares(alloc: Global) -> Result<Position, Fail> {
     Ok(position)
 }
 
-fn expect_joined(rt: &impl Abort, position: &Position) {
-    assert_eq!(rt; lots_and_next(position), (2, 3));
+fn expect_joined(rt: &impl Abort, alloc: Global, position: &Position) -> Result<(), Fail> {
+    assert_eq!(rt; lots_and_next(alloc, position)?, (2, 3));
     assert_eq!(rt;
         (position.mils(), position.cost()),
         (Mils(105_000), Cents(105_000))
     );
+    Ok(())
 }
 
 #[test]
 fn free_shares_join_one_lot(rt: HostRuntime) -> Result<(), Fail> {
     let position = with_free_shares(rt.alloc())?;
-    expect_joined(&rt, &position);
-    Ok(())
+    expect_joined(&rt, rt.alloc(), &position)
 }
 
 fn expect_free_first(rt: &impl Abort, alloc: Global, position: &mut Position) -> Result<(), Fail> {
@@ -96,7 +97,8 @@ fn expect_free_first(rt: &impl Abort, alloc: Global, position: &mut Position) ->
     );
     // The rest is of the first lot, and costs as much.
     expect_taken(rt, alloc, position, 55_000, &[(1, 55_000, 55_000)])?;
-    assert_eq!(rt; lots_and_next(position), (0, 3));
+    assert_eq!(rt; lots_and_next(alloc, position)?, (0, 3));
+    assert!(rt; position.is_empty());
     Ok(())
 }
 
@@ -128,18 +130,25 @@ fn has_loose(lots: &[Lot], number: u32, quantity: u64) -> bool
         .all(|lot| lot.number != number || quantity <= lot.loose.0)
 }
 
-fn add_held_shares(position: &mut Position) -> Result<(), Fail> {
-    let lot = add(position, "2024-07-01", 955_110, 1_000_000, false)?;
-    if has_loose(position.lots(), lot, 238_778) {
-        position.hold(lot, Mils(238_778));
+// So many loose mils of the lot with a number are held, where it has them.
+fn hold(alloc: Global, position: &mut Position, lot: u32, quantity: u64) -> Result<(), NoMemory> {
+    let lots = position.copied_lots(alloc)?;
+    if has_loose(&lots, lot, quantity) {
+        position.hold(lot, Mils(quantity))?;
     }
+    Ok(())
+}
+
+fn add_held_shares(alloc: Global, position: &mut Position) -> Result<(), Fail> {
+    let lot = add(position, "2024-07-01", 955_110, 1_000_000, false)?;
+    hold(alloc, position, lot, 238_778)?;
     Ok(())
 }
 
 // 955.110 shares, of which 238.778 are held.
 fn with_held_shares(alloc: Global) -> Result<Position, Fail> {
     let mut position = Position::empty(alloc);
-    add_held_shares(&mut position)?;
+    add_held_shares(alloc, &mut position)?;
     Ok(position)
 }
 
@@ -167,23 +176,23 @@ fn faults_are_told_in_words(rt: HostRuntime) -> Result<(), Fail> {
     Ok(())
 }
 
-fn expect_paid_and_released(rt: &impl Abort, position: &mut Position) {
+fn expect_paid_and_released(rt: &impl Abort, position: &mut Position) -> Result<(), Fail> {
     if position.held().0 >= 11_364 {
-        position.pay_held(Mils(11_364));
+        position.pay_held(Mils(11_364))?;
     }
     let held = position.held();
-    position.release();
+    position.release()?;
     assert_eq!(rt;
         [held, position.loose(), position.held()],
         [Mils(227_414), Mils(943_746), Mils(0)]
     );
+    Ok(())
 }
 
 #[test]
 fn held_shares_are_paid_and_released(rt: HostRuntime) -> Result<(), Fail> {
     let mut position = with_held_shares(rt.alloc())?;
-    expect_paid_and_released(&rt, &mut position);
-    Ok(())
+    expect_paid_and_released(&rt, &mut position)
 }
 
 // A look at what would be taken leaves the lots as they are in a copy.
@@ -195,15 +204,18 @@ fn expect_looked_at(
 ) -> Result<(), Fail> {
     let wanted = [(2, 5_000, 5_000), (1, 1_000, 1_000)];
     expect_taking(rt, alloc, position, 6_000, wanted.as_slice())?;
-    assert_eq!(rt; position.lots(), copy.lots());
+    let lots = position.copied_lots(alloc)?;
+    let copied = copy.copied_lots(alloc)?;
+    assert_eq!(rt; lots.as_slice(), copied.as_slice());
     Ok(())
 }
 
-fn expect_removed(rt: &impl Abort, position: &mut Position) {
+fn expect_removed(rt: &impl Abort, position: &mut Position) -> Result<(), Fail> {
     if position.loose().0 >= 6_000 {
-        position.remove(Mils(6_000));
+        position.remove(Mils(6_000))?;
     }
     assert_eq!(rt; position.mils(), Mils(99_000));
+    Ok(())
 }
 
 #[test]
@@ -211,7 +223,38 @@ fn what_is_looked_at_is_removed(rt: HostRuntime) -> Result<(), Fail> {
     let mut position = with_free_shares(rt.alloc())?;
     let copy = position.copied(rt.alloc())?;
     expect_looked_at(&rt, rt.alloc(), &position, &copy)?;
-    expect_removed(&rt, &mut position);
+    expect_removed(&rt, &mut position)
+}
+
+// A position of 60 lots of one share each.
+fn sixty_lots(alloc: Global) -> Result<Position, Fail> {
+    let mut position = Position::empty(alloc);
+    add_sixty_lots(&mut position)?;
+    Ok(position)
+}
+
+fn add_sixty_lots(position: &mut Position) -> Result<(), Fail> {
+    for _ in 0..60 {
+        add(position, "2024-07-01", 1_000, 1_000, false)?;
+    }
+    Ok(())
+}
+
+// Half a share of lot 40 is held, and 30.500 shares are taken.
+fn hold_and_take(alloc: Global, position: &mut Position) -> Result<(), Fail> {
+    hold(alloc, position, 40, 500)?;
+    let _taken = position.take(alloc, Mils(30_500))?;
+    Ok(())
+}
+
+#[test]
+fn a_copy_changes_nothing_of_the_position(rt: HostRuntime) -> Result<(), Fail> {
+    let position = sixty_lots(rt.alloc())?;
+    let mut copy = position.copied(rt.alloc())?;
+    hold_and_take(rt.alloc(), &mut copy)?;
+    assert_eq!(rt; lots_and_next(rt.alloc(), &position)?, (60, 61));
+    assert_eq!(rt; lots_and_next(rt.alloc(), &copy)?, (30, 61));
+    assert_eq!(rt; (position.loose(), copy.loose()), (Mils(60_000), Mils(29_000)));
     Ok(())
 }
 
@@ -279,7 +322,7 @@ fn stored_lots_stand_by_rank(rt: HostRuntime) -> Result<(), Fail> {
 // How many lots there are where none were stored, and the number of the next one.
 fn none_stored(alloc: Global) -> Result<(usize, u32), NoMemory> {
     let position = Position::from_lots(alloc, &[], 5)?;
-    Ok(lots_and_next(&position))
+    lots_and_next(alloc, &position)
 }
 
 #[test]

@@ -4,8 +4,6 @@ use Rattle.std.proofs.lemmas.List.Elements.{All-contains, All-weaker}
 use Rattle.std.specs.Option.{is_some}
 use Rattle.checkpoint_replay.specs.Parts.{part_in, state_in}
 use Rattle.checkpoint_replay.specs.declared.part.HouseholdPart.{HouseholdPart}
-use Rattle.desk_books.specs.BooksOfJournals.{AreBooksOf}
-use Rattle.desk_books.specs.declared.books.DeskBooks.{DeskBooks}
 use Rattle.household_fold.specs.Households.{Household}
 use Rattle.desk_books.proofs.kept_of_journals.StatesStay.{last_is_as_of}
 use Rattle.desk_books.specs.kept_of_journals.KeptOfBooks.{AreKeptOf, IsAsOf}
@@ -13,8 +11,6 @@ use Rattle.kept_states.specs.KeptStates.{states_in}
 use Rattle.kept_states.specs.declared.states.HouseholdStates.{HouseholdStates}
 use Rattle.kept_states.specs.declared.states.KeptState.{KeptState}
 use Rattle.desk_books.specs.ledger_of_journals.Ledgers.{IsLedgerOf}
-use Rattle.register_laws.specs.Lawful.{book_behind}
-use Rattle.register_machine.specs.journal.Journals.{Journal}
 use Rattle.register_machine.specs.pricing.CorrectedBook.{Book}
 use Rattle.register_machine.specs.replay.Trades.{Day}
 use Rattle.desk_books.specs.waiting_laws.SettledOrders.{AllAreSettled}
@@ -55,20 +51,3 @@ one-more-kept book household state old new own others is are other = by (nat_eq 
         subst (λ number. All (IsAsOf book number) (states_in new number)) (eqb-true household other same)
         (All-weaker (λ kept. Contains (states_in old household) kept ⊎ (kept ≡ state)) (IsAsOf book household) each (states_in new household) own)
     by false apart = subst (All (IsAsOf book other)) (sym (others other apart)) (are other)
-
--- books whose kept states still are what the households came to show the same
-pub kept-show-the-same : (journal : Journal) (books : DeskBooks) (kept : List (ℕ × HouseholdStates)) → (AreKeptOf (book_behind journal) books.kept → AreKeptOf (book_behind journal) kept) → AreBooksOf journal books → AreBooksOf journal (record { book = books.book; tables = books.tables; prices = books.prices; orders = books.orders; classes = books.classes; ledger = books.ledger; cash = books.cash; kept = kept })
-kept-show-the-same journal books kept stay are = record {
-  noted = are.noted;
-  lawful = are.lawful;
-  timely = are.timely;
-  prices = are.prices;
-  tables = are.tables;
-  index = are.index;
-  classes = are.classes;
-  ledger = are.ledger;
-  tallied = are.tallied;
-  installs = are.installs;
-  cash = are.cash;
-  kept = stay are.kept;
-}

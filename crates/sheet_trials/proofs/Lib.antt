@@ -1,5 +1,3 @@
--- by how much moves change the totals, told by the days that they leave
-pub mod MovedDays
 -- a sheet that is quiet by the book is quiet by the facts
 pub mod QuietSheets
 -- what a sheet on trial prices, what it makes of each household, and whom it reaches

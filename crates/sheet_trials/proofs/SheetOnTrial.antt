@@ -1,7 +1,7 @@
 -- What a sheet on trial prices, what it makes of each household, and whom it reaches.
-use Rattle.std.proofs.Common.{All, AllPairs, Bool, List, None, Option, Some, [], ap, append-nil, arith, cond, false, find, get_or, length, option_to_list, refl, subst, sym, true, ℕ, ◌+◌, ◌++◌, ◌<◌, ◌==◌, ◌||◌, ◌∙◌, ◌∷◌, ◌≡◌, ◌≤◌}
+use Rattle.std.proofs.Common.{All, AllPairs, List, None, Option, Some, [], ap, append-nil, arith, false, get_or, length, option_to_list, refl, subst, sym, ℕ, ◌+◌, ◌++◌, ◌<◌, ◌==◌, ◌||◌, ◌∙◌, ◌∷◌, ◌≡◌, ◌≤◌}
 use Rattle.std.proofs.lemmas.List.{get_or_append_left, get_or_push, length-append, length-map}
-use Rattle.std.proofs.lemmas.List.Elements.{All-head, All-map, All-tail, All-weaker}
+use Rattle.std.proofs.lemmas.List.Elements.{All-map, All-weaker}
 use Rattle.agent_events.specs.Events.{Event}
 use Rattle.agent_events.specs.declared.event.EventKind.{EventKind}
 use Rattle.agent_events.specs.declared.order.Order.{Order}
@@ -51,7 +51,8 @@ use Rattle.register_machine.specs.pricing.CorrectedBook.{Book}
 use Rattle.register_machine.specs.pricing.CorrectedOrders.{orders_of}
 use Rattle.register_machine.specs.replay.Replay.{orders_on, priced_orders, replay}
 use Rattle.register_machine.specs.replay.Trades.{Day}
-use Rattle.sheet_trials.proofs.MovedDays.{differences-by-days}
+use Rattle.desk_books.proofs.ledger_of_journals.MovedDays.{differences-by-days}
+use Rattle.desk_books.proofs.waiting_laws.IndexSteps.{last-found}
 use Rattle.sheet_trials.proofs.QuietSheets.{reached-by-book}
 use Rattle.sheet_trials.specs.Reached.{IsReached, TakeOneStepEach}
 use Rattle.sheet_trials.specs.Trials.{IsOnTrial, known_in}
@@ -63,13 +64,6 @@ use Rattle.standing_orders.specs.WaitingLaws.{ComesLast, IsNumbered}
 
 some-same : {X : Type 0} {x y : X} → Some x ≡ Some y → x ≡ y
 some-same e = cc
-
--- a sheet behind the others is found by its number
-last-found : (p : Sheet → Bool) (sheets : List Sheet) (new : Sheet) → All (λ (s : Sheet). p s ≡ false) sheets → p new ≡ true → find p (sheets ++ new ∷ []) ≡ Some new
-last-found p [] new all on = ap (λ b. cond b (Some new) None) on
-last-found p (s ∷ ss) new all on =
-    ap (λ b. cond b (Some s) (find p (ss ++ new ∷ []))) (All-head (λ (t : Sheet). p t ≡ false) s ss all)
-    ∙ last-found p ss new (All-tail (λ (t : Sheet). p t ≡ false) s ss all) on
 
 -- the register of a whole replay stands in order
 in-order : (book : Book) → AreInOrder (replay book).register

@@ -13,12 +13,6 @@ use Rattle.register_machine.specs.replay.Replay.{all_in_turn, in_turn}
 
 -- ---- filters
 
-pub filter-alike : {X : Type 0} (p q : X → Bool) → ((x : X) → p x ≡ q x) → (xs : List X) → filter p xs ≡ filter q xs
-filter-alike p q alike [] = refl
-filter-alike p q alike (x ∷ xs) =
-    ap (λ is. cond is (x ∷ filter p xs) (filter p xs)) (alike x)
-    ∙ ap (λ rest. cond (q x) (x ∷ rest) rest) (filter-alike p q alike xs)
-
 -- what passes neither
 filter-apart : {X : Type 0} (p q : X → Bool) → ((x : X) → q x ≡ true → p x ≡ false) → (xs : List X) → filter q (filter p xs) ≡ []
 filter-apart p q apart [] = refl
@@ -47,10 +41,10 @@ sorted-first n x xs sorted k d short = sorted 0 k d (omega arith) short
 no-cons : {X : Type 0} {x : X} {xs : List X} → x ∷ xs ≡ [] → ⊥
 no-cons e = cc
 
-head-same : {X : Type 0} {x y : X} {xs ys : List X} → x ∷ xs ≡ y ∷ ys → x ≡ y
+pub head-same : {X : Type 0} {x y : X} {xs ys : List X} → x ∷ xs ≡ y ∷ ys → x ≡ y
 head-same e = cc
 
-tail-same : {X : Type 0} {x y : X} {xs ys : List X} → x ∷ xs ≡ y ∷ ys → xs ≡ ys
+pub tail-same : {X : Type 0} {x y : X} {xs ys : List X} → x ∷ xs ≡ y ∷ ys → xs ≡ ys
 tail-same e = cc
 
 at-own : {X : Type 0} (n : X → ℕ) (x : X) (xs : List X) → filter (λ y. n y == n x) (x ∷ xs) ≡ x ∷ filter (λ y. n y == n x) xs

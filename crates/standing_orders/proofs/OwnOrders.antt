@@ -2,7 +2,7 @@
 use Rattle.std.proofs.Common.{All, Bool, List, None, Option, Some, [], ap, append_assoc, cond, false, filter, is_some, length, length-append, map, option_map, option_to_list, refl, subst, sym, true, arith, ℕ, ◌&&◌, ◌++◌, ◌+◌, ◌==◌, ◌∙◌, ◌∷◌, ◌≡◌}
 use Rattle.std.proofs.lemmas.Bool.{and_parts, eqb-true, true≢false}
 use Rattle.std.proofs.lemmas.List.{map-append}
-use Rattle.std.proofs.lemmas.List.Elements.{All-append, All-cons, All-nil, filter-append}
+use Rattle.std.proofs.lemmas.List.Elements.{All-append, All-cons, All-nil, filter-append, filter_agree}
 use Rattle.std.proofs.lemmas.List.Sorted.{All-permutation}
 use Rattle.std.specs.List.{cons_option, filter_map, slice_get}
 use Rattle.std.specs.List.Sorted.{IsPermutation}
@@ -17,7 +17,7 @@ use Rattle.forward_price.specs.declared.price_sheet.Sheet.{Sheet}
 use Rattle.order_book.proofs.Places.{got-behind}
 use Rattle.order_book.proofs.TrialRows.{standing-by-row}
 use Rattle.order_book.specs.Trials.{TrialFits, row_after, row_begun, row_on_trial}
-use Rattle.register_laws.proofs.ListParts.{filter-map, filter-swap, filter-within}
+use Rattle.register_laws.proofs.ListParts.{filter-known, filter-map, filter-swap, filter-within}
 use Rattle.register_laws.specs.Households.{is_of_household, is_own_row}
 use Rattle.register_laws.specs.OneEventMore.{replaced_by, struck_by}
 use Rattle.register_machine.specs.journal.Choices.{when}
@@ -25,8 +25,8 @@ use Rattle.register_machine.specs.journal.Journals.{Journal}
 use Rattle.register_machine.specs.journal.Kinds.{accounts_of, household_of}
 use Rattle.register_machine.specs.pricing.CorrectedOrders.{is_named, orders_of, replaces, stands}
 use Rattle.register_machine.specs.replay.Replay.{all_in_turn, is_priced_on, orders_on, priced_in, priced_orders}
-use Rattle.standing_orders.proofs.InTurn.{filter-alike, turns-filter}
-use Rattle.standing_orders.proofs.PricedOrders.{filter-both, filter-known, found-all, mapped-found, orders-standing, under-number}
+use Rattle.standing_orders.proofs.InTurn.{turns-filter}
+use Rattle.standing_orders.proofs.PricedOrders.{filter-both, found-all, mapped-found, orders-standing, under-number}
 use Rattle.standing_orders.specs.Entries.{is_under, numbered_at, numbered_begun, numbered_on, order_of, row_of, rows_of}
 use Rattle.household_replay.specs.Replays.{NumberedOrder}
 use Rattle.standing_orders.proofs.LateOrders.{late-gathered}
@@ -90,7 +90,7 @@ account-struck named row = elim (is_named named.0 named.1 row.order) as (λ b. (
   | false ↦ refl
 ]
 
-account-replaced : (form : EntryForm) (row : OrderRow) → (replaced_by form row).order.account ≡ row.order.account
+pub account-replaced : (form : EntryForm) (row : OrderRow) → (replaced_by form row).order.account ≡ row.order.account
 account-replaced form row = elim (replaces row.order form) as (λ b. replaces row.order form ≡ b → (cond b (let r : OrderRow = record { place = row.place; receipt = form.receipt; struck = row.struck; order = form.order } in r) row).order.account ≡ row.order.account) [
   | true ↦ λ t. eqb-true form.order.account row.order.account (and_parts (form.order.account == row.order.account) (form.order.ref_no == row.order.ref_no) t).0
   | false ↦ λ t. refl
@@ -163,7 +163,7 @@ module _ (sheets : List Sheet) (accounts : List AccountForm) (household : ℕ) (
       ∙ (mapped-found row_of (λ row. numbered_on sheets (row_on_trial trial row)) (λ row. when (passes_on sheets (row_on_trial trial row)) (row_on_trial trial row)) (λ row. row-numbered sheets (row_on_trial trial row)) (filter own_row rows)
       ∙ (changed-rows (row_on_trial trial) (passes_on sheets) (filter own_row rows)
       ∙ ap (filter (passes_on sheets))
-      (ap (map (row_on_trial trial)) (filter-alike own_row (λ row. own_row (row_on_trial trial row)) own-on-trial rows)
+      (ap (map (row_on_trial trial)) (filter_agree own_row (λ row. own_row (row_on_trial trial row)) own-on-trial rows)
       ∙ sym (filter-map own_row (row_on_trial trial) rows))))
 
 row-begun-own : (sheets : List Sheet) (accounts : List AccountForm) (household : ℕ) (begun : Option OrderRow) → rows_of (option_to_list (numbered_begun sheets accounts household begun)) ≡ filter (passes_on sheets) (filter (is_own_row (is_of_household accounts household)) (option_to_list begun))

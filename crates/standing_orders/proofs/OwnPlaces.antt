@@ -1,30 +1,18 @@
 -- The places of a household's orders, from the last one back.
-use Rattle.std.proofs.Common.{All, Bool, List, None, Option, Some, [], ap, append-nil, append_assoc, arith, cond, false, length, length-take, map, nat_le, refl, reverse, subst, suc, sym, take, true, zero, ℕ, ◌++◌, ◌+◌, ◌<◌, ◌∙◌, ◌∷◌, ◌≡◌}
+use Rattle.std.proofs.Common.{All, Bool, List, None, Option, Some, [], ap, append-nil, append_assoc, arith, cond, false, length, length-take, map, nat_le, refl, reverse, subst, suc, sym, take, true, ℕ, ◌++◌, ◌+◌, ◌<◌, ◌∙◌, ◌∷◌, ◌≡◌}
 use Rattle.std.proofs.lemmas.Bool.{eqb-true, leb-false, lt-leb}
 use Rattle.std.proofs.lemmas.List.Elements.{All-cons, All-nil, All-push, All-weaker, filter-append}
 use Rattle.std.proofs.lemmas.List.{map-append, reverse-append}
+use Rattle.std.proofs.Math.Seq.{take-length}
 use Rattle.std.specs.List.{slice_get}
 use Rattle.std.specs.Option.{option_map_or, option_or}
 use Rattle.std.specs.Prelude.{option_map}
-use Rattle.order_book.proofs.ChainWalk.{some-last}
+use Rattle.order_book.proofs.ChainWalk.{got-within, shifted, some-last, took-within}
 use Rattle.order_book.specs.LastPlaces.{last_place, last_place_from}
 use Rattle.register_laws.proofs.ListParts.{filter-none}
 use Rattle.register_machine.specs.journal.Choices.{when}
 use Rattle.standing_orders.specs.Places.{not_before, places_from, places_where, unless_before}
 use Rattle.standing_orders.specs.Rows.{is_owner}
-
-pub last-shifted : {X : Type 0} (test : X → Bool) (place : ℕ) (xs : List X) → last_place_from (place + 1) test xs ≡ option_map suc (last_place_from place test xs)
-last-shifted test place [] = refl
-last-shifted {X} test place (x ∷ xs) =
-    ap (λ (found : Option ℕ). option_or found (when (test x) (place + 1))) (last-shifted test (place + 1) xs) ∙ by_parts (last_place_from (place + 1) test xs) (test x)
-  where
-    at : place + 1 ≡ suc place
-    at = omega arith
-
-    by_parts : (found : Option ℕ) (is : Bool) → option_or (option_map suc found) (when is (place + 1)) ≡ option_map suc (option_or found (when is place))
-    by_parts (Some n) is = refl
-    by_parts None true = ap Some at
-    by_parts None false = refl
 
 places-shifted : {X : Type 0} (test : X → Bool) (place : ℕ) (xs : List X) → places_from (place + 1) test xs ≡ map suc (places_from place test xs)
 places-shifted test place [] = refl
@@ -41,7 +29,7 @@ places-shifted {X} test place (x ∷ xs) =
 pub last-none : {X : Type 0} (test : X → Bool) (xs : List X) → last_place test xs ≡ None → places_where test xs ≡ []
 last-none test [] none = refl
 last-none {X} test (x ∷ xs) none =
-    by_found (last_place_from 0 test xs) refl (test x) (ap (λ (found : Option ℕ). option_or found (when (test x) 0)) (sym (last-shifted test 0 xs)) ∙ none) (last-none test xs)
+    by_found (last_place_from 0 test xs) refl (test x) (ap (λ (found : Option ℕ). option_or found (when (test x) 0)) (sym (shifted test 0 xs)) ∙ none) (last-none test xs)
   where
     by_found : (found : Option ℕ) → last_place_from 0 test xs ≡ found → (is : Bool) → option_or (option_map suc found) (when is 0) ≡ None → (last_place test xs ≡ None → places_where test xs ≡ []) → cond is (0 ∷ []) [] ++ places_from 1 test xs ≡ []
     by_found (Some n) found_is is e rest = cc
@@ -51,7 +39,7 @@ last-none {X} test (x ∷ xs) none =
 pub last-split : {X : Type 0} (test : X → Bool) (xs : List X) (n : ℕ) → last_place test xs ≡ Some n → places_where test xs ≡ places_where test (take n xs) ++ n ∷ []
 last-split test [] n is = cc
 last-split {X} test (x ∷ xs) n is =
-    by_found (last_place_from 0 test xs) refl (test x) refl (ap (λ (found : Option ℕ). option_or found (when (test x) 0)) (sym (last-shifted test 0 xs)) ∙ is) (last-split test xs)
+    by_found (last_place_from 0 test xs) refl (test x) refl (ap (λ (found : Option ℕ). option_or found (when (test x) 0)) (sym (shifted test 0 xs)) ∙ is) (last-split test xs)
   where
     by_found : (found : Option ℕ) → last_place_from 0 test xs ≡ found → (own : Bool) → test x ≡ own → option_or (option_map suc found) (when own 0) ≡ Some n → ((m : ℕ) → last_place test xs ≡ Some m → places_where test xs ≡ places_where test (take m xs) ++ m ∷ []) → places_where test (x ∷ xs) ≡ places_where test (take n (x ∷ xs)) ++ n ∷ []
     by_found (Some m) found_is own own_is e rest =
@@ -130,27 +118,11 @@ pub record HasWalked (first : ℕ) (household_test : ℕ → Bool) (owners place
   pub last : at ≡ unless_before first (last_place household_test (take bound owners))
   pub rest : not_before first (places_where household_test owners) ≡ not_before first (places_where household_test (take bound owners)) ++ reverse places
 
-pub got-within : {X : Type 0} (bound : ℕ) (xs : List X) (n : ℕ) (x : X) → slice_get (take bound xs) n ≡ Some x → slice_get xs n ≡ Some x
-got-within zero xs n x is = cc
-got-within (suc bound) [] n x is = cc
-got-within (suc bound) (y ∷ xs) zero x is = is
-got-within (suc bound) (y ∷ xs) (suc n) x is = got-within bound xs n x is
-
-took-within : {X : Type 0} (bound : ℕ) (xs : List X) (n : ℕ) → n < length (take bound xs) → take n (take bound xs) ≡ take n xs
-took-within zero xs n within = absurd (omega arith)
-took-within (suc bound) [] n within = absurd (omega arith)
-took-within (suc bound) (y ∷ xs) zero within = refl
-took-within (suc bound) (y ∷ xs) (suc n) within = ap (λ later. y ∷ later) (took-within bound xs n (omega arith))
-
-whole : {X : Type 0} (ys : List X) → take (length ys) ys ≡ ys
-whole [] = refl
-whole (y ∷ ys) = ap (λ later. y ∷ later) (whole ys)
-
 pub begins-walk : (first : ℕ) (test : ℕ → Bool) (owners : List ℕ) (at : Option ℕ) → at ≡ unless_before first (last_place test owners) → HasWalked first test owners [] at
 begins-walk first test owners at is = record {
   bound = length owners;
-  last = is ∙ ap (λ all. unless_before first (last_place test all)) (sym (whole owners));
-  rest = ap (λ all. not_before first (places_where test all)) (sym (whole owners)) ∙ sym (append-nil (not_before first (places_where test (take (length owners) owners))));
+  last = is ∙ ap (λ all. unless_before first (last_place test all)) (sym (take-length owners));
+  rest = ap (λ all. not_before first (places_where test all)) (sym (take-length owners)) ∙ sym (append-nil (not_before first (places_where test (take (length owners) owners))));
 }
 
 pub ends-walk : (first : ℕ) (test : ℕ → Bool) (owners places : List ℕ) → HasWalked first test owners places None → reverse places ≡ not_before first (places_where test owners)

@@ -1,6 +1,6 @@
 -- The orders of a sheet by household: what is gathered, sorted and written is what the corrected book has.
 use Rattle.std.proofs.Common.{All, Bool, List, None, Option, Some, [], ap, cond, false, filter, map, option_map, refl, subst, suc, sym, true, zero, ℕ, ◌&&◌, ◌==◌, ◌∙◌, ◌∷◌, ◌≡◌, ◌||◌}
-use Rattle.std.proofs.lemmas.List.Elements.{All-cons, All-head, All-nil, All-tail}
+use Rattle.std.proofs.lemmas.List.Elements.{All-cons, All-nil}
 use Rattle.std.proofs.lemmas.List.Sorted.{All-permutation}
 use Rattle.std.specs.List.{cons_option, filter_map, slice_get}
 use Rattle.std.specs.List.Sorted.{IsPermutation}
@@ -10,7 +10,7 @@ use Rattle.agent_events.specs.declared.order.OrderRow.{OrderRow}
 use Rattle.agent_events.specs.declared.request.AccountForm.{AccountForm}
 use Rattle.forward_price.specs.declared.price_sheet.Sheet.{Sheet}
 use Rattle.register_laws.proofs.Comparisons.{eq-yes}
-use Rattle.register_laws.proofs.ListParts.{filter-map}
+use Rattle.register_laws.proofs.ListParts.{filter-known, filter-map}
 use Rattle.register_laws.specs.Households.{is_of_household, is_own_row}
 use Rattle.register_machine.specs.journal.Choices.{when}
 use Rattle.register_machine.specs.journal.Kinds.{household_of}
@@ -30,12 +30,6 @@ use Rattle.standing_orders.specs.declared.entries.NumberedRow.{NumberedRow}
 pub map-twice : {X Y Z : Type 0} (f : X → Y) (g : Y → Z) (xs : List X) → map g (map f xs) ≡ map (λ x. g (f x)) xs
 map-twice f g [] = refl
 map-twice f g (x ∷ xs) = ap (λ rest. g (f x) ∷ rest) (map-twice f g xs)
-
-pub filter-known : {X : Type 0} (p q : X → Bool) (xs : List X) → All (λ x. p x ≡ q x) xs → filter p xs ≡ filter q xs
-filter-known p q [] all = refl
-filter-known p q (x ∷ xs) all =
-    ap (λ is. cond is (x ∷ filter p xs) (filter p xs)) (All-head (λ y. p y ≡ q y) x xs all)
-    ∙ ap (λ rest. cond (q x) (x ∷ rest) rest) (filter-known p q xs (All-tail (λ y. p y ≡ q y) x xs all))
 
 pub filter-both : {X : Type 0} (p q : X → Bool) (xs : List X) → filter q (filter p xs) ≡ filter (λ x. p x && q x) xs
 filter-both p q [] = refl

@@ -3,6 +3,7 @@ use Rattle.std.proofs.Common.{Bool, List, ap, arith, cond, false, filter, get_or
 use Rattle.std.proofs.lemmas.Bool.{cases_lt}
 use Rattle.std.proofs.lemmas.List.{get_or-map, length-map}
 use Rattle.std.proofs.lemmas.List.Sorted.{IsNonDecreasingBy-from_sort}
+use Rattle.std.proofs.lemmas.List.Elements.{filter_agree}
 use Rattle.std.specs.List.Sorted.{IsNonDecreasingBy, IsSortedByKey, IsStableByKey, ties}
 use Rattle.std.specs.Ordering.{is_lt, nat_cmp}
 use Rattle.std.specs.declared.cmp.Ordering.TheVariants.{Equal, Greater, Less}
@@ -11,7 +12,7 @@ use Rattle.agent_events.specs.declared.order.OrderRow.{OrderRow}
 use Rattle.register_laws.proofs.Comparisons.{eq-no, eq-yes, lt-no, lt-yes}
 use Rattle.register_laws.proofs.ListParts.{filter-map}
 use Rattle.register_machine.specs.replay.Replay.{all_in_turn}
-use Rattle.standing_orders.proofs.InTurn.{are-in-turn, filter-alike, received_at}
+use Rattle.standing_orders.proofs.InTurn.{are-in-turn, received_at}
 use Rattle.standing_orders.specs.Entries.{is_under, order_of, row_of, rows_of}
 use Rattle.household_replay.specs.Replays.{NumberedOrder}
 use Rattle.standing_orders.specs.declared.entries.NumberedRow.{NumberedRow}
@@ -47,9 +48,9 @@ tie-at key x y =
 
 pub stable-at : {X : Type 0} (key : X → ℕ) (xs ys : List X) → IsStableByKey key nat_cmp xs ys → (x : X) → filter (λ y. key y == key x) ys ≡ filter (λ y. key y == key x) xs
 stable-at key xs ys stable x =
-    sym (filter-alike (ties (λ a b. is_lt (nat_cmp (key a) (key b))) x) (λ y. key y == key x) (tie-at key x) ys)
+    sym (filter_agree (ties (λ a b. is_lt (nat_cmp (key a) (key b))) x) (λ y. key y == key x) (tie-at key x) ys)
     ∙ (stable x
-    ∙ filter-alike (ties (λ a b. is_lt (nat_cmp (key a) (key b))) x) (λ y. key y == key x) (tie-at key x) xs)
+    ∙ filter_agree (ties (λ a b. is_lt (nat_cmp (key a) (key b))) x) (λ y. key y == key x) (tie-at key x) xs)
 
 -- ---- by receipt
 

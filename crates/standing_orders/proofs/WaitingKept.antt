@@ -8,6 +8,7 @@ use Rattle.agent_events.specs.declared.order.OrderRow.{OrderRow}
 use Rattle.agent_events.specs.declared.request.AccountForm.{AccountForm}
 use Rattle.register_laws.proofs.Comparisons.{eq-yes}
 use Rattle.register_machine.specs.journal.Kinds.{account_numbered, household_of}
+use Rattle.standing_orders.proofs.InTurn.{head-same, tail-same}
 use Rattle.standing_orders.proofs.PricedOrders.{or-first, or-second}
 use Rattle.standing_orders.specs.Places.{is_among, passes_at, with_place}
 use Rattle.standing_orders.specs.WaitingLaws.{AnotherWaits, OneMoreOwned, OneMoreWaits, OthersLeave, OwnedWhenChanged, OwnedWithAccount, StillWaits}
@@ -42,12 +43,6 @@ household-still accounts form number household is = by_found (account_numbered a
     by_found None e h = absurd (none-some h)
     by_found (Some account) e h = ap (option_map (λ (a : AccountForm). a.household)) (found-still (λ (a : AccountForm). a.account == number) accounts form account e) ∙ h
 
-heads-same : {X : Type 0} {x y : X} {xs ys : List X} → x ∷ xs ≡ y ∷ ys → x ≡ y
-heads-same h = cc
-
-tails-same : {X : Type 0} {x y : X} {xs ys : List X} → x ∷ xs ≡ y ∷ ys → xs ≡ ys
-tails-same h = cc
-
 pub owned_with_account : (accounts : List AccountForm) (rows : List OrderRow) (owners : List ℕ) (form : AccountForm) → OwnedWithAccount accounts rows owners form
 owned_with_account accounts [] owners form are = are
 owned_with_account accounts (row ∷ rows) [] form are = absurd (too-few are)
@@ -55,8 +50,8 @@ owned_with_account accounts (row ∷ rows) [] form are = absurd (too-few are)
     too-few : household_of accounts row.order.account ∷ map (λ (r : OrderRow). household_of accounts r.order.account) rows ≡ [] → ⊥
     too-few h = cc
 owned_with_account accounts (row ∷ rows) (owner ∷ owners) form are =
-    ap (λ (one : Option ℕ). one ∷ map (λ (r : OrderRow). household_of (accounts ++ form ∷ []) r.order.account) rows) (household-still accounts form row.order.account owner (heads-same are))
-    ∙ ap (λ later. Some owner ∷ later) (owned_with_account accounts rows owners form (tails-same are))
+    ap (λ (one : Option ℕ). one ∷ map (λ (r : OrderRow). household_of (accounts ++ form ∷ []) r.order.account) rows) (household-still accounts form row.order.account owner (head-same are))
+    ∙ ap (λ later. Some owner ∷ later) (owned_with_account accounts rows owners form (tail-same are))
 
 kept-accounts : (accounts : List AccountForm) (change : OrderRow → OrderRow) → ((row : OrderRow) → (change row).order.account ≡ row.order.account) → (rows : List OrderRow) → map (λ (r : OrderRow). household_of accounts r.order.account) (map change rows) ≡ map (λ (r : OrderRow). household_of accounts r.order.account) rows
 kept-accounts accounts change same [] = refl

@@ -5,7 +5,7 @@ ghost use Rattle.std.specs.Set.{is_member};
 ghost use Rattle.register_machine.specs.pricing.OrderClasses.{classes_in};
 ghost use Rattle.standing_orders.specs.ClassHouseholds.{is_listed, listed_under};
 
-use crate::row_sheet::{class_of, target_of};
+use crate::row_sheet::{class_number, target_number};
 use agent_events::Body;
 use money_units::NoMemory;
 use std::alloc::Global;
@@ -101,8 +101,8 @@ impl ClassHouseholds {
         ensures kept { (class other : ℕ) → is_listed self.old class other ≡ true
             → is_listed self.new class other ≡ true }
     {
-        put(alloc, &mut self.by_class, class_of(body), household)?;
-        match target_of(body) {
+        put(alloc, &mut self.by_class, class_number(body), household)?;
+        match target_number(body) {
             Some(class) => put(alloc, &mut self.by_class, class, household),
             None => Ok(()),
         }

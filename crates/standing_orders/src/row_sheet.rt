@@ -9,13 +9,14 @@ ghost use Rattle.standing_orders.specs.Rows.{could_price, is_taken, sheet_number
 use agent_events::{Body, OrderRow};
 use forward_price::{PriceBook, Sheet};
 use money_units::{Moment, Nav};
+use register_machine::{class_of, target_of};
 
 /// The number of the sheet that prices an order; `None` exactly while it is pending.
 pub(crate) fn sheet_number(prices: &PriceBook, row: &OrderRow) -> Option<u32>
     ensures { result ≡ sheet_number prices.now.table.sheets row.now }
 {
-    let class = class_of(&row.order.body);
-    match target_of(&row.order.body) {
+    let class = class_number(&row.order.body);
+    match target_number(&row.order.body) {
         Some(to) => sheet_after(prices, &[class, to], row.receipt),
         None => sheet_after(prices, &[class], row.receipt),
     }
@@ -35,30 +36,20 @@ pub(crate) fn row_waits(prices: &PriceBook, row: &OrderRow) -> bool
     !row.struck && sheet_number(prices, row).is_none()
 }
 
-/// The class of an order.
-pub(crate) fn class_of(body: &Body) -> u32
+/// The number of an order's class.
+pub(crate) fn class_number(body: &Body) -> u32
     ensures { result ≡ class_of body.now }
 {
-    match body {
-        Body::Buy { class, .. } => class.number(),
-        Body::Sell { class, .. } => class.number(),
-        Body::SellCash { class, .. } => class.number(),
-        Body::SellAll { class } => class.number(),
-        Body::Exchange { class, .. } => class.number(),
-        Body::ExchangeAll { class, .. } => class.number(),
-        Body::Letter { class, .. } => class.number(),
-        Body::Elect { class, .. } => class.number(),
-    }
+    class_of(body).number()
 }
 
-/// The class that an exchange goes to.
-pub(crate) fn target_of(body: &Body) -> Option<u32>
+/// The number of the class that an exchange goes to.
+pub(crate) fn target_number(body: &Body) -> Option<u32>
     ensures { result ≡ target_of body.now }
 {
-    match body {
-        Body::Exchange { to, .. } => Some(to.number()),
-        Body::ExchangeAll { to, .. } => Some(to.number()),
-        _ => None,
+    match target_of(body) {
+        Some(to) => Some(to.number()),
+        None => None,
     }
 }
 
@@ -96,9 +87,9 @@ fn lists_classes(sheet: &Sheet, body: &Body) -> bool
     ensures { result ≡ lists_all sheet.now.prices (classes_in body.now) }
 {
     let prices = sheet.prices.as_slice();
-    match target_of(body) {
-        Some(to) => lists_class(prices, class_of(body)) && lists_class(prices, to),
-        None => lists_class(prices, class_of(body)),
+    match target_number(body) {
+        Some(to) => lists_class(prices, class_number(body)) && lists_class(prices, to),
+        None => lists_class(prices, class_number(body)),
     }
 }
 

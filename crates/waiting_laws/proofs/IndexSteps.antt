@@ -14,6 +14,7 @@ use Rattle.agent_events.specs.declared.request.AccountForm.{AccountForm}
 use Rattle.agent_events.specs.declared.request.EntryForm.{EntryForm}
 use Rattle.agent_events.specs.declared.request.FixPriceForm.{FixPriceForm}
 use Rattle.agent_events.specs.declared.request.SheetForm.{SheetForm}
+use Rattle.event_laws.proofs.FirstBroken.{within-list}
 use Rattle.event_laws.proofs.OrdersWait.{order_waits}
 use Rattle.event_laws.specs.EventReplays.{sheet_behind}
 use Rattle.forward_price.specs.Choices.{best_so_far, found_or_better}
@@ -34,6 +35,7 @@ use Rattle.register_machine.specs.pricing.CorrectedOrders.{is_named, orders_of, 
 use Rattle.register_machine.specs.pricing.CorrectedPrices.{sheet_as_corrected}
 use Rattle.register_machine.specs.pricing.OrderClasses.{classes_in}
 use Rattle.register_machine.specs.replay.Replay.{Priced}
+use Rattle.standing_orders.proofs.OwnOrders.{account-replaced}
 use Rattle.standing_orders.proofs.PricedLast.{all_left_wait, last_leaves}
 use Rattle.standing_orders.proofs.RisingPlaces.{rises-behind, rises-filter, rises-with}
 use Rattle.standing_orders.proofs.WaitingKept.{another_waits, one_more_owned, one_more_waits, others_leave, owned_when_changed, owned_with_account, still_waits}
@@ -51,7 +53,7 @@ pub record Keeps (accounts : List AccountForm) (sheets : List Sheet) (rows : Lis
 none-some : {X : Type 0} {x : X} → None ≡ Some x → ⊥
 none-some e = cc
 
-some-same : {X : Type 0} {x y : X} → Some x ≡ Some y → x ≡ y
+pub some-same : {X : Type 0} {x y : X} → Some x ≡ Some y → x ≡ y
 some-same e = cc
 
 -- ---- an event behind a lawful journal
@@ -198,11 +200,6 @@ got-more (y ∷ xs) x found (suc k) is = elim (got-more xs x found k is) [
   | inr e ↦ inr (ap suc e.0, e.1)
 ]
 
-pub got-within : {X : Type 0} (xs : List X) (k : ℕ) (x : X) → slice_get xs k ≡ Some x → k < length xs
-got-within [] k x e = absurd (none-some e)
-got-within (y ∷ ys) zero x e = omega arith
-got-within (y ∷ ys) (suc k) x e = let rest = got-within ys k x e in omega (arith, rest)
-
 among-before : (places : List ℕ) (last k : ℕ) → k < last → is_among (places ++ last ∷ []) k ≡ true → is_among places k ≡ true
 among-before [] last k less is = absurd (true≢false (sym is ∙ ap (λ b. b || false) (eq-no k last (λ same. omega (arith, less, same)))))
 among-before (place ∷ places) last k less is = by (k == place) is (among-before places last k less)
@@ -243,7 +240,7 @@ keeps-placed journal event placed household owners waiting lawful kind own is = 
     all : AllWait (sheets_of journal) (rows ++ row ∷ []) (waiting ++ length owners ∷ [])
     all place found there among on = elim (got-more rows row found place there) [
       | inl before ↦
-          let less = got-within rows place found before in
+          let less = within-list rows place found before in
           is.all_wait place found before (among-before waiting (length owners) place (omega (arith, less, many)) among) on
       | inr last ↦ subst (λ r. waits (sheets_of journal) r ≡ true) last.1 new-waits
     ]
@@ -306,14 +303,6 @@ named-alike row form e =
     (eq-yes row.order.account form.order.account (sym (eqb-true form.order.account row.order.account both.0)))
     (eq-yes row.order.ref_no form.order.ref_no (sym (eqb-true form.order.ref_no row.order.ref_no both.1)))
 
--- a replacement has the account of its order
-pub same-account : (form : EntryForm) (other : OrderRow) → (replaced_by form other).order.account ≡ other.order.account
-same-account form other = by (replaces other.order form) refl
-  where
-    by : (b : Bool) → replaces other.order form ≡ b → (cond b (record { place = other.place; receipt = form.receipt; struck = other.struck; order = form.order }) other).order.account ≡ other.order.account
-    by true e = eqb-true form.order.account other.order.account (and_parts (form.order.account == other.order.account) (form.order.ref_no == other.order.ref_no) e).0
-    by false e = refl
-
 -- and leaves every other order
 pub others-stay : (journal : Journal) (event : Event) (form : EntryForm) (place : ℕ) → IsLawful (with_event journal event) → (row : OrderRow) → slice_get (orders_of journal) place ≡ Some row → replaces row.order form ≡ true → (k : ℕ) → k ≢ place → slice_get (map (replaced_by form) (orders_of journal)) k ≡ slice_get (orders_of journal) k
 others-stay journal event form place lawful row there named k apart = got-under (replaced_by form) rows k ∙ by (slice_get rows k) refl
@@ -333,10 +322,10 @@ others-stay journal event form place lawful row there named k apart = got-under 
 pub replaces_order : (journal : Journal) (event : Event) (form : EntryForm) (place : ℕ) (owners waiting : List ℕ) → LawfulReplacesOrder journal event form place owners waiting
 replaces_order journal event form place owners waiting lawful kind row there named is =
     let rows = orders_of journal in
-    let less = got-within rows place row there in
+    let less = within-list rows place row there in
     let many = as-many (accounts_of journal) rows owners is.owned in
     left-behind journal event lawful (EventKind.Replace form) kind owners (with_place place waiting)
-    (owned-still (accounts_of journal) (map (replaced_by form) rows) owners (owned_when_changed (accounts_of journal) rows owners (replaced_by form) (same-account form) is.owned))
+    (owned-still (accounts_of journal) (map (replaced_by form) rows) owners (owned_when_changed (accounts_of journal) rows owners (replaced_by form) (account-replaced form) is.owned))
     (rises-with place 0 (length owners) waiting (omega arith) (omega (arith, less, many)) is.within)
     (another_waits (waits (sheets_of journal)) rows (map (replaced_by form) rows) waiting place (others-stay journal event form place lawful row there named) is.enough)
 
@@ -369,7 +358,7 @@ waited-before sheets new row is =
     and_from (stands row) (is_none (sheet_number sheets row)) both.0 (none-before sheets new row both.1)
 
 -- a sheet behind the others is found by its number
-last-found : (p : Sheet → Bool) (sheets : List Sheet) (new : Sheet) → All (λ (s : Sheet). p s ≡ false) sheets → p new ≡ true → find p (sheets ++ new ∷ []) ≡ Some new
+pub last-found : (p : Sheet → Bool) (sheets : List Sheet) (new : Sheet) → All (λ (s : Sheet). p s ≡ false) sheets → p new ≡ true → find p (sheets ++ new ∷ []) ≡ Some new
 last-found p [] new all on = ap (λ b. cond b (Some new) None) on
 last-found p (s ∷ ss) new all on =
     ap (λ b. cond b (Some s) (find p (ss ++ new ∷ []))) (All-head (λ (t : Sheet). p t ≡ false) s ss all)

@@ -39,15 +39,12 @@ use Rattle.register_machine.specs.pricing.OrderClasses.{classes_in}
 use Rattle.standing_orders.proofs.PricedLast.{settled_more}
 use Rattle.standing_orders.specs.Places.{RisesWithin, is_among}
 use Rattle.standing_orders.specs.Rows.{is_settled, sheet_number, waits}
-use Rattle.waiting_laws.proofs.IndexSteps.{got-more, got-under, number-fixed, as-many}
+use Rattle.waiting_laws.proofs.IndexSteps.{as-many, got-more, got-under, number-fixed, some-same}
 use Rattle.waiting_laws.specs.IndexOfJournals.{IsIndexOf, sheets_of}
 use Rattle.waiting_laws.specs.SettledOrders.{AreSettled, CorrectionLeavesSettled, LawfulLeavesSettled, ReplacesNone, first_waiting, SettledBeforeWaiting}
 
 none-some : {X : Type 0} {x : X} → None ≡ Some x → ⊥
 none-some e = cc
-
-some-same : {X : Type 0} {x y : X} → Some x ≡ Some y → x ≡ y
-some-same e = cc
 
 -- ---- a book with one event more, by what the event does to it
 

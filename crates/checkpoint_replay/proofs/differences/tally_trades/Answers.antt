@@ -1,6 +1,6 @@
 use Rattle.agent_events.specs.declared.trade.Trade.{Trade}
 use Rattle.checkpoint_replay.proofs.CommonFront.{net-behind_front}
-use Rattle.checkpoint_replay.proofs.TalliedLaw.{cash-additive, mils-additive}
+use Rattle.checkpoint_replay.proofs.FlowsOfMoves.{cash-additive, mils-additive}
 use Rattle.checkpoint_replay.specs.Differences.{trades_cash}
 use Rattle.gain_loss_book.specs.Movements.{trades_mils}
 use Rattle.gain_loss_book.specs.Tallies.{cash_tallied, mils_tallied}

@@ -1,9 +1,10 @@
 use Rattle.std.proofs.Common.{[], append-nil, subst, sym, ◌∙◌}
 use Rattle.std.specs.Prelude.{Bool}
-use Rattle.connection_service.proofs.AnswerFacts.{goes-none, goes-then, grown-then}
+use Rattle.connection_service.proofs.AnswerFacts.{goes-then, grown-then}
 use Rattle.connection_service.proofs.in_turn.serve_connections.Goals as goal
 use Rattle.connection_service.specs.InTurn.{InTurn, ServesNext, door_at}
 use Rattle.connection_service.specs.Serving.{at_of}
+use Rattle.register_desk.proofs.RowByRow.{goes_none}
 
 pub loop-init : goal.loop-init
 loop-init g c = record {
@@ -13,7 +14,7 @@ loop-init g c = record {
   told = c.requires.told;
   attached = c.requires.attached;
   was_honest = λ honest. honest;
-  goes_on = goes-none g.K.Keeper.moment g.K.Keeper.gave c.args.keeper.now;
+  goes_on = goes_none g.K.Keeper.moment g.K.Keeper.gave c.args.keeper.now;
   door = λ _. g.D.Door.door_faults c.args.door.now;
 }
 

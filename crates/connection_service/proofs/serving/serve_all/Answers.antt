@@ -1,10 +1,11 @@
 use Rattle.std.proofs.Common.{[], append-nil, subst, sym, ◌∙◌}
-use Rattle.connection_service.proofs.AnswerFacts.{goes-none, goes-then, grown-then}
+use Rattle.connection_service.proofs.AnswerFacts.{goes-then, grown-then}
 use Rattle.connection_service.proofs.GoingFacts.{counts-from, on-counts, on-fewer, on-goes, over-counts, over-goes}
 use Rattle.connection_service.proofs.ServingFacts.{serving-none, within-none}
 use Rattle.connection_service.proofs.serving.serve_all.Goals as goal
 use Rattle.connection_service.specs.Serving.{IsServing, IsWithin, at_of}
 use Rattle.http_stream.specs.Stream.{Stream}
+use Rattle.register_desk.proofs.RowByRow.{goes_none}
 
 pub loop-served-init : goal.loop-served-init
 loop-served-init g c =
@@ -17,7 +18,7 @@ loop-served-init g c =
       told = c.requires.told;
       attached = c.requires.attached;
       was_honest = λ honest. honest;
-      goes_on = goes-none g.K.Keeper.moment g.K.Keeper.gave c.args.keeper.now;
+      goes_on = goes_none g.K.Keeper.moment g.K.Keeper.gave c.args.keeper.now;
       connected = c.requires.connected;
       link = λ _. g.D.Door.link_faults c.args.door.now;
       door = λ _. g.D.Door.door_faults c.args.door.now;

@@ -1,24 +1,13 @@
 use Rattle.std.proofs.Common.{subst, sym}
+use Rattle.desk_books.proofs.RoomMade.{kept_show_the_same}
 use Rattle.correction_trials.specs.Settled.{KeepsStates}
 use Rattle.correction_trials.proofs.StartsServe.{forgotten_stay, kept_behind}
 use Rattle.register_laws.specs.Lawful.{book_behind}
 use Rattle.correction_trials.proofs.trial.try_correction.Goals as goal
 
 pub returns-clause-same : goal.returns-clause-same
-returns-clause-same g c = λ journal are. record {
-  noted = are.noted;
-  lawful = are.lawful;
-  timely = are.timely;
-  prices = are.prices;
-  tables = are.tables;
-  index = are.index;
-  classes = are.classes;
-  ledger = are.ledger;
-  tallied = are.tallied;
-  installs = are.installs;
-  cash = are.cash;
-  kept = forgotten_stay c.in_ok-trial.trial c.args.books.now.kept c.settle.new.kept (book_behind journal) c.settle.ensures.states are.kept;
-}
+returns-clause-same g c = λ journal are.
+    kept_show_the_same journal c.args.books.now c.settle.new.kept (forgotten_stay c.in_ok-trial.trial c.args.books.now.kept c.settle.new.kept (book_behind journal) c.settle.ensures.states) are
 
 pub returns-clause-kept : goal.returns-clause-kept
 returns-clause-kept g c =

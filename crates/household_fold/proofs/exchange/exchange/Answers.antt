@@ -13,10 +13,10 @@ day_by_move-requires-clause-lots c =
     let known = c.args.facts.now in
     let day = c.args.day.now in
     let order = c.args.order.now in
-    let move : Move = record { account = c.number.result; class = c.class_of.result; to = c.args.to; asked = c.args.asked } in
+    let move : Move = record { account = c.number.result; class = c.class_number.result; to = c.args.to; asked = c.args.asked } in
     let moved = c.in_ok-moved.ensures.moved ∙ ap (λ (register : Register). moved_known known register move) c.register.ensures in
     let same = order-move known day order c.args.to c.args.asked move c.order_trade-trade.result c.in_ok-moved.moved
-    (move-by c.number.result order.account c.class_of.result (class_of order.body) c.args.to c.args.asked c.number.ensures.value c.class_of.ensures)
+    (move-by c.number.result order.account c.class_number.result (class_of order.body) c.args.to c.args.asked c.number.ensures.value c.class_number.ensures)
     c.order_trade-trade.ensures moved in
     subst (λ (d : Day). AreNumbersWithin d.register) (sym same) c.requires.lots
 
@@ -25,9 +25,9 @@ returns c =
     let known = c.args.facts.now in
     let day = c.args.day.now in
     let order = c.args.order.now in
-    let move : Move = record { account = c.number.result; class = c.class_of.result; to = c.args.to; asked = c.args.asked } in
+    let move : Move = record { account = c.number.result; class = c.class_number.result; to = c.args.to; asked = c.args.asked } in
     let moved = c.in_ok-moved.ensures.moved ∙ ap (λ (register : Register). moved_known known register move) c.register.ensures in
     c.in_ok-day_by_move.ensures
     ∙ order-move known day order c.args.to c.args.asked move c.order_trade-trade.result c.in_ok-moved.moved
-    (move-by c.number.result order.account c.class_of.result (class_of order.body) c.args.to c.args.asked c.number.ensures.value c.class_of.ensures)
+    (move-by c.number.result order.account c.class_number.result (class_of order.body) c.args.to c.args.asked c.number.ensures.value c.class_number.ensures)
     c.order_trade-trade.ensures moved

@@ -26,7 +26,7 @@ day-is c =
     c.in_ok-close_trade.ensures
     ∙ settled-is book sheet day key letter settled c.take_out.new.self (left c.release.new.self) c.letter_end_trade-trade.result
     (c.take_out.ensures.rest ∙ without-at day _ _ _ _ account class)
-    (ap left (c.release.ensures.released ∙ ap release_all c.pay_held.ensures.paid) ∙ ap (paid_and_released settled.paid) there)
+    (ap left (c.in_ok-release.ensures.released ∙ ap release_all c.in_ok-pay_held.ensures.paid) ∙ ap (paid_and_released settled.paid) there)
     c.letter_end_trade-trade.ensures
     (c.settle-settled.ensures.settlement
     ∙ ap (λ f. settlement f letter c.nav.result c.held-held.result) (c.terms_of.ensures.front ∙ ap (front_of book) class)

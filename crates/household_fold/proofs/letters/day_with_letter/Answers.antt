@@ -24,7 +24,7 @@ begins-is c =
     (c.credit_of-start.ensures.value
     ∙ ap (λ r. credit_of book sheet r c.number-account.result) (c.positions.ensures.positions ∙ c.register.ensures)
     ∙ ap (λ a. credit_of book sheet register a) c.number-account.ensures.value) in
-    let front : rows ≡ front_of book (class_of order.body) = c.terms_of.ensures.front ∙ ap (front_of book) c.class_of-class.ensures in
+    let front : rows ≡ front_of book (class_of order.body) = c.terms_of.ensures.front ∙ ap (front_of book) c.class_number-class.ensures in
     c.begin-letter.ensures.letter
     ∙ ap (λ n. new_letter n c.day.result start rows) c.cents.ensures.value
     ∙ ap (λ d. new_letter c.args.amount.now d start rows) c.day.ensures
@@ -37,7 +37,7 @@ day-is c =
     let day = c.args.day.now in
     let order = c.args.order.now in
     let account = c.number-account.ensures.value in
-    let class = c.class_of-class.ensures in
+    let class = c.class_number-class.ensures in
     let letter = c.begin-letter.result in
     let cash : ℕ → Trade → Trade = λ n t. record t { cash = n } in
     c.in_ok-close_trade.ensures

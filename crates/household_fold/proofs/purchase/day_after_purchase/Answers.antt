@@ -16,7 +16,7 @@ day_by_split-requires-clause-lots c =
     subst P
     (sym (by-split-is c.args.facts.now c.args.day.now c.args.order.now c.args.gross.now (Some c.in-Some.split) c.nav-nav.result c.rate_of_purchase-rate.result
     (sym c.in-Some.is ∙ c.buy_split.ensures.split ∙ ap (λ g. split_of g c.nav-nav.result c.rate_of_purchase-rate.result) c.cents.ensures.value)
-    (c.nav-nav.ensures ∙ ap (nav_of sheet) c.class_of.ensures) c.rate_of_purchase-rate.ensures.rate))
+    (c.nav-nav.ensures ∙ ap (nav_of sheet) c.class_number.ensures) c.rate_of_purchase-rate.ensures.rate))
     c.requires.lots
 
 pub returns-in_ok-day_by_split-in-Some-clause-day : goal.returns-in_ok-day_by_split-in-Some-clause-day
@@ -25,7 +25,7 @@ returns-in_ok-day_by_split-in-Some-clause-day c =
     c.in_ok-day_by_split-in-Some.ensures.day
     ∙ by-split-is c.args.facts.now c.args.day.now c.args.order.now c.args.gross.now (Some c.in-Some.split) c.nav-nav.result c.rate_of_purchase-rate.result
     (sym c.in-Some.is ∙ c.buy_split.ensures.split ∙ ap (λ g. split_of g c.nav-nav.result c.rate_of_purchase-rate.result) c.cents.ensures.value)
-    (c.nav-nav.ensures ∙ ap (nav_of sheet) c.class_of.ensures) c.rate_of_purchase-rate.ensures.rate
+    (c.nav-nav.ensures ∙ ap (nav_of sheet) c.class_number.ensures) c.rate_of_purchase-rate.ensures.rate
 
 pub returns-in_ok-add_unfilled-in-None-clause-day : goal.returns-in_ok-add_unfilled-in-None-clause-day
 returns-in_ok-add_unfilled-in-None-clause-day c =
@@ -34,4 +34,4 @@ returns-in_ok-add_unfilled-in-None-clause-day c =
     ∙ ap (λ (t : Trade). with_trade c.args.day.now (record t { outcome = Outcome.Unfilled Why.TooSmall })) c.order_trade.ensures
     ∙ by-split-is c.args.facts.now c.args.day.now c.args.order.now c.args.gross.now None c.nav-nav.result c.rate_of_purchase-rate.result
     (sym c.in-None.is ∙ c.buy_split.ensures.split ∙ ap (λ g. split_of g c.nav-nav.result c.rate_of_purchase-rate.result) c.cents.ensures.value)
-    (c.nav-nav.ensures ∙ ap (nav_of sheet) c.class_of.ensures) c.rate_of_purchase-rate.ensures.rate
+    (c.nav-nav.ensures ∙ ap (nav_of sheet) c.class_number.ensures) c.rate_of_purchase-rate.ensures.rate

@@ -11,8 +11,8 @@ returns c =
     let day = c.args.day.now in
     let inside = c.position.inside in
     let left : Holding → Position = λ h. record { account = inside.account; class = inside.class; holding = h; in_cash = inside.in_cash; letter = None } in
-    let e = reaching-is sheet day c.number-account.result c.class_of-class.result c.take_out.new.self (left c.release.new.self) c.plain_trade-trade.result
+    let e = reaching-is sheet day c.number-account.result c.class_number-class.result c.take_out.new.self (left c.release.new.self) c.plain_trade-trade.result
     c.take_out.ensures.rest
-    (ap left c.release.ensures.released ∙ ap released (c.position.view_is ∙ c.in_ok-position.ensures.position))
+    (ap left c.in_ok-release.ensures.released ∙ ap released (c.position.view_is ∙ c.in_ok-position.ensures.position))
     c.plain_trade-trade.ensures in
     c.in_ok-close_trade.ensures ∙ e ∙ cc

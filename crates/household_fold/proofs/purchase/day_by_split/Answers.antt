@@ -16,8 +16,8 @@ day_with_purchase-requires-clause-lots c =
     let room : has_room (position_in day order).holding split.mils c.args.gross.now ≡ true =
     (sym
     (c.has_room.ensures
-    ∙ ap (λ r. has_room (position_of r c.number-account.result c.class_of-class.result).holding split.mils c.cents.result) c.register.ensures
-    ∙ ap (λ p. has_room p.holding split.mils c.cents.result) (place-at day.register _ _ _ _ c.number-account.ensures.value c.class_of-class.ensures)
+    ∙ ap (λ r. has_room (position_of r c.number-account.result c.class_number-class.result).holding split.mils c.cents.result) c.register.ensures
+    ∙ ap (λ p. has_room p.holding split.mils c.cents.result) (place-at day.register _ _ _ _ c.number-account.ensures.value c.class_number-class.ensures)
     ∙ ap (has_room (position_in day order).holding split.mils) c.cents.ensures.value)
     ∙ c.if-has_room.true) in
     subst P (with-room c.args.facts.now day order c.args.gross.now split room) c.requires.lots

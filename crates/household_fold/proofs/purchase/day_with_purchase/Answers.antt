@@ -16,13 +16,13 @@ use Rattle.household_fold.proofs.purchase.day_with_purchase.Goals as goal
 pub position_with_lot-requires-clause-next : goal.position_with_lot-requires-clause-next
 position_with_lot-requires-clause-next c =
     let P : Position → Type 0 = λ p. p.holding.next_lot < 4294967295 in
-    subst P (sym (c.in_ok-position.ensures.position ∙ place-at c.args.day.now.register _ _ _ _ c.number-account.ensures.value c.class_of-class.ensures))
+    subst P (sym (c.in_ok-position.ensures.position ∙ place-at c.args.day.now.register _ _ _ _ c.number-account.ensures.value c.class_number-class.ensures))
     (next-before c.args.facts.now c.args.day.now c.args.order.now c.args.gross.now c.args.split.now c.requires.lots)
 
-pub position_after_note-kept-requires-clause-letter : goal.position_after_note-kept-requires-clause-letter
-position_after_note-kept-requires-clause-letter c =
+pub position_after_note-requires-clause-letter : goal.position_after_note-requires-clause-letter
+position_after_note-requires-clause-letter c =
     subst IsLetterWithin (sym c.letter_of-letter.ensures ∙ c.in-Some.is)
-    (letter-found c.register.result.now c.number-account.result c.class_of-class.result (subst AreLettersWithin (sym c.register.ensures) c.requires.letters))
+    (letter-found c.register.result.now c.number-account.result c.class_number-class.result (subst AreLettersWithin (sym c.register.ensures) c.requires.letters))
 
 -- without a letter
 plain-day : (c : goal.In_ok-close_trade-in-None) → c.close_trade-in-None.new.self ≡ day_with_purchase c.args.facts.now c.args.day.now c.args.order.now c.args.gross.now c.args.split.now
@@ -33,11 +33,11 @@ plain-day c =
     let gross = c.args.gross.now in
     let split = c.args.split.now in
     let account = c.number-account.ensures.value in
-    let class = c.class_of-class.ensures in
+    let class = c.class_number-class.ensures in
     let there = c.in_ok-position.ensures.position ∙ place-at day.register _ _ _ _ account class in
     let bought : Position → ℕ → Position = λ p d. with_holding p (shares_added p.holding d split.mils gross false).holding in
     let none : (position_in day order).letter ≡ None =
-    (sym (c.letter_of-letter.ensures ∙ ap (λ r. (position_of r c.number-account.result c.class_of-class.result).letter) c.register.ensures
+    (sym (c.letter_of-letter.ensures ∙ ap (λ r. (position_of r c.number-account.result c.class_number-class.result).letter) c.register.ensures
     ∙ ap (λ (p : Position). p.letter) (place-at day.register _ _ _ _ account class)) ∙ c.in-None.is) in
     c.in_ok-close_trade-in-None.ensures
     ∙ closed-by _ (day_without order.account (class_of order.body) day) _ (with_holding (position_in day order) (lot_bought known day order gross split).holding) _ (trade_of_purchase known order gross split)
@@ -58,8 +58,8 @@ returns-in_ok-close_trade-in-None-clause-within c =
 letter-there : (c : goal.In_ok-day_if_reached-in-Some) → (position_in c.args.day.now c.args.order.now).letter ≡ Some c.in-Some.letter
 letter-there c =
     let day = c.args.day.now in
-    sym (c.letter_of-letter.ensures ∙ ap (λ r. (position_of r c.number-account.result c.class_of-class.result).letter) c.register.ensures
-    ∙ ap (λ (p : Position). p.letter) (place-at day.register _ _ _ _ c.number-account.ensures.value c.class_of-class.ensures)) ∙ c.in-Some.is
+    sym (c.letter_of-letter.ensures ∙ ap (λ r. (position_of r c.number-account.result c.class_number-class.result).letter) c.register.ensures
+    ∙ ap (λ (p : Position). p.letter) (place-at day.register _ _ _ _ c.number-account.ensures.value c.class_number-class.ensures)) ∙ c.in-Some.is
 
 noted-day : (c : goal.In_ok-day_if_reached-in-Some) → c.close_trade.new.self ≡ day_after_trade (day_without c.args.order.now.account (class_of c.args.order.now.body) c.args.day.now) (kept_in c.args.facts.now c.args.day.now c.args.order.now c.in-Some.letter c.args.gross.now c.args.split.now) (trade_of_purchase c.args.facts.now c.args.order.now c.args.gross.now c.args.split.now)
 noted-day c =
@@ -69,14 +69,14 @@ noted-day c =
     let gross = c.args.gross.now in
     let split = c.args.split.now in
     let account = c.number-account.ensures.value in
-    let class = c.class_of-class.ensures in
+    let class = c.class_number-class.ensures in
     let there = c.in_ok-position.ensures.position ∙ place-at day.register _ _ _ _ account class in
     let bought : Position → ℕ → Position = λ p d. with_holding p (shares_added p.holding d split.mils gross false).holding in
     let number : Position → ℕ → ℕ = λ p d. (shares_added p.holding d split.mils gross false).number in
     c.in_ok-close_trade-in-Some.ensures
     ∙ closed-by _ (day_without order.account (class_of order.body) day) _ (kept_in known day order c.in-Some.letter gross split) _ (trade_of_purchase known order gross split)
     (c.take_out.ensures.rest ∙ without-at day _ _ _ _ account class)
-    (c.position_after_note-kept.ensures.kept
+    (c.in_ok-kept-in-Some.ensures.kept
     ∙ kept-is (position_in day order) c.in_ok-bought.bought (lot_bought known day order gross split) c.in_ok-bought.number c.in-Some.letter gross split
     (c.in_ok-bought.ensures.lot ∙ ap (λ p. bought p c.day.result) there ∙ ap (bought (position_in day order)) c.day.ensures)
     (c.in_ok-bought.ensures.number ∙ ap (λ p. number p c.day.result) there ∙ ap (number (position_in day order)) c.day.ensures))
@@ -90,13 +90,13 @@ noted-is c =
     let gross = c.args.gross.now in
     let split = c.args.split.now in
     let sheet = sheet_at_hand known in
-    let reached = c.position_after_note-kept.result.1 in
+    let reached = c.in_ok-kept-in-Some.reached in
     let trade = trade_of_purchase known order gross split in
     let closed = day_after_trade (day_without order.account (class_of order.body) day) (kept_in known day order c.in-Some.letter gross split) trade in
     c.in_ok-day_if_reached-in-Some.ensures
     ∙ ap (λ d. day_if_reached reached sheet (position_in d order) d) (noted-day c)
     ∙ ap (λ p. day_if_reached reached sheet p closed) (position-kept known day order gross split c.in-Some.letter trade)
-    ∙ under-letter known day order gross split c.in-Some.letter reached (letter-there c) c.position_after_note-kept.ensures.reached
+    ∙ under-letter known day order gross split c.in-Some.letter reached (letter-there c) c.in_ok-kept-in-Some.ensures.reached
 
 pub returns-in_ok-day_if_reached-in-Some-clause-day : goal.returns-in_ok-day_if_reached-in-Some-clause-day
 returns-in_ok-day_if_reached-in-Some-clause-day c = noted-is c

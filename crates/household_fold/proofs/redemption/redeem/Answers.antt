@@ -15,8 +15,8 @@ returns-in_ok-sell-in-None c =
     let order = c.args.order.now in
     let none : None ≡ short_of (position_of day.register order.account (class_of order.body)).holding c.args.asked =
     c.in-None.ensures
-    ∙ (ap (λ n. short_of (position_of day.register n c.class_of.result).holding c.args.asked) c.number.ensures.value
-    ∙ ap (λ k. short_of (position_of day.register order.account k).holding c.args.asked) c.class_of.ensures) in
+    ∙ (ap (λ n. short_of (position_of day.register n c.class_number.result).holding c.args.asked) c.number.ensures.value
+    ∙ ap (λ k. short_of (position_of day.register order.account k).holding c.args.asked) c.class_number.ensures) in
     c.in_ok-sell-in-None.ensures
     ∙ (ap (λ (t : Trade). day_after_sale book sheet day (position_of day.register t.account t.class) c.args.asked t) c.order_trade-trade.ensures
     ∙ sold-is book sheet day order c.args.asked none)

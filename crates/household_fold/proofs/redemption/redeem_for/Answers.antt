@@ -14,7 +14,7 @@ returns-in_ok-add_unfilled c =
     let sheet = sheet_at_hand c.args.facts.now in
     let order = c.args.order.now in
     let asked : c.mils_for-asked.result ≡ half (1000 * c.args.amount.now) (nav_of sheet (class_of order.body)) =
-    c.mils_for-asked.ensures ∙ ap (λ k. half (1000 * c.args.amount.now) (nav_of sheet k)) c.class_of.ensures in
+    c.mils_for-asked.ensures ∙ ap (λ k. half (1000 * c.args.amount.now) (nav_of sheet k)) c.class_number.ensures in
     c.in_ok-add_unfilled.ensures
     ∙ (ap (λ (t : Trade). with_trade c.args.day.now (record t { outcome = Outcome.Unfilled Why.TooSmall })) c.order_trade.ensures
     ∙ too-small-is (book_of_facts c.args.facts.now) sheet c.args.day.now order c.args.amount.now c.mils_for-asked.result asked c.if-asked-eq0.true)
@@ -24,6 +24,6 @@ returns-in_ok-redeem c =
     let sheet = sheet_at_hand c.args.facts.now in
     let order = c.args.order.now in
     let asked : c.mils_for-asked.result ≡ half (1000 * c.args.amount.now) (nav_of sheet (class_of order.body)) =
-    c.mils_for-asked.ensures ∙ ap (λ k. half (1000 * c.args.amount.now) (nav_of sheet k)) c.class_of.ensures in
+    c.mils_for-asked.ensures ∙ ap (λ k. half (1000 * c.args.amount.now) (nav_of sheet k)) c.class_number.ensures in
     c.in_ok-redeem.ensures
     ∙ by-amount-is (book_of_facts c.args.facts.now) sheet c.args.day.now order c.args.amount.now c.mils_for-asked.result asked c.if-asked-eq0.false

@@ -1,7 +1,8 @@
 use Rattle.std.proofs.Common.{refl}
 use Rattle.agent_events.specs.declared.event.EventKind.{EventKind}
+use Rattle.journal_tables.proofs.ServedFacts.{tables-behind}
 use Rattle.journal_tables.specs.TablesOfJournals.{known_of}
-use Rattle.ledger_of_journals.proofs.ServedBooks.{facts_behind_serve, few-of-lawful, tables-behind}
+use Rattle.ledger_of_journals.proofs.ServedBooks.{facts_behind_serve, few-of-lawful}
 use Rattle.ledger_of_journals.proofs.fact_laws.tables_serve_the_book_behind_a_sheet.Goals as goal
 use Rattle.register_machine.specs.journal.Journals.{with_event}
 

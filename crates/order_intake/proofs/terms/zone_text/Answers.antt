@@ -1,4 +1,4 @@
-use Rattle.order_intake.proofs.ZoneTexts.{zone_is_text}
+use Rattle.register_laws.proofs.ZoneTexts.{zone_is_text}
 use Rattle.order_intake.proofs.terms.zone_text.Goals as goal
 
 pub unreachable-requires : goal.unreachable-requires

@@ -1,4 +1,4 @@
-use Rattle.price_changes.proofs.Forms.{zone_is_text}
+use Rattle.register_laws.proofs.ZoneTexts.{zone_is_text}
 use Rattle.price_changes.proofs.change.zone_text.Goals as goal
 
 pub unreachable-requires : goal.unreachable-requires

@@ -3,4 +3,4 @@ use Rattle.share_lots.specs.Taking.{pieces}
 use Rattle.share_lots.proofs.taking.take_pieces.Given as goal
 
 abbrev pub invariant-loop-lot : goal.invariant-loop-lot
-invariant-loop-lot l = l.taken ++ pieces l.left (drop l.lot-index l.lots) ≡ pieces l.fn.asked l.lots
+invariant-loop-lot l = l.taken ++ pieces l.left (drop l.lot-index l.lots) ≡ l.fn.given ++ pieces l.fn.asked l.lots

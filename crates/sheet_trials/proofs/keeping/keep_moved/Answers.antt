@@ -1,7 +1,7 @@
 use Rattle.std.proofs.Common.{ap, length, subst, sym, ℕ, ◌∙◌}
 use Rattle.forward_price.specs.PriceTables.{Table}
 use Rattle.register_laws.specs.Lawful.{book_behind}
-use Rattle.sheet_trials.proofs.KeptMoved.{kept-show-the-same}
+use Rattle.desk_books.proofs.RoomMade.{kept_show_the_same}
 use Rattle.desk_books.proofs.waiting_laws.SettledStay.{settled_before_waiting}
 use Rattle.desk_books.specs.waiting_laws.SettledOrders.{AllAreSettled, first_waiting}
 use Rattle.sheet_trials.proofs.keeping.keep_moved.Goals as goal
@@ -13,4 +13,4 @@ returns-clause-same c = λ journal are.
     subst (λ (first : ℕ). AllAreSettled (book_behind journal) first c.in_ok-sheet.sheet) (sym c.first_waiting-orders.ensures)
     (subst (λ (sheet : ℕ). AllAreSettled (book_behind journal) (first_waiting c.args.books.now.orders.waiting (length c.args.books.now.orders.owners)) sheet) (sym last)
     (settled_before_waiting journal c.args.books.now.orders.owners c.args.books.now.orders.waiting are.lawful are.index)) in
-    kept-show-the-same journal c.args.books.now c.keep_states.new.kept (c.keep_states.ensures (book_behind journal) are.ledger last settled) are
+    kept_show_the_same journal c.args.books.now c.keep_states.new.kept (c.keep_states.ensures (book_behind journal) are.ledger last settled) are

@@ -1,8 +1,8 @@
-use Rattle.std.proofs.Common.{ap, refl, subst, sym, ◌∙◌}
+use Rattle.std.proofs.Common.{ap, subst, sym, ◌∙◌}
 use Rattle.desk_books.proofs.MovesStay.{stays_a_change}
 use Rattle.desk_books.proofs.KeptAfter.{kept_behind}
 use Rattle.desk_books.proofs.NamedOrders.{names_its_order}
-use Rattle.desk_books.proofs.RoomMade.{show_the_same}
+use Rattle.desk_books.proofs.RoomMade.{with_room}
 use Rattle.desk_books.proofs.books.DeskBooks.prepare.Goals as goal
 use Rattle.desk_books.specs.LedgerChanges.{IsLedgerChange}
 use Rattle.desk_books.specs.NotedClasses.{NotesOrder}
@@ -66,42 +66,12 @@ returns-clause-ready c =
 
 pub returns-in_err-note_classes-clause-same : goal.returns-in_err-note_classes-clause-same
 returns-in_err-note_classes-clause-same c =
-    let books = c.args.self.now in
-    show_the_same books
-    (record { book = c.reserve_orders.new.book; tables = books.tables; prices = c.prepare.new.prices; orders = c.reserve_orders.new.orders; classes = c.note_classes.new.classes; ledger = c.reserve_ledger.new.ledger; cash = c.reserve_ledger.new.cash; kept = books.kept })
-    (record {
-      journal = c.reserve_orders.ensures.journal;
-      prices = c.prepare.ensures.table;
-      tables = refl;
-      owners = c.reserve_orders.ensures.owners;
-      waiting = c.reserve_orders.ensures.waiting;
-      classes = c.note_classes.ensures.kept;
-      parts = c.reserve_ledger.ensures.parts;
-      tallied = c.reserve_ledger.ensures.tallied;
-      installs = c.reserve_ledger.ensures.installs;
-      balances = c.reserve_ledger.ensures.balances;
-      gains = c.reserve_ledger.ensures.gains;
-      posts = c.reserve_ledger.ensures.posts;
-      kept = refl;
-    })
+    with_room c.args.self.now c.reserve_orders.new.book c.prepare.new.prices c.reserve_orders.new.orders c.note_classes.new.classes c.reserve_ledger.new.ledger c.reserve_ledger.new.cash
+    c.reserve_orders.ensures.journal c.prepare.ensures.table c.reserve_orders.ensures.owners c.reserve_orders.ensures.waiting c.note_classes.ensures.kept
+    c.reserve_ledger.ensures.parts c.reserve_ledger.ensures.tallied c.reserve_ledger.ensures.installs c.reserve_ledger.ensures.balances c.reserve_ledger.ensures.gains c.reserve_ledger.ensures.posts
 
 pub returns-clause-same : goal.returns-clause-same
 returns-clause-same c =
-    let books = c.args.self.now in
-    show_the_same books
-    (record { book = c.reserve_orders.new.book; tables = books.tables; prices = c.prepare.new.prices; orders = c.reserve_orders.new.orders; classes = c.note_classes.new.classes; ledger = c.reserve_ledger.new.ledger; cash = c.reserve_ledger.new.cash; kept = books.kept })
-    (record {
-      journal = c.reserve_orders.ensures.journal;
-      prices = c.prepare.ensures.table;
-      tables = refl;
-      owners = c.reserve_orders.ensures.owners;
-      waiting = c.reserve_orders.ensures.waiting;
-      classes = c.note_classes.ensures.kept;
-      parts = c.reserve_ledger.ensures.parts;
-      tallied = c.reserve_ledger.ensures.tallied;
-      installs = c.reserve_ledger.ensures.installs;
-      balances = c.reserve_ledger.ensures.balances;
-      gains = c.reserve_ledger.ensures.gains;
-      posts = c.reserve_ledger.ensures.posts;
-      kept = refl;
-    })
+    with_room c.args.self.now c.reserve_orders.new.book c.prepare.new.prices c.reserve_orders.new.orders c.note_classes.new.classes c.reserve_ledger.new.ledger c.reserve_ledger.new.cash
+    c.reserve_orders.ensures.journal c.prepare.ensures.table c.reserve_orders.ensures.owners c.reserve_orders.ensures.waiting c.note_classes.ensures.kept
+    c.reserve_ledger.ensures.parts c.reserve_ledger.ensures.tallied c.reserve_ledger.ensures.installs c.reserve_ledger.ensures.balances c.reserve_ledger.ensures.gains c.reserve_ledger.ensures.posts

@@ -1,9 +1,9 @@
 use Rattle.std.proofs.Common.{sym}
 use Rattle.std.specs.HashMap.{get}
-use Rattle.order_book.proofs.Places.{or-none}
 use Rattle.order_book.proofs.TakenIn.{taken-in}
 use Rattle.order_book.specs.Brought.{same_identity}
 use Rattle.order_book.proofs.identities.Identities.take.Goals as goal
+use Rattle.register_laws.proofs.PositionsInOrder.{option_or-none}
 
 pub returns-in-Some-clause-kept : goal.returns-in-Some-clause-kept
 returns-in-Some-clause-kept c = λ journal moment at kept. record {
@@ -18,5 +18,5 @@ returns-in_default-clause-kept c = λ journal moment at kept. record {
   places = taken-in (get same_identity c.args.self.now.places) (get same_identity c.put_first.new.places) (get same_identity c.put_first.new.places)
       journal (record { moment = moment; kind = c.args.kind.now }) c.identity_in.result c.reference_entered.result c.args.place
       at c.identity_in.ensures c.reference_entered.ensures kept.places c.put_first.ensures.places
-      (λ q. rw c.in_default.is (sym (or-none (get same_identity c.put_first.new.places q))));
+      (λ q. rw c.in_default.is (sym (option_or-none (get same_identity c.put_first.new.places q))));
 }

@@ -1,9 +1,10 @@
 use Rattle.std.proofs.Common.{arith}
+use Rattle.share_lots.specs.Rows.{lots_in}
 use Rattle.share_lots.proofs.LotLemmas.{sum-mils}
 use Rattle.share_lots.proofs.position.Position.loose.Goals as goal
 
-pub loose_total-requires : goal.loose_total-requires
-loose_total-requires c = rw c.deref.ensures.value (omega (arith, sum-mils c.self.inside.lots.items, c.self.invariant.holding.few_mils))
+pub overflow_sub-result : goal.overflow_sub-result
+overflow_sub-result c = omega (arith, c.self.invariant.mils_sum, c.self.invariant.held_sum, sum-mils (lots_in c.self.inside.lots))
 
-pub returns-clause-bound : goal.returns-clause-bound
-returns-clause-bound c = rw (c.loose_total.ensures, c.deref.ensures.value) (omega (arith, sum-mils c.self.inside.lots.items, c.self.invariant.holding.few_mils))
+pub returns-clause-total : goal.returns-clause-total
+returns-clause-total c = rw (← c.self.view_is) (omega (arith, c.self.invariant.mils_sum, c.self.invariant.held_sum, sum-mils (lots_in c.self.inside.lots)))

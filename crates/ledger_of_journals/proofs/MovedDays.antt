@@ -1,12 +1,12 @@
 -- By how much moves change the totals, told by the days that they leave: those of the households in another book.
-use Rattle.std.proofs.Common.{All, List, [], ap, arith, false, filter, fold, is_some, nat_eq, pos, sym, true, ℕ, ℤ, ◌+ℤ◌, ◌==◌, ◌∙◌, ◌≡◌}
-use Rattle.std.proofs.lemmas.Int.{ints}
+use Rattle.std.proofs.Common.{List, [], ap, false, filter, fold, nat_eq, pos, sym, ℕ, ℤ, ◌+ℤ◌, ◌==◌, ◌∙◌, ◌≡◌}
 use Rattle.std.specs.List.{IsDistinct, list_any}
 use Rattle.std.specs.Option.{option_map_or}
 use Rattle.std.specs.Prelude.{◌-ℤ◌}
 use Rattle.agent_events.specs.declared.request.AccountForm.{AccountForm}
 use Rattle.agent_events.specs.declared.totals.Changes.{Changes}
 use Rattle.agent_events.specs.declared.trade.Trade.{Trade}
+use Rattle.checkpoint_replay.proofs.FlowsOfMoves.{IsAdditive, all-same, all-still, cash-additive, mils-additive, same-flows, with_move}
 use Rattle.checkpoint_replay.specs.Differences.{AreChangesOf, trades_cash}
 use Rattle.checkpoint_replay.specs.Moves.{AreApart, day_if_moved, households_of, part_after}
 use Rattle.checkpoint_replay.specs.Parts.{part_in}
@@ -17,23 +17,18 @@ use Rattle.gain_loss_book.specs.Booked.{AreDifferences}
 use Rattle.gain_loss_book.specs.Flows.{net, no_flow}
 use Rattle.gain_loss_book.specs.Movements.{trades_mils}
 use Rattle.gain_loss_book.specs.declared.flows.Flow.{Flow}
-use Rattle.desk_books.proofs.ledger_laws.ClassTotals.{totals_by_differences}
-use Rattle.desk_books.proofs.ledger_of_journals.SumsOfMoves.{CoversMoves, IsAdditive, all-same, all-still, cash-additive, mils-additive, moves-sum, same-flows, with_move}
-use Rattle.desk_books.proofs.ledger_of_journals.SumsOverLedgers.{all-brought, joined, joined-distinct, not-joined, owners, owners-cover, owners-distinct}
-use Rattle.desk_books.specs.ledger_of_journals.LedgerTotals.{IsOfHouseholds}
-use Rattle.desk_books.specs.ledger_of_journals.Ledgers.{IsLedgerOf}
-use Rattle.register_laws.proofs.KnownAccounts.{known-replay}
+use Rattle.ledger_laws.proofs.ClassTotals.{totals_by_differences}
+use Rattle.ledger_of_journals.proofs.LedgerTotals.{difference, trades-owned}
+use Rattle.ledger_of_journals.proofs.SumsOfMoves.{CoversMoves, moves-sum}
+use Rattle.ledger_of_journals.proofs.SumsOverLedgers.{all-brought, joined, joined-distinct, not-joined, owners, owners-cover, owners-distinct}
+use Rattle.ledger_of_journals.specs.LedgerTotals.{IsOfHouseholds}
+use Rattle.ledger_of_journals.specs.Ledgers.{IsLedgerOf}
 use Rattle.register_laws.specs.Households.{part_of}
 use Rattle.register_machine.specs.corrections.Cash.{outstanding}
 use Rattle.register_machine.specs.journal.Kinds.{household_of}
 use Rattle.register_machine.specs.pricing.CorrectedBook.{Book}
 use Rattle.register_machine.specs.replay.Replay.{replay}
 use Rattle.register_machine.specs.replay.Trades.{Day}
-
-trades-owned : (book : Book) → IsOfHouseholds book → All (λ (trade : Trade). is_some (household_of book.accounts trade.account) ≡ true) (replay book).trades
-unfolding replay
-trades-owned book is =
-    (known-replay book (λ number. is_some (household_of book.accounts number)) is.owned book.table.sheets).trades
 
 -- the trades of each household among these
 abbrev days_by_trades : List AccountForm → List Trade → ℕ → Day
@@ -78,9 +73,6 @@ moved-by flow additive before after parts moves of other is =
     let last = sum-of-days flow additive after gone other is.to all distinct (λ household missing. (missed household missing).0) in
     let moved = moves-sum flow additive parts all distinct moves is.apart covers (part_in parts) (all-still parts moves) in
     last ∙ (moved ∙ ap (λ (z : ℤ). z +ℤ net (fold (with_move flow parts) no_flow moves)) (sym first))
-
-difference : (before after change : ℤ) → after ≡ before +ℤ change → change ≡ after -ℤ before
-difference before after change sum = omega (arith, ints, sum)
 
 pub differences-by-days : (changes : Changes) (before after : Book) (parts : List (ℕ × HouseholdPart)) (moves : List HouseholdMove) → IsOfHouseholds before → IsOfHouseholds after → LeadToDays before after parts moves → AreChangesOf changes parts moves → AreDifferences changes (replay before) (replay after)
 differences-by-days changes before after parts moves of other is are = record {
