@@ -12,10 +12,8 @@ fn expect_readings(rt: &impl Abort, clock: &mut MemoryClock, readings: &[Moment]
 
 #[test]
 fn readings_come_in_turn_and_the_last_one_again(rt: HostRuntime) -> Result<(), Fail> {
-    let (Some(morning), Some(noon)) = (
-        Moment::new(1_719_835_200),
-        Moment::new(1_719_849_600),
-    ) else {
+    let (Some(morning), Some(noon)) = (Moment::new(1_719_835_200), Moment::new(1_719_849_600))
+    else {
         return Err(Fail::new("both are moments"));
     };
     let mut clock = MemoryClock::new(rt.alloc(), &[morning, morning, noon])?;
