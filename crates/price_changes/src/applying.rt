@@ -62,11 +62,7 @@ fn publish(prices: &mut PriceBook, form: &SheetForm)
     ensures { prices.new.table
         ≡ with_published prices.old.table form.now.calendar form.now.moment form.now.prices }
 {
-    let _number = prices.publish(
-        form.calendar.number(),
-        form.moment,
-        form.prices.as_slice(),
-    );
+    let _number = prices.publish(form.calendar.number(), form.moment, form.prices.as_slice());
 }
 
 fn fix_price(prices: &mut PriceBook, form: &FixPriceForm)
