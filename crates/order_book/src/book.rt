@@ -24,6 +24,9 @@ use money_units::{Moment, NoMemory};
 use std::alloc::Global;
 use std::marker::Model;
 
+/// So many events at least are made room for at once.
+const FEW_EVENTS: usize = 64;
+
 /// The events noted so far, and what is looked up in them. Contracts see them with the number of events, of any kind, that
 /// can be noted without more memory.
 #[derive(Drop)]
@@ -80,17 +83,20 @@ impl OrderBook {
         self.last
     }
 
-    /// Takes the memory that so many events of any kind need. After `NoMemory` the journal is as before.
+    /// Takes the memory that so many events of any kind need, and that for a few at least, so that most calls find it taken.
+    /// After `NoMemory` the journal is as before.
     pub fn reserve(&mut self, events: usize) -> Result<(), NoMemory>
         ensures same { self.new.journal ≡ self.old.journal }
         ensures room { OnOk result (events ≤ self.new.spare) }
         ensures kept { self.old.spare ≤ self.new.spare }
     {
-        self.events.reserve(events)?;
-        self.indexes.reserve(events)?;
-        if self.spare < events {
-            self.spare = events;
+        if events <= self.spare {
+            return Ok(());
         }
+        let room = events_at_once(events);
+        self.events.reserve(room)?;
+        self.indexes.reserve(room)?;
+        self.spare = room;
         Ok(())
     }
 
@@ -256,6 +262,17 @@ impl OrderBook {
             → result ≡ last_place (is_order_of row.order.account) (take index (orders_of self.now.journal)) }
     {
         self.indexes.orders.earlier(index)
+    }
+}
+
+// For how many events room is made where it is asked for so many.
+fn events_at_once(events: usize) -> usize
+    ensures { events ≤ result }
+{
+    if events < FEW_EVENTS {
+        FEW_EVENTS
+    } else {
+        events
     }
 }
 

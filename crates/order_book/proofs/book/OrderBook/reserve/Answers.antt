@@ -11,11 +11,3 @@ invariant_of-self-in_err-reserve-2 c = record {
   events = omega (arith, c.reserve.ensures.len, c.reserve.ensures.capacity, c.self.invariant.events);
   room = c.reserve-2.ensures.kept c.self.inside.spare c.self.invariant.room;
 }
-
-pub invariant_of-self-else-self-events : goal.invariant_of-self-else-self-events
-invariant_of-self-else-self-events c = record {
-  last = c.self.invariant.last ∙ ap last_moment (sym c.reserve.ensures.items);
-  indexes = subst (λ (es : List Event). KeepsAll c.reserve-2.new.self es) (sym c.reserve.ensures.items) (c.reserve-2.ensures.same c.self.inside.events.items c.self.invariant.indexes);
-  events = omega (arith, c.reserve.ensures.len, c.reserve.ensures.capacity, c.self.invariant.events);
-  room = c.reserve-2.ensures.kept c.self.inside.spare c.self.invariant.room;
-}
