@@ -108,9 +108,5 @@ fn publish(prices: &mut PriceBook, form: &SheetForm) -> u32
     ensures table { prices.new.table
         ≡ with_published prices.old.table form.now.calendar form.now.moment form.now.prices }
 {
-    prices.publish(
-        form.calendar.number(),
-        form.moment,
-        form.prices.as_slice(),
-    )
+    prices.publish(form.calendar.number(), form.moment, form.prices.as_slice())
 }
