@@ -1,23 +1,22 @@
 -- The book of a lawful journal is sound, and tables that agree with a book give its facts.
-use Rattle.std.proofs.Common.{All, Bool, List, None, Option, Some, [], ap, arith, false, filter, get_or, is_some, map, option_map, refl, sym, true, ℕ, ◌&&◌, ◌==◌, ◌||◌, ◌∙◌, ◌∷◌, ◌≡◌}
+use Rattle.std.proofs.Common.{All, Bool, List, None, Option, Some, [], ap, false, filter, get_or, is_some, map, option_map, refl, sym, true, ℕ, ◌&&◌, ◌==◌, ◌||◌, ◌∙◌, ◌∷◌, ◌≡◌}
 use Rattle.std.proofs.lemmas.Bool.{and_parts}
-use Rattle.std.proofs.lemmas.List.Elements.{All-append, All-cons, All-contains, All-filter, All-head, All-map, All-nil, All-tail, All-weaker}
+use Rattle.std.proofs.lemmas.List.Elements.{All-cons, All-filter, All-nil, All-weaker}
 use Rattle.std.specs.List.{list_all, list_any}
 use Rattle.std.specs.Option.{option_map_or}
 use Rattle.agent_events.specs.declared.order.OrderRow.{OrderRow}
 use Rattle.agent_events.specs.declared.request.ClassForm.{ClassForm}
 use Rattle.forward_price.specs.Orderly.{IsOrderly}
 use Rattle.forward_price.specs.PriceTables.{price_before}
-use Rattle.forward_price.specs.Turns.{is_offered_at, must_list, pairs_of, pricing_pair, pricing_pairs}
+use Rattle.forward_price.specs.Turns.{is_offered_at, must_list}
 use Rattle.forward_price.specs.declared.price_sheet.Opening.{Opening}
-use Rattle.fund_calendar.specs.PricingDays.{Listing}
 use Rattle.household_fold.proofs.BookFacts.{class_found, household_found, rate_found}
 use Rattle.household_fold.specs.Facts.{Known, class_in_book, terms_numbered}
 use Rattle.class_terms.specs.declared.form.TermsForm.{TermsForm}
 use Rattle.ledger_laws.specs.SoundBooks.{HaveTerms, LawfulHasASoundBook, ListsItsClasses, NamesItsClasses, TablesAgree}
 use Rattle.register_laws.proofs.NamesStand.{names_stand}
 use Rattle.register_laws.proofs.OrderlyBooks.{lawful_book_is_orderly}
-use Rattle.register_laws.proofs.TablesAreOrderly.{IsCalendar, classes-seen, kept, orderly_tables}
+use Rattle.register_laws.proofs.TablesAreOrderly.{classes-seen, orderly_tables}
 use Rattle.register_laws.proofs.Tests.{find-any}
 use Rattle.register_laws.specs.AlikeBooks.{BooksAlike}
 use Rattle.register_laws.specs.Identities.{has_number, is_class}

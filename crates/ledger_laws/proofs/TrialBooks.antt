@@ -1,5 +1,5 @@
 -- The book of a correction that no rule before the last one refuses is sound.
-use Rattle.std.proofs.Common.{All, Bool, List, None, Option, Some, [], ap, count_by, false, filter, is_some, length, nat_le, not, option_and_then, option_map, option_to_list, refl, subst, sym, true, ℕ, ◌++◌, ◌+◌, ◌∙◌, ◌∷◌, ◌≡◌, ◌≤◌}
+use Rattle.std.proofs.Common.{All, Bool, List, None, Option, Some, [], ap, count_by, false, filter, is_some, length, nat_le, not, option_and_then, option_map, option_to_list, refl, subst, sym, true, ℕ, ◌++◌, ◌∙◌, ◌∷◌, ◌≡◌, ◌≤◌}
 use Rattle.std.proofs.lemmas.Bool.{true≢false}
 use Rattle.std.proofs.lemmas.List.Elements.{All-weaker}
 use Rattle.std.specs.Option.{option_map_or}
