@@ -1,5 +1,5 @@
 -- The orders of a household on trial, under the numbers of their sheets.
-use Rattle.std.proofs.Common.{List, Some, [], ap, arith, get_or, length, map, pos, refl, suc, sym, true, zero, ℕ, ◌+◌, ◌<◌, ◌∙◌, ◌≡◌, ◌≤◌}
+use Rattle.std.proofs.Common.{List, Some, [], ap, arith, get_or, length, map, refl, suc, sym, true, zero, ℕ, ◌+◌, ◌<◌, ◌∙◌, ◌≡◌, ◌≤◌}
 use Rattle.std.proofs.lemmas.Bool.{true≢false}
 use Rattle.agent_events.specs.Events.{Event}
 use Rattle.agent_events.specs.declared.event.EventKind.{EventKind}
@@ -77,7 +77,7 @@ pub late_on_trial : (journal : Journal) (event : Event) (owners : List ℕ) (hou
 late_on_trial journal event owners household first number rows late corrects is owned own settled are zero behind short = absurd (omega (arith, behind))
 late_on_trial journal event owners household first number rows late corrects is owned own settled are (suc place) behind short =
     let after = book_behind (with_event journal event) in
-    let some : Sheet = sheet_published after.table 0 (pos 0) [] in
+    let some : Sheet = sheet_published after.table 0 0 [] in
     let sheet = get_or after.table.sheets place some in
     let at : sheet.number ≡ place + 1 = is.orders.numbered.each place some (omega (arith, short)) in
     let next : place + 1 ≡ suc place = omega arith in
