@@ -62,6 +62,14 @@ sheet_steps journal event change before after e each = record {
   other = λ h. absurd (true≢false (sym (ap (λ b. b || is_correction event.kind) e) ∙ h));
 }
 
+-- and an event that is neither a sheet nor a correction takes none
+pub plain_steps : (journal : Journal) (event : Event) (change : Option EventChange) (steps : ℕ) → is_sheet event.kind ≡ false → is_correction event.kind ≡ false → TakesSteps journal event change steps steps
+plain_steps journal event change steps no_sheet no_correction = record {
+  sheet = λ h. absurd (true≢false (sym h ∙ no_sheet));
+  correction = λ h. absurd (true≢false (sym h ∙ no_correction));
+  other = λ _. refl;
+}
+
 -- ---- the answer
 
 abbrev with_reply : Event → Reply → Answer

@@ -1,14 +1,14 @@
-use Rattle.std.proofs.Common.{Option, ap, subst, sym, true, ◌∙◌, ◌≡◌}
+use Rattle.std.proofs.Common.{None, Option, ap, false, subst, sym, true, ◌∙◌, ◌≡◌}
 use Rattle.std.proofs.lemmas.Result.{IfOk-weaker}
 use Rattle.std.specs.Prelude.{IfOk}
 use Rattle.agent_events.specs.declared.reply.Refusal.{Refusal}
 use Rattle.checkpoint_replay.specs.Moves.{households_of}
-use Rattle.desk_answers.proofs.FreshAnswers.{says_nothing, sheet_is_none, sheet_steps}
+use Rattle.desk_answers.proofs.FreshAnswers.{plain_steps, says_nothing, sheet_is_none, sheet_steps}
 use Rattle.desk_answers.specs.Answered.{answer_given}
 use Rattle.desk_answers.specs.Fresh.{first_answer, ledger_of, moves_in}
 use Rattle.desk_answers.specs.Steps.{TakesSteps}
 use Rattle.desk_answers.specs.declared.answering.Answered.{Answered}
-use Rattle.event_laws.specs.EventReplays.{is_sheet}
+use Rattle.event_laws.specs.EventReplays.{is_correction, is_sheet}
 use Rattle.sheet_trials.specs.Reached.{TakeOneStepEach}
 use Rattle.desk_answers.proofs.fresh.answer_fresh.Goals as goal
 
@@ -28,3 +28,14 @@ returns-then-is_sheet-clause-steps g c =
     (λ (answered : Answered). TakesSteps journal c.args.event answered.change c.args.steps.now c.answer_sheet.new.steps)
     (λ answered each. sheet_steps journal c.args.event answered.change c.args.steps.now c.answer_sheet.new.steps sheet each)
     c.answer_sheet.ensures.steps
+
+pub returns-else-is_correction-clause-steps : goal.returns-else-is_correction-clause-steps
+returns-else-is_correction-clause-steps g c =
+    let journal = c.args.books.now.book.journal in
+    let no_sheet : is_sheet c.args.event.kind ≡ false = sym (ap is_sheet c.kind.ensures.kind) ∙ (sym c.is_sheet.ensures ∙ c.if-is_sheet.false) in
+    let no_correction : is_correction c.args.event.kind ≡ false = sym (ap is_correction c.kind-else-is_sheet.ensures.kind) ∙ (sym c.is_correction.ensures ∙ c.if-is_correction.false) in
+    IfOk-weaker c.answer_event.result
+    (λ (answered : Answered). answer_given answered ≡ first_answer journal c.args.event None)
+    (λ (answered : Answered). TakesSteps journal c.args.event answered.change c.args.steps.now c.args.steps.now)
+    (λ answered _. plain_steps journal c.args.event answered.change c.args.steps.now no_sheet no_correction)
+    c.answer_event.ensures.answer
