@@ -1,8 +1,7 @@
 //! The reply to a look at an order: pending, struck, filled or unfilled, with its numbers.
-ghost use Rattle.std.specs.Prelude.{◌≡◌, false, option_map, unwrap_or};
+ghost use Rattle.std.specs.Prelude.{◌≡◌, false, unwrap_or};
 ghost use Rattle.std.specs.Option.{option_copied};
 ghost use Rattle.agent_events.specs.declared.reply.Reply.{Reply as AnyReply};
-ghost use Rattle.forward_price.specs.PriceTables.{next_sheet};
 ghost use Rattle.forward_price.specs.Turns.{due_of};
 ghost use Rattle.register_machine.specs.pricing.CorrectedBook.{Book, due_at, due_moment};
 ghost use Rattle.register_machine.specs.queries.Trace.{bare_trace, has_numbers, loose_by, state_by, trace_of_trade, with_numbers};
@@ -68,16 +67,9 @@ fn sheet_of(prices: &PriceBook, row: &OrderRow) -> Option<u32>
 {
     let class = class_of(&row.order.body).number();
     match target_of(&row.order.body) {
-        Some(to) => sheet_after(prices, &[class, to.number()], row.receipt),
-        None => sheet_after(prices, &[class], row.receipt),
+        Some(to) => prices.first_after(row.receipt, &[class, to.number()]),
+        None => prices.first_after(row.receipt, &[class]),
     }
-}
-
-fn sheet_after(prices: &PriceBook, classes: &[u32], receipt: Moment) -> Option<u32>
-    ensures { result ≡ option_map (λ sheet. sheet.number)
-        (next_sheet prices.now.table.sheets classes.now receipt) }
-{
-    prices.first_after(receipt, classes)
 }
 
 // The moment at which an order is due, 0 where it is due at none.

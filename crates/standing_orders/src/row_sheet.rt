@@ -1,14 +1,13 @@
 //! Which sheet prices an order.
-ghost use Rattle.std.specs.Prelude.{◌≡◌, false, option_map};
+ghost use Rattle.std.specs.Prelude.{◌≡◌, false};
 ghost use Rattle.std.specs.Option.{option_copied, option_map_or};
-ghost use Rattle.forward_price.specs.PriceTables.{next_sheet};
 ghost use Rattle.forward_price.specs.Sheets.{lists_all, lists_class};
 ghost use Rattle.register_machine.specs.pricing.OrderClasses.{class_of, classes_in, target_of};
 ghost use Rattle.standing_orders.specs.Rows.{could_price, is_taken, sheet_number, stays, waits};
 
 use agent_events::{Body, OrderRow};
 use forward_price::{PriceBook, Sheet};
-use money_units::{Moment, Nav};
+use money_units::Nav;
 use register_machine::{class_of, target_of};
 
 /// The number of the sheet that prices an order; `None` exactly while it is pending.
@@ -17,16 +16,9 @@ pub(crate) fn sheet_number(prices: &PriceBook, row: &OrderRow) -> Option<u32>
 {
     let class = class_number(&row.order.body);
     match target_number(&row.order.body) {
-        Some(to) => sheet_after(prices, &[class, to], row.receipt),
-        None => sheet_after(prices, &[class], row.receipt),
+        Some(to) => prices.first_after(row.receipt, &[class, to]),
+        None => prices.first_after(row.receipt, &[class]),
     }
-}
-
-fn sheet_after(prices: &PriceBook, classes: &[u32], receipt: Moment) -> Option<u32>
-    ensures { result ≡ option_map (λ sheet. sheet.number)
-        (next_sheet prices.now.table.sheets classes.now receipt) }
-{
-    prices.first_after(receipt, classes)
 }
 
 /// Whether an order stands and no sheet prices it.
