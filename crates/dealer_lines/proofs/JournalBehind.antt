@@ -1,5 +1,5 @@
 -- The journal behind the orders of a dealer's lines: its book has their rows behind the others, and nothing else is changed.
-use Rattle.std.proofs.Common.{Err, List, None, Ok, [], ap, append-nil, append_assoc, arith, fold, is_some, length, length-append, refl, subst, sym, true, ℕ, ◌++◌, ◌+◌, ◌∙◌, ◌∷◌, ◌≡◌, ◌≤◌}
+use Rattle.std.proofs.Common.{Err, List, Ok, [], ap, append-nil, append_assoc, arith, fold, is_some, length, length-append, refl, subst, sym, true, ℕ, ◌++◌, ◌+◌, ◌∙◌, ◌∷◌, ◌≡◌, ◌≤◌}
 use Rattle.std.proofs.lemmas.List.{length-map}
 use Rattle.std.proofs.lemmas.List.Elements.{filter_map-append}
 use Rattle.std.proofs.lemmas.List.Sums.{fold-append}

@@ -1,11 +1,10 @@
 -- The first rule that a line breaks behind the orders of earlier lines.
-use Rattle.std.proofs.Common.{Bool, List, None, Option, Some, [], ap, arith, cond, count_by, false, find, fold, is_none, is_some, length, length-append, map, nat_le, nat_lt, not, option_map, option_to_list, refl, subst, sym, true, ℕ, ◌&&◌, ◌++◌, ◌+◌, ◌-◌, ◌<◌, ◌==◌, ◌∙◌, ◌∷◌, ◌≡◌, ◌≤◌, ◌||◌}
+use Rattle.std.proofs.Common.{Bool, List, None, Option, Some, [], ap, arith, cond, count_by, false, find, fold, is_none, length, length-append, map, nat_le, nat_lt, not, option_map, option_to_list, refl, subst, sym, true, ℕ, ◌&&◌, ◌++◌, ◌+◌, ◌-◌, ◌<◌, ◌==◌, ◌∙◌, ◌∷◌, ◌≡◌, ◌≤◌, ◌||◌}
 use Rattle.std.proofs.lemmas.List.Folds.{list_any-append}
 use Rattle.std.proofs.lemmas.List.{length-map}
 use Rattle.std.proofs.lemmas.List.Sums.{sum_by-append}
 use Rattle.std.specs.List.{list_all, list_any}
 use Rattle.std.specs.Option.{option_map_or, option_or}
-use Rattle.std.specs.Prelude.{IfSome}
 use Rattle.agent_events.specs.Events.{Event, order_request}
 use Rattle.agent_events.specs.declared.event.Placed.{Placed}
 use Rattle.agent_events.specs.declared.event.Source.{Source}
@@ -26,16 +25,16 @@ use Rattle.forward_price.specs.Turns.{due_of}
 use Rattle.register_laws.specs.Lawful.{book_behind, own_at}
 use Rattle.register_machine.specs.journal.Choices.{first_some, when}
 use Rattle.register_machine.specs.journal.Journals.{Journal}
-use Rattle.register_machine.specs.journal.Kinds.{class_numbered, dealer_numbered, dealers_of}
+use Rattle.register_machine.specs.journal.Kinds.{class_numbered, dealer_numbered}
 use Rattle.register_machine.specs.journal.Lawful.{IsLawful}
-use Rattle.register_machine.specs.pricing.CorrectedBook.{Book, calendar_of, due_at}
+use Rattle.register_machine.specs.pricing.CorrectedBook.{Book, calendar_of}
 use Rattle.register_machine.specs.pricing.CorrectedOrders.{row_as_sent}
 use Rattle.register_machine.specs.pricing.OrderClasses.{class_of, classes_in, target_of}
 use Rattle.register_machine.specs.rules.Identities.{brings_reference, ref_used, reference_of}
 use Rattle.register_machine.specs.rules.InOrder.{broken_rule}
 use Rattle.register_machine.specs.rules.Limits.{is_of_account, journal_full, orders_full}
 use Rattle.register_machine.specs.rules.NamedThings.{has_account, has_class, named_in_order, none_such}
-use Rattle.register_machine.specs.rules.Orders.{below_minimum, below_minimum_in, buys_class, calendar_ended, is_late, is_of_calendar, is_offered, is_published_at, late_by, late_for_dealer, minimum_of, not_offered, ordered_before, receipt_ahead, refused_order, window_of}
+use Rattle.register_machine.specs.rules.Orders.{below_minimum, below_minimum_in, buys_class, calendar_ended, is_late, is_of_calendar, is_offered, is_published_at, late_by, late_for_dealer, not_offered, ordered_before, receipt_ahead, refused_order, window_of}
 use Rattle.register_machine.specs.rules.Situations.{Situation}
 use Rattle.request_rules.specs.VerbRules.{rules_of}
 

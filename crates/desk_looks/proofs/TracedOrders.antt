@@ -1,6 +1,6 @@
 -- What became of an order, in any book of its table and by the trades of its household alone.
 use Rattle.std.proofs.Common.{Bool, List, None, Option, Some, ap, cond, refl, sym, ◌∙◌, ◌≡◌}
-use Rattle.std.specs.Prelude.{option_map, unwrap_or}
+use Rattle.std.specs.Prelude.{unwrap_or}
 use Rattle.agent_events.specs.declared.order.OrderRow.{OrderRow}
 use Rattle.agent_events.specs.declared.reply.OrderState.{OrderState}
 use Rattle.agent_events.specs.declared.reply.TraceReply.{TraceReply}

@@ -6,8 +6,7 @@ use Rattle.std.specs.Ordering.{match_ordering, nat_cmp}
 use Rattle.std.specs.Cmp.Lexicographic.{slice_cmp}
 use Rattle.std.proofs.lemmas.List.{drop-map, drop_all, drop_more}
 use Rattle.std.proofs.lemmas.Bool.{cases_lt}
-use Rattle.std.proofs.Math.ListN.{length-map}
-use Rattle.serde_json.specs.Data.{Data, Members, member, no_members, object, put, string}
+use Rattle.serde_json.specs.Data.{Data, Members, member, no_members, put, string}
 use Rattle.serde_json.specs.Written.{has_float, members_have_float}
 use Rattle.http_replies.specs.Bodies.{object_of, put_text}
 

@@ -1,6 +1,6 @@
 -- The body of a reply: the compact JSON object (RFC 8259) of its texts, all as strings, with its members in the order of the bytes
 -- of their names. A statement's body is its own text.
-use Rattle.std.specs.Prelude.{ℕ, List, [], ◌∷◌, ◌++◌, if◌then◌else◌, codes, bytes_eq, Option, Some, None}
+use Rattle.std.specs.Prelude.{ℕ, List, [], ◌∷◌, if◌then◌else◌, codes, bytes_eq, Option, Some, None}
 use Rattle.std.specs.List.{fold, zip}
 use Rattle.serde_json.specs.Data.{Data, Members, no_members, object, put, string}
 use Rattle.serde_json.specs.Written.{compact_text}

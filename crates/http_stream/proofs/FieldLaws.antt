@@ -1,5 +1,5 @@
 -- What one pass over the fields gathers is what is asked of them, one by one.
-use Rattle.std.proofs.Common.{◌≡◌, ◌≤◌, ◌<◌, ℕ, ◌+◌, ◌-◌, min, Bool, true, false, cond, eqb, ltb, ◌||◌, List, [], ◌∷◌, ◌++◌, length, map, take, drop, Option, Result, Ok, Err, refl, sym, ap, subst, ◌∙◌, arith}
+use Rattle.std.proofs.Common.{◌≡◌, ◌≤◌, ℕ, ◌-◌, min, Bool, true, false, cond, eqb, ltb, ◌||◌, List, [], ◌∷◌, length, map, take, drop, Option, Ok, Err, refl, sym, ap, subst, ◌∙◌, arith}
 use Rattle.std.specs.List.{fold, list_any}
 use Rattle.std.proofs.lemmas.List.{length-take}
 use Rattle.std.proofs.Math.ListN.{length-map}
@@ -7,14 +7,13 @@ use Rattle.httparse.specs.Grammar.{Field, RequestHead, print_request}
 use Rattle.httparse.specs.Spans.{IsRequestAt, IsRequestWithin, IsWithin, header_bytes, name_and_value, span_bytes}
 use Rattle.httparse.specs.declared.spans.HeaderSpan.{HeaderSpan}
 use Rattle.httparse.specs.declared.spans.RequestSpans.{RequestSpans}
-use Rattle.httparse.specs.declared.spans.Span.{Span}
 use Rattle.http_stream.specs.declared.fault.HttpFault.{HttpFault}
 use Rattle.http_stream.specs.declared.head.Facts.{Facts}
 use Rattle.http_stream.specs.declared.head.HeadAt.{HeadAt}
 use Rattle.http_stream.specs.declared.head.Parsed.{Parsed}
 use Rattle.http_stream.specs.declared.head.Tally.{Tally}
-use Rattle.http_stream.specs.Heads.{Named, Pair, body_length, closes, coding_name, is_close, key_name, key_of, length_by, length_name, fields_named, named_with, only_value, pairs_of, said_length, none_named}
-use Rattle.http_stream.specs.Reading.{AreFactsWithin, FieldFacts, FoundAs, JudgedAs, ParsesAs, facts_of, facts_with, length_said, named_of, no_facts, only_span}
+use Rattle.http_stream.specs.Heads.{Pair, body_length, closes, coding_name, is_close, key_name, length_name, named_with, only_value, pairs_of, said_length}
+use Rattle.http_stream.specs.Reading.{AreFactsWithin, FieldFacts, FoundAs, JudgedAs, ParsesAs, facts_of, facts_with, length_said, no_facts, only_span}
 use Rattle.http_stream.specs.Stream.{Begins, IsHeadAt}
 
 or-false : (a : Bool) → (a || false) ≡ a

@@ -1,16 +1,15 @@
 -- What the lines show at the front of a stream stays shown however the stream goes on.
-use Rattle.std.proofs.Common.{◌≡◌, ◌≤◌, ◌<◌, ℕ, ◌+◌, ◌-◌, min, Bool, true, false, cond, ltb, List, [], ◌∷◌, ◌++◌, length, take, drop, refl, sym, ap, subst, ◌∙◌, arith, Some}
+use Rattle.std.proofs.Common.{◌≡◌, ◌≤◌, ◌<◌, ℕ, ◌+◌, ◌-◌, Bool, true, false, cond, ltb, List, length, take, drop, refl, sym, ap, ◌∙◌, arith}
 use Rattle.std.specs.List.{fold}
-use Rattle.std.proofs.lemmas.List.{take-append-drop, take-append-le, take-take, take_all, length-take}
+use Rattle.std.proofs.lemmas.List.{take-append-drop, take-take, take_all}
 use Rattle.std.proofs.lemmas.List.Sums.{fold-append}
 use Rattle.std.proofs.lemmas.Bool.Decides.{nat_tests}
 use Rattle.http_stream.specs.declared.fault.HttpFault.{HttpFault}
 use Rattle.http_stream.specs.declared.intake.Seen.{Seen}
 use Rattle.http_stream.specs.declared.scan.Scan.{Scan}
 use Rattle.http_stream.specs.Kept.{IsFrontScan, IsScanned, SeenAs}
-use Rattle.http_stream.specs.Lines.{Front, field_limit, front, front_of, head_limit, scan_of, scan_of_nothing, with_byte}
+use Rattle.http_stream.specs.Lines.{Front, field_limit, front, head_limit, scan_of, scan_of_nothing, with_byte}
 use Rattle.http_stream.specs.Stream.{Shown}
-use Rattle.http_stream.proofs.LineLaws.{ended-stays, scan-size}
 
 -- the scan of a front is the scan of its first bytes and what comes behind them
 pub front_scan-is : (rest : List ℕ) (scan : Scan) → IsScanned rest scan

@@ -1,5 +1,5 @@
 -- A head of the grammar is the text of a head by its lines: both end at the same place.
-use Rattle.std.proofs.Common.{◌≡◌, ◌≤◌, ◌<◌, ℕ, suc, ◌+◌, Bool, true, false, eqb, ltb, List, [], ◌∷◌, ◌++◌, length, take, drop, Option, Some, refl, sym, ap, subst, ◌∙◌, arith, append_assoc, length-append}
+use Rattle.std.proofs.Common.{◌≡◌, ◌≤◌, ◌<◌, ℕ, suc, ◌+◌, Bool, true, false, eqb, ltb, List, [], ◌∷◌, ◌++◌, length, take, drop, refl, sym, ap, subst, ◌∙◌, arith, append_assoc, length-append}
 use Rattle.std.specs.Prelude.{All, codes, slice_index, slice_index_or}
 use Rattle.std.specs.List.{flat_map, fold}
 use Rattle.std.proofs.lemmas.List.{append-nil, take-append-drop}
@@ -8,15 +8,13 @@ use Rattle.std.proofs.lemmas.List.Elements.{All-append, All-cons, All-nil}
 use Rattle.std.proofs.lemmas.List.Sums.{fold-append}
 use Rattle.std.proofs.lemmas.Bool.Decides.{nat_tests}
 use Rattle.std.proofs.Math.Seq.{take-append_seam}
-use Rattle.httparse.specs.Grammar.{AllPass, Field, IsField, IsRequestHead, LineEnd, RequestHead, crlf, lf, is_token_byte, is_uri_byte, is_value_byte, print_blank, print_end, print_field, print_request, print_section, print_version}
+use Rattle.httparse.specs.Grammar.{AllPass, Field, IsField, IsRequestHead, LineEnd, RequestHead, crlf, lf, is_token_byte, is_uri_byte, is_value_byte, print_blank, print_end, print_field, print_request, print_version}
 use Rattle.httparse.proofs.GrammarLemmas.{print_request-append}
-use Rattle.http_stream.specs.declared.head.HeadAt.{HeadAt}
 use Rattle.http_stream.specs.declared.scan.Line.{Line}
 use Rattle.http_stream.specs.declared.scan.Scan.{Scan}
-use Rattle.http_stream.specs.Lines.{Front, front, front_of, head_limit, line_ended, line_with, scan_of, scan_of_nothing, with_byte}
+use Rattle.http_stream.specs.Lines.{Front, front, head_limit, line_ended, scan_of, scan_of_nothing, with_byte}
 use Rattle.http_stream.specs.Scanning.{IsOneLine}
-use Rattle.http_stream.specs.Stream.{Begins, IsHeadAt, Shown, Shows}
-use Rattle.http_stream.proofs.HeadLaws.{head-take}
+use Rattle.http_stream.specs.Stream.{Begins, Shown, Shows}
 use Rattle.http_stream.proofs.LineLaws.{ended-stays}
 use Rattle.http_stream.proofs.ScanLaws.{line_fed, long_fills}
 

@@ -1,12 +1,12 @@
 -- The scan of a text goes on from that of its front.
-use Rattle.std.proofs.Common.{◌≡◌, ◌≤◌, ℕ, ◌+◌, ◌-◌, Bool, true, false, cond, eqb, List, [], ◌∷◌, ◌++◌, length, take, drop, refl, sym, ap, subst, ◌∙◌, arith, add-zero, add_assoc, add-one}
+use Rattle.std.proofs.Common.{◌≡◌, ◌≤◌, ℕ, ◌+◌, ◌-◌, true, false, cond, eqb, List, [], ◌∷◌, length, take, drop, refl, sym, ap, ◌∙◌, arith}
 use Rattle.std.specs.List.{fold}
-use Rattle.std.proofs.lemmas.List.{take-append-drop, take-append-le, take_all}
+use Rattle.std.proofs.lemmas.List.{take-append-drop}
 use Rattle.std.proofs.lemmas.List.Folds.{fold_stays}
 use Rattle.std.proofs.lemmas.List.Sums.{fold-append}
 use Rattle.http_stream.specs.declared.scan.Line.{Line}
 use Rattle.http_stream.specs.declared.scan.Scan.{Scan}
-use Rattle.http_stream.specs.Lines.{Front, front, front_of, head_limit, line_ended, line_with, scan_of, scan_of_nothing, with_byte}
+use Rattle.http_stream.specs.Lines.{line_ended, line_with, scan_of, scan_of_nothing, with_byte}
 
 pub ended-stays : (scan : Scan) → scan.ended ≡ true → (bytes : List ℕ) → fold with_byte scan bytes ≡ scan
 ended-stays scan e bytes = fold_stays with_byte scan (λ byte. rw e refl) bytes

@@ -1,5 +1,5 @@
 -- What an intake keeps beside the bytes: how far the lines were scanned, and the head whose body is awaited.
-use Rattle.std.specs.Prelude.{◌≡◌, ◌≤◌, ◌<◌, ℕ, ◌+◌, false, List, length, min, take, Option, Some, None}
+use Rattle.std.specs.Prelude.{◌≡◌, ◌≤◌, ◌<◌, ℕ, false, List, length, min, take, Option, Some, None}
 use Rattle.httparse.specs.Grammar.{RequestHead}
 use Rattle.http_stream.specs.declared.head.HeadAt.{HeadAt}
 use Rattle.http_stream.specs.declared.intake.Seen.{Seen}

@@ -1,7 +1,7 @@
 -- The lines of a head (RFC 9112, section 2.1). A line ends with a line feed, and it is empty where nothing, or one carriage return
 -- alone, stands in it. The text of a head begins at its first byte and ends with the first empty line that follows a line that
 -- isn't empty; its field lines are its lines that aren't empty, without the first of these.
-use Rattle.std.specs.Prelude.{ℕ, ◌+◌, Bool, false, nat_lt, ◌==◌, if◌then◌else◌, List, length, take}
+use Rattle.std.specs.Prelude.{ℕ, ◌+◌, false, nat_lt, ◌==◌, if◌then◌else◌, List, length, take}
 use Rattle.std.specs.List.{fold}
 use Rattle.http_stream.specs.declared.scan.Line.{Line}
 use Rattle.http_stream.specs.declared.scan.Scan.{Scan}

@@ -1,12 +1,11 @@
 -- What the readers of a head say of spans in a text.
-use Rattle.std.specs.Prelude.{◌≡◌, ◌≤◌, ℕ, ◌+◌, Bool, false, ◌||◌, nat_lt, nat_eq, if◌then◌else◌, List, length, Ok, Err, Result, Option}
+use Rattle.std.specs.Prelude.{◌≡◌, ℕ, Bool, false, ◌||◌, nat_lt, nat_eq, if◌then◌else◌, List, length, Ok, Err, Result, Option}
 use Rattle.httparse.specs.Grammar.{RequestHead}
 use Rattle.httparse.specs.Spans.{IsWithin, span_bytes}
 use Rattle.httparse.specs.declared.spans.RequestSpans.{RequestSpans}
 use Rattle.httparse.specs.declared.spans.Span.{Span}
 use Rattle.http_stream.specs.declared.fault.HttpFault.{HttpFault}
 use Rattle.http_stream.specs.declared.head.Facts.{Facts}
-use Rattle.http_stream.specs.declared.head.HeadAt.{HeadAt}
 use Rattle.http_stream.specs.declared.head.Parsed.{Parsed}
 use Rattle.http_stream.specs.declared.head.Tally.{Tally}
 use Rattle.http_stream.specs.Heads.{Named, Pair, body_length, coding_name, is_close, key_name, length_name, named_with, said_length, none_named}

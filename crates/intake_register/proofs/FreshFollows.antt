@@ -22,7 +22,7 @@ use Rattle.register_machine.specs.journal.Lawful.{IsLawful}
 use Rattle.register_machine.specs.pricing.CorrectedBook.{book_of}
 use Rattle.register_machine.specs.pricing.CorrectedOrders.{orders_of}
 use Rattle.register_machine.specs.pricing.CorrectedPrices.{sheet_as_corrected}
-use Rattle.register_machine.specs.replay.Replay.{first_day, replay}
+use Rattle.register_machine.specs.replay.Replay.{replay}
 use Rattle.register_machine.specs.replay.Trades.{Day}
 use Rattle.register_machine.specs.rules.Breaks.{breaks, breaks_between, breaks_by, is_broken, is_filled, order_corrected}
 use Rattle.register_machine.specs.rules.Callers.{caller_of}

@@ -1,7 +1,6 @@
 -- The tables of a journal are those of it with one event more, when the event has come into them.
-use Rattle.std.proofs.Common.{All, Bool, List, None, Option, Some, [], ap, append-nil, arith, cond, count_by, find, length, length-append, option_map, nat_lt, false, option_to_list, refl, subst, sym, true, ℕ, ◌&&◌, ◌++◌, ◌==◌, ◌∙◌, ◌∷◌, ◌≡◌, ◌≤◌}
+use Rattle.std.proofs.Common.{Bool, List, None, Option, Some, [], ap, append-nil, arith, cond, count_by, find, length, length-append, option_map, nat_lt, false, option_to_list, refl, subst, sym, true, ℕ, ◌&&◌, ◌++◌, ◌==◌, ◌∙◌, ◌∷◌, ◌≡◌, ◌≤◌}
 use Rattle.std.proofs.lemmas.Bool.{and_parts}
-use Rattle.std.proofs.lemmas.List.Elements.{All-push}
 use Rattle.std.proofs.lemmas.List.Folds.{find-append, list_all-append}
 use Rattle.std.proofs.lemmas.List.Sums.{sum_by-append}
 use Rattle.std.specs.List.{list_all}
@@ -12,14 +11,13 @@ use Rattle.agent_events.specs.declared.request.AccountForm.{AccountForm}
 use Rattle.agent_events.specs.declared.request.ClassForm.{ClassForm}
 use Rattle.agent_events.specs.declared.request.DividendForm.{DividendForm}
 use Rattle.agent_events.specs.declared.request.FixRateForm.{FixRateForm}
-use Rattle.agent_events.specs.declared.request.SheetForm.{SheetForm}
 use Rattle.agent_events.specs.declared.rows.AccountRow.{AccountRow}
 use Rattle.agent_events.specs.declared.rows.RateRow.{RateRow}
 use Rattle.class_terms.specs.declared.form.TermsForm.{TermsForm}
 use Rattle.household_fold.specs.Facts.{class_in_book, rate_numbered, row_numbered, terms_numbered}
 use Rattle.journal_tables.proofs.RowsFound.{new-count, new-length, numbered-new, rates-new, rates-put}
 use Rattle.journal_tables.proofs.StandingTables.{stand-after}
-use Rattle.journal_tables.specs.Tables.{IsInRange, Tables, accounts_after, brings_good_loads, has_account_number, has_class_number, no_tables, rates_after, row_of_account, row_of_dividend, row_of_fix, terms_after}
+use Rattle.journal_tables.specs.Tables.{Tables, accounts_after, brings_good_loads, has_account_number, has_class_number, no_tables, rates_after, row_of_account, row_of_dividend, row_of_fix, terms_after}
 use Rattle.journal_tables.specs.TablesOfJournals.{AreTablesOf, LawfulBringsGoodLoads, TablesGoOn, rate_given}
 use Rattle.register_laws.proofs.FitsRows.{classes_have_good_loads}
 use Rattle.register_laws.proofs.OneEventMore.{gathers-on, rates_go_on}
@@ -28,7 +26,7 @@ use Rattle.register_laws.specs.LawfulLimits.{has_good_loads}
 use Rattle.register_laws.specs.OneEventMore.{rates_after as book_rates_after}
 use Rattle.register_machine.specs.journal.Choices.{last_of}
 use Rattle.register_machine.specs.journal.Journals.{Journal, with_event}
-use Rattle.register_machine.specs.journal.Kinds.{account_in, account_numbered, accounts_of, class_in, class_numbered, classes_of, each_in, sheet_in}
+use Rattle.register_machine.specs.journal.Kinds.{account_in, account_numbered, accounts_of, class_in, class_numbered, classes_of}
 use Rattle.register_machine.specs.pricing.DividendRates.{Rates, declares, fixes_rate, rates_of}
 use Rattle.register_machine.specs.rules.Terms.{terms_of}
 

@@ -1,24 +1,23 @@
 -- What the sheets of a lawful journal's corrected table have: classes that the journal brought.
-use Rattle.std.proofs.Common.{All, List, None, [], arith, get_or, option_to_list, refl, subst, sym, true, ℕ, ◌++◌, ◌==◌, ◌∙◌, ◌∷◌, ◌≡◌, ◌≤◌}
+use Rattle.std.proofs.Common.{All, List, None, [], get_or, refl, subst, sym, true, ℕ, ◌++◌, ◌==◌, ◌∙◌, ◌∷◌, ◌≡◌}
 use Rattle.std.proofs.lemmas.Bool.{and_parts}
 use Rattle.std.proofs.lemmas.List.Elements.{All-cons, All-head, All-map, All-nil, All-push, All-tail}
 use Rattle.std.specs.List.{list_any}
 use Rattle.agent_events.specs.Events.{Event, request_of}
 use Rattle.agent_events.specs.declared.event.EventKind.{EventKind}
 use Rattle.agent_events.specs.declared.request.ClassForm.{ClassForm}
-use Rattle.agent_events.specs.declared.request.SheetForm.{SheetForm}
 use Rattle.forward_price.specs.PriceTables.{Table, sheet_published}
 use Rattle.forward_price.specs.Sheets.{lists_class}
 use Rattle.forward_price.specs.declared.price_sheet.Sheet.{Sheet}
 use Rattle.register_laws.proofs.LawfulJournals.{lawful-keeps}
-use Rattle.register_laws.proofs.OneEventMore.{gathers-on, table_goes_on}
+use Rattle.register_laws.proofs.OneEventMore.{table_goes_on}
 use Rattle.register_laws.proofs.PricesAnew.{is_of, more-still, sheet-complete}
 use Rattle.register_laws.proofs.Tests.{any-of-map, any-with}
 use Rattle.register_laws.specs.Identities.{is_class}
 use Rattle.register_laws.specs.Lawful.{IsBrought, own_at}
 use Rattle.register_laws.specs.OneEventMore.{corrected_table}
 use Rattle.register_machine.specs.journal.Journals.{Journal, with_event}
-use Rattle.register_machine.specs.journal.Kinds.{class_in, classes_of, each_in, price_fix_in, sheet_in}
+use Rattle.register_machine.specs.journal.Kinds.{class_in, classes_of, each_in, price_fix_in}
 use Rattle.register_machine.specs.journal.Lawful.{IsLawful}
 use Rattle.register_machine.specs.pricing.CorrectedPrices.{price_as_corrected, sheet_as_corrected}
 use Rattle.register_machine.specs.pricing.PublishedTable.{table_behind, table_by, table_of}

@@ -1,7 +1,7 @@
 -- Which tables are those of a journal, and what a step reads of a lawful one.
 use Rattle.std.specs.List.{list_any}
 use Rattle.std.specs.Option.{option_or}
-use Rattle.std.specs.Prelude.{All, List, None, Option, Some, ℕ, ◌&&◌, ◌-◌, ◌==◌, ◌≡◌, ◌≤◌, count_by, find, length, option_map, slice_get, true}
+use Rattle.std.specs.Prelude.{List, None, Option, Some, ℕ, ◌&&◌, ◌-◌, ◌==◌, ◌≡◌, ◌≤◌, count_by, find, length, option_map, slice_get, true}
 use Rattle.agent_events.specs.Events.{Event}
 use Rattle.agent_events.specs.declared.event.EventKind.{EventKind}
 use Rattle.agent_events.specs.declared.request.FixPriceForm.{FixPriceForm}
@@ -17,7 +17,7 @@ use Rattle.register_laws.specs.Lawful.{book_behind}
 use Rattle.register_laws.specs.OneEventMore.{corrected_table}
 use Rattle.register_machine.specs.journal.Choices.{last_of}
 use Rattle.register_machine.specs.journal.Journals.{Journal, with_event}
-use Rattle.register_machine.specs.journal.Kinds.{account_numbered, accounts_of, class_numbered, classes_of, each_in, sheet_in}
+use Rattle.register_machine.specs.journal.Kinds.{account_numbered, accounts_of, class_numbered, classes_of}
 use Rattle.register_machine.specs.journal.Lawful.{IsLawful}
 use Rattle.register_machine.specs.rules.NamedThings.{lists_at}
 use Rattle.register_machine.specs.pricing.DividendRates.{Rates, declares, fixes_rate, rates_of}

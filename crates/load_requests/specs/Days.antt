@@ -1,6 +1,6 @@
 -- A day of a load: an order of every household an hour before the pricing moment, the sheet an hour behind it, and on every
 -- tenth day a correction of the sheet of five days before.
-use Rattle.std.specs.Prelude.{ℕ, zero, suc, ◌+◌, ◌-◌, ◌*◌, ◌/◌, ◌%◌, ◌==◌, if◌then◌else◌, List, [], ◌∷◌, Bool, option_map, unwrap_or}
+use Rattle.std.specs.Prelude.{ℕ, zero, suc, ◌+◌, ◌-◌, ◌*◌, ◌/◌, ◌%◌, ◌==◌, if◌then◌else◌, List, [], ◌∷◌, Bool, unwrap_or}
 use Rattle.agent_events.specs.declared.order.Bearer.{Bearer}
 use Rattle.agent_events.specs.declared.order.Body.{Body}
 use Rattle.agent_events.specs.declared.order.Order.{Order}

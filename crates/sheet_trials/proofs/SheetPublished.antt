@@ -1,5 +1,5 @@
 -- A sheet that follows the journal can be published in its books, which are then on trial.
-use Rattle.std.proofs.Common.{[], ap, arith, length, subst, sym, ℕ, ◌+◌, ◌∙◌, ◌∷◌, ◌≡◌, ◌≤◌}
+use Rattle.std.proofs.Common.{[], ap, arith, length, subst, sym, ℕ, ◌+◌, ◌∙◌, ◌∷◌, ◌≡◌}
 use Rattle.std.proofs.lemmas.List.{length-append}
 use Rattle.agent_events.specs.Events.{Event}
 use Rattle.agent_events.specs.declared.event.EventKind.{EventKind}

@@ -1,5 +1,5 @@
 -- Books in which a sheet is published on trial, and what a step reads of them.
-use Rattle.std.specs.Prelude.{None, length, ℕ, ◌≡◌, ◌≤◌}
+use Rattle.std.specs.Prelude.{None, length, ℕ, ◌≡◌}
 use Rattle.agent_events.specs.Events.{Event}
 use Rattle.agent_events.specs.declared.event.EventKind.{EventKind}
 use Rattle.agent_events.specs.declared.request.SheetForm.{SheetForm}

@@ -1,4 +1,4 @@
-use Rattle.std.proofs.Common.{◌≡◌, ◌<◌, ◌≤◌, ◌∙◌, [], min, length, refl, ap, arith, subst, sym}
+use Rattle.std.proofs.Common.{◌<◌, ◌≤◌, ◌∙◌, [], min, length, refl, ap, arith}
 use Rattle.serde_json.specs.View.{members_view}
 use Rattle.http_replies.proofs.ObjectLaws.{object-all, object-more}
 use Rattle.http_replies.proofs.bodies.members_of.Goals as goal

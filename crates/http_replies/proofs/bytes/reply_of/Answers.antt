@@ -1,4 +1,4 @@
-use Rattle.std.proofs.Common.{◌∙◌, List, ℕ, codes, length}
+use Rattle.std.proofs.Common.{◌∙◌, codes, length}
 use Rattle.std.specs.Prelude.{decimal}
 use Rattle.http_replies.specs.Bytes.{close_line, crlf, field_line, status_line}
 use Rattle.http_replies.proofs.BuiltLaws.{built}

@@ -1,4 +1,4 @@
-use Rattle.std.proofs.Common.{◌≡◌, ◌∙◌, Bool, List, ℕ, subst, sym}
+use Rattle.std.proofs.Common.{◌≡◌, ◌∙◌, Bool, subst, sym}
 use Rattle.http_replies.specs.Bytes.{fault_bytes}
 use Rattle.http_replies.proofs.FaultLaws.{kept-is, last-is}
 use Rattle.http_replies.proofs.faults.fault_bytes.Goals as goal

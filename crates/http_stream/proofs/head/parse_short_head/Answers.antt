@@ -1,4 +1,4 @@
-use Rattle.std.proofs.Common.{◌≡◌, ◌≤◌, length, arith}
+use Rattle.std.proofs.Common.{arith}
 use Rattle.http_stream.proofs.FieldLaws.{found-of, head-parses}
 use Rattle.http_stream.proofs.head.parse_short_head.Goals as goal
 

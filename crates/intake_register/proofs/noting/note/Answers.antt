@@ -1,4 +1,4 @@
-use Rattle.std.proofs.Common.{ap, length, subst, sym, ◌<◌, ◌∙◌, ◌≡◌}
+use Rattle.std.proofs.Common.{ap, length, subst, sym, ◌<◌, ◌∙◌}
 use Rattle.forward_price.specs.PriceTables.{Table}
 use Rattle.intake_register.proofs.noting.note.Goals as goal
 use Rattle.order_book.proofs.BroughtFits.{lawful_fits}

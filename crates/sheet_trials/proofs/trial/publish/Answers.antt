@@ -1,4 +1,3 @@
-use Rattle.std.proofs.Common.{refl}
 use Rattle.price_changes.proofs.Forms.{list_rises}
 use Rattle.sheet_trials.proofs.trial.publish.Goals as goal
 

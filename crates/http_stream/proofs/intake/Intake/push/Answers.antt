@@ -1,4 +1,4 @@
-use Rattle.std.proofs.Common.{◌≡◌, ◌≤◌, List, ℕ, ◌∙◌, ap, subst, sym, arith, length, drop}
+use Rattle.std.proofs.Common.{◌≤◌, List, ℕ, ◌∙◌, ap, subst, sym, arith, length, drop}
 use Rattle.std.proofs.lemmas.List.{drop-append-le}
 use Rattle.http_stream.specs.Kept.{IsKept}
 use Rattle.http_stream.proofs.MoreLaws.{kept-more}
