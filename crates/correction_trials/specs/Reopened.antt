@@ -1,7 +1,7 @@
 -- What the households that were reopened so far come to.
 use Rattle.std.specs.List.{Any, sum_by}
 use Rattle.std.specs.List.Sorted.{IsStrictlyIncreasing}
-use Rattle.std.specs.Prelude.{All, Contains, List, None, Option, Some, [], length, true, ℕ, ◌*◌, ◌+◌, ◌≤◌, ◌++◌, ◌+ℤ◌, ◌∷◌, ◌≡◌}
+use Rattle.std.specs.Prelude.{All, Contains, List, None, Option, Some, [], find, length, true, ℕ, ◌*◌, ◌+◌, ◌≤◌, ◌++◌, ◌+ℤ◌, ◌∷◌, ◌≡◌}
 use Rattle.agent_events.specs.Events.{Event}
 use Rattle.agent_events.specs.declared.order.OrderRow.{OrderRow}
 use Rattle.agent_events.specs.declared.order.Party.{Party}
@@ -33,7 +33,7 @@ use Rattle.register_laws.specs.Lawful.{book_behind}
 use Rattle.register_machine.specs.journal.Journals.{Journal, with_event}
 use Rattle.register_machine.specs.journal.Kinds.{accounts_of}
 use Rattle.register_machine.specs.replay.Replay.{replay}
-use Rattle.register_machine.specs.rules.Breaks.{order_corrected}
+use Rattle.register_machine.specs.rules.Breaks.{is_broken, order_corrected}
 
 -- A correction on trial over the books of a journal, with facts that serve it.
 pub record IsTriedOver (books : DeskBooks) (event : Event) (known : Known) : Type 0 where
@@ -49,6 +49,10 @@ abbrev pub broken_in : Journal → Event → ℕ → Option Trade
 broken_in journal event household =
     first_in_part (order_corrected event.kind) (replay (book_behind journal)) (accounts_of journal) household
     (replay (book_behind (with_event journal event)))
+
+-- none of these trades is unfilled where the same order is filled among them
+abbrev pub AreUnbroken : List Trade → Type 0
+AreUnbroken trades = find (is_broken None trades) trades ≡ None
 
 -- The least of the broken trades with that of one household more, where it has one; each with its turn among these orders.
 abbrev pub SeesBroken : List OrderRow → Option Trade → Option BrokenTrade → Option BrokenTrade → Type 0

@@ -1,9 +1,9 @@
 //! The trade that a correction breaks first in the part of one household.
 ghost use Rattle.std.specs.Prelude.{◌≡◌, ◌∷◌, Some, [], IfOk, OnOk, find, take};
-ghost use Rattle.std.specs.Option.{option_copied};
+ghost use Rattle.std.specs.Option.{option_copied, option_map_or};
 ghost use Rattle.checkpoint_replay.specs.Moves.{households_of, part_after};
 ghost use Rattle.checkpoint_replay.specs.Parts.{part_in};
-ghost use Rattle.correction_trials.specs.Reopened.{SeesBroken};
+ghost use Rattle.correction_trials.specs.Reopened.{AreUnbroken, SeesBroken};
 ghost use Rattle.order_book.specs.Books.{Fits};
 ghost use Rattle.register_machine.specs.journal.Journals.{with_event};
 ghost use Rattle.register_machine.specs.pricing.CorrectedOrders.{orders_of};
@@ -17,7 +17,8 @@ use money_units::NoMemory;
 use std::alloc::Global;
 
 /// Sees the first trade that a correction on trial breaks in the part of a household, between its trades so far and those that it
-/// is moved to.
+/// is moved to. A corrected price or rate names no order, so that it can break the new trades alone: then those that stay aren't
+/// looked at.
 pub(crate) fn see_broken(
     alloc: Global,
     books: &DeskBooks,
@@ -28,6 +29,7 @@ pub(crate) fn see_broken(
 ) -> Result<(), NoMemory>
     requires fits { Fits books.now.book.journal event.now }
     requires only { households_of change.now.moves ≡ household ∷ [] }
+    requires unbroken { AreUnbroken (part_in books.now.ledger.parts household).trades }
     ensures { OnOk result (SeesBroken (orders_of (with_event books.now.book.journal event.now))
         (find (is_broken (order_corrected event.now.kind)
         (part_in books.now.ledger.parts household).trades)
@@ -45,7 +47,8 @@ fn broken_of<'a>(
     household: u32,
     change: &'a Change,
 ) -> Result<Option<&'a Trade>, NoMemory>
-    requires { households_of change.now.moves ≡ household ∷ [] }
+    requires only { households_of change.now.moves ≡ household ∷ [] }
+    requires unbroken { AreUnbroken (part_in books.now.ledger.parts household).trades }
     ensures { IfOk result (λ broken. option_copied broken
         ≡ find (is_broken (order_corrected event.now.kind)
         (part_in books.now.ledger.parts household).trades)
@@ -53,14 +56,20 @@ fn broken_of<'a>(
 {
     let moved = only_move(change)?;
     let before = books.ledger.trades(household);
-    let stay = trades_kept(before, moved);
-    first_broken(
-        alloc,
-        order_corrected(event.kind()),
-        before,
-        stay,
-        moved.trades.as_slice(),
-    )
+    let order = order_corrected(event.kind());
+    let stay = trades_seen(order, before, moved);
+    first_broken(alloc, order, before, stay, moved.trades.as_slice())
+}
+
+// The old trades that stay and that a correction could break: none of them where it names no order.
+fn trades_seen<'a>(order: Option<&Order>, trades: &'a [Trade], moved: &HouseholdMove) -> &'a [Trade]
+    ensures { result.now ≡ option_map_or (λ own. take moved.kept trades.now)
+        (option_copied order.entry) [] }
+{
+    match order {
+        Some(_) => trades_kept(trades, moved),
+        None => &[],
+    }
 }
 
 // The order that a correction enters or replaces.

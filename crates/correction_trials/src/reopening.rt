@@ -7,6 +7,7 @@ ghost use Rattle.correction_trials.specs.Reopened.{AreJoined, AreReopened, IsOne
 ghost use Rattle.correction_trials.specs.Starts.{LeavesBefore, sheets_replayed};
 
 use crate::breaking::see_broken;
+use crate::references::references_in;
 use crate::starts::start_of;
 use agent_events::Event;
 use checkpoint_replay::Change;
@@ -82,6 +83,7 @@ fn reopen_more<L: StepLedger>(
     let Reopened { change, first } = so_far;
     let mut first = first;
     let one = reopen_one(alloc, books, event, facts, household, before, steps)?;
+    references_in(books);
     see_broken(alloc, books, event, household, &one, &mut first)?;
     let both = joined(change, one)?;
     Ok(Reopened {

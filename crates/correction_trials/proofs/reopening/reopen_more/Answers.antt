@@ -1,7 +1,12 @@
+use Rattle.correction_trials.proofs.KeptUnbroken.{unbroken_before}
 use Rattle.correction_trials.proofs.ReopenedMore.{more_reopened}
 use Rattle.correction_trials.proofs.TrialSteps.{sees_part, stand_apart}
 use Rattle.correction_trials.specs.Reopened.{moves_of}
 use Rattle.correction_trials.proofs.reopening.reopen_more.Goals as goal
+
+pub see_broken-requires-clause-unbroken : goal.see_broken-requires-clause-unbroken
+see_broken-requires-clause-unbroken g c =
+    unbroken_before c.args.books.now c.args.event.now c.args.facts.now c.args.household c.requires.tried c.references_in.ensures
 
 pub returns-clause-more : goal.returns-clause-more
 returns-clause-more g c done are =
