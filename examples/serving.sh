@@ -1,4 +1,4 @@
-# What both scripts over HTTP share: the words given to them, the program beside this folder, and one request by curl. It is read by them,
+# What the scripts over HTTP share: the words given to them, the program beside this folder, and one request by curl. It is read by them,
 # and is no script of its own.
 store=$1
 port=${2:-8080}
