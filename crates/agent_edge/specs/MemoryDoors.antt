@@ -1,5 +1,5 @@
 -- The door in memory: what each call does.
-use Rattle.std.specs.Prelude.{◌≡◌, ℕ, ◌-◌, ◌<◌, min, List, [], ◌∷◌, ◌++◌, length, drop, map, Option, None, Some, option_map, option_to_list, ◌⊎◌}
+use Rattle.std.specs.Prelude.{◌≡◌, ℕ, ◌-◌, ◌<◌, ◌≤◌, min, List, [], ◌∷◌, ◌++◌, length, drop, map, Option, None, Some, option_map, option_to_list, ◌⊎◌}
 use Rattle.agent_edge.specs.CallCounts.{CallsState, after_call, after_failed, IsListed}
 use Rattle.agent_edge.specs.Links.{Link, Links}
 
@@ -9,6 +9,12 @@ pub record LinkState : Type 0 where
   pub unread : List ℕ
   pub written : List ℕ
   pub room : ℕ
+
+-- What a connection keeps: it has read no more bytes than it has, and written no more than its room, for which the memory is taken.
+pub record HoldsLink (bytes : List ℕ) (position : ℕ) (written : List ℕ) (room taken : ℕ) : Type 0 where
+  pub read : position ≤ length bytes
+  pub fits : length written ≤ room
+  pub memory : room ≤ taken
 
 -- a connection that is still to be accepted: its bytes, and how many bytes it takes in all
 pub record WaitingState : Type 0 where

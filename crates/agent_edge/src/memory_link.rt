@@ -66,8 +66,8 @@ pub struct MemoryLink {
 }
 
 impl Model for MemoryLink {
-    ghost use Rattle.std.specs.Prelude.{◌≤◌, drop, length, vec_len, vec_capacity};
-    ghost use Rattle.agent_edge.specs.MemoryDoors.{LinkState};
+    ghost use Rattle.std.specs.Prelude.{drop, vec_capacity};
+    ghost use Rattle.agent_edge.specs.MemoryDoors.{HoldsLink, LinkState};
 
     ghost Value = { LinkState };
 
@@ -77,8 +77,8 @@ impl Model for MemoryLink {
       room = s.room;
     } };
 
-    ghost invariant = { λ s. (s.position ≤ length s.bytes) × (vec_len s.written ≤ s.room)
-        × (s.room ≤ vec_capacity s.written) };
+    ghost invariant = { λ s.
+        HoldsLink s.bytes s.position s.written.items s.room (vec_capacity s.written) };
 }
 
 impl MemoryLink {
