@@ -42,7 +42,8 @@ fn listen_and_serve<K: Keeper, D: Door, C: Clock, L: StepLedger>(
         (door_at (D.is_connected door.old) (D.told door.old) (D.link_faults door.old))
         result
         (door_at (D.is_connected door.new) (D.told door.new) (D.link_faults door.new))
-        (at_of desk.new.book.journal (K.faults keeper.new) (C.last clock.new) (C.coming clock.new)) }
+        (at_of desk.new.book.journal (K.faults keeper.new)
+        (C.last clock.new) (C.coming clock.new)) }
     ensures grown { (more : Journal) × (desk.new.book.journal ≡ desk.old.book.journal ++ more) }
     ensures told { TellsRowsOf (K.tells keeper.new) desk.new.book.journal }
     ensures was_honest { K.is_honest keeper.new → K.is_honest keeper.old }

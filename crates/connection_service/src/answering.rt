@@ -127,7 +127,8 @@ fn answer_read<K: Keeper, C: Clock, L: StepLedger>(
     ensures answered { IsAnswered operator.now key.now last (said_to_request last request.now)
         (at_of desk.old.book.journal (K.faults keeper.old) (C.last clock.old) (C.coming clock.old))
         (text_of last result)
-        (at_of desk.new.book.journal (K.faults keeper.new) (C.last clock.new) (C.coming clock.new)) }
+        (at_of desk.new.book.journal (K.faults keeper.new)
+        (C.last clock.new) (C.coming clock.new)) }
     ensures grown { (more : Journal) × (desk.new.book.journal ≡ desk.old.book.journal ++ more) }
     ensures told { TellsRowsOf (K.tells keeper.new) desk.new.book.journal }
     ensures attached { IsTrue (K.is_attached keeper.new) }
@@ -169,7 +170,8 @@ fn answer_one<K: Keeper, C: Clock, L: StepLedger>(
     ensures answers { AnswersOne operator.now key.now last asked.now
         (at_of desk.old.book.journal (K.faults keeper.old) (C.last clock.old) (C.coming clock.old))
         (text_of last result)
-        (at_of desk.new.book.journal (K.faults keeper.new) (C.last clock.new) (C.coming clock.new)) }
+        (at_of desk.new.book.journal (K.faults keeper.new)
+        (C.last clock.new) (C.coming clock.new)) }
     ensures grown { (more : Journal) × (desk.new.book.journal ≡ desk.old.book.journal ++ more) }
     ensures told { TellsRowsOf (K.tells keeper.new) desk.new.book.journal }
     ensures attached { IsTrue (K.is_attached keeper.new) }
@@ -200,7 +202,8 @@ pub(crate) fn answer_call<K: Keeper, C: Clock, L: StepLedger>(
     ensures answers { AnswersAsk operator.now call.now.key call.now.last call.now.ask
         (at_of desk.old.book.journal (K.faults keeper.old) (C.last clock.old) (C.coming clock.old))
         (text_of call.now.last result)
-        (at_of desk.new.book.journal (K.faults keeper.new) (C.last clock.new) (C.coming clock.new)) }
+        (at_of desk.new.book.journal (K.faults keeper.new)
+        (C.last clock.new) (C.coming clock.new)) }
     ensures grown { (more : Journal) × (desk.new.book.journal ≡ desk.old.book.journal ++ more) }
     ensures told { TellsRowsOf (K.tells keeper.new) desk.new.book.journal }
     ensures attached { IsTrue (K.is_attached keeper.new) }

@@ -142,7 +142,8 @@ pub(crate) fn answer_batch<K: Keeper, C: Clock>(
     ensures answered { IsAnswered operator.now key.now last (said_to_batch last lines.now)
         (at_of desk.old.book.journal (K.faults keeper.old) (C.last clock.old) (C.coming clock.old))
         (text_of last result)
-        (at_of desk.new.book.journal (K.faults keeper.new) (C.last clock.new) (C.coming clock.new)) }
+        (at_of desk.new.book.journal (K.faults keeper.new)
+        (C.last clock.new) (C.coming clock.new)) }
     ensures grown { (more : Journal) × (desk.new.book.journal ≡ desk.old.book.journal ++ more) }
     ensures told { TellsRowsOf (K.tells keeper.new) desk.new.book.journal }
     ensures attached { IsTrue (K.is_attached keeper.new) }

@@ -19,7 +19,8 @@ pub fn runs_answer_the_items_of_the_stream()
 pub fn runs_go_on()
     ensures journal { (operator : List ℕ) (stream : Stream) (opened : At) (left : Stream)
         (at : At) (texts : List (List ℕ))
-        → Run operator stream opened left at texts → (more : Journal) × (at.kept.journal ≡ opened.kept.journal ++ more) }
+        → Run operator stream opened left at texts
+        → (more : Journal) × (at.kept.journal ≡ opened.kept.journal ++ more) }
     ensures clock { (operator : List ℕ) (stream : Stream) (opened : At) (left : Stream) (at : At)
         (texts : List (List ℕ))
         → Run operator stream opened left at texts → opened.clock.last ≤ at.clock.last }

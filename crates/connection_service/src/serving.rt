@@ -260,7 +260,8 @@ fn serve_all<K: Keeper, D: Door, C: Clock, L: StepLedger>(
         (at_of desk.old.book.journal (K.faults keeper.old) (C.last clock.old) (C.coming clock.old))
         (D.told door.old) result
         (D.told door.new)
-        (at_of desk.new.book.journal (K.faults keeper.new) (C.last clock.new) (C.coming clock.new)) }
+        (at_of desk.new.book.journal (K.faults keeper.new)
+        (C.last clock.new) (C.coming clock.new)) }
     ensures grown { (more : Journal) × (desk.new.book.journal ≡ desk.old.book.journal ++ more) }
     ensures told { TellsRowsOf (K.tells keeper.new) desk.new.book.journal }
     ensures attached { IsTrue (K.is_attached keeper.new) }
@@ -305,7 +306,8 @@ pub fn serve_connection<K: Keeper, D: Door, C: Clock, L: StepLedger>(
         (at_of desk.old.book.journal (K.faults keeper.old) (C.last clock.old) (C.coming clock.old))
         (D.told door.old) result
         (D.told door.new)
-        (at_of desk.new.book.journal (K.faults keeper.new) (C.last clock.new) (C.coming clock.new)) }
+        (at_of desk.new.book.journal (K.faults keeper.new)
+        (C.last clock.new) (C.coming clock.new)) }
 
     // The journal only grows, and the rows that are told are its own.
     ensures grown { (more : Journal) × (desk.new.book.journal ≡ desk.old.book.journal ++ more) }

@@ -36,7 +36,8 @@ impl Desk {
         ensures journal { self.new.book.journal ≡ self.old.book.journal }
         ensures keeper { keeper.new ≡ keeper.old }
         ensures answer { IfOk result (λ prepared. batch_given (batch_answer
-            (own_at self.old.book.journal moment caller) (Ok lines.now)) ≡ batch_prepared prepared) }
+            (own_at self.old.book.journal moment caller) (Ok lines.now))
+            ≡ batch_prepared prepared) }
         ensures prepared { IfOk result (IsBatchPreparedAt self.new) }
     {
         let answered = answer_batch(self.alloc, &self.books, moment, caller, lines)?;

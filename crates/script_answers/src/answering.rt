@@ -189,7 +189,8 @@ fn answer_read<K: Keeper, L: StepLedger>(
     requires attached { IsTrue (K.is_attached keeper.old) }
     requires told { TellsRowsOf (K.tells keeper.old) desk.old.book.journal }
     ensures line { IfOk result (λ line. line.items
-        ≡ run.reply_line (answer_behind operator.now desk.old.book.journal (item_seen item)).reply) }
+        ≡ run.reply_line
+        (answer_behind operator.now desk.old.book.journal (item_seen item)).reply) }
     ensures journal { OnOk result (desk.new.book.journal
         ≡ desk.old.book.journal ++
         (answer_behind operator.now desk.old.book.journal (item_seen item)).events) }
