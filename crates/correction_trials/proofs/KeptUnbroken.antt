@@ -1,5 +1,5 @@
 -- A household's trades break among themselves no order, so those that stay aren't looked at where a correction names no order.
-use Rattle.std.proofs.Common.{All, Bool, List, None, Option, Some, [], cond, false, find, refl, subst, sym, take, true, ℕ, ◌++◌, ◌<◌, ◌∷◌, ◌≡◌}
+use Rattle.std.proofs.Common.{All, Bool, List, None, Option, Some, [], cond, false, find, refl, subst, suc, sym, take, true, zero, ℕ, ◌++◌, ◌<◌, ◌∷◌, ◌≡◌}
 use Rattle.std.specs.Option.{option_map_or}
 use Rattle.agent_events.specs.Events.{Event}
 use Rattle.agent_events.specs.declared.order.Order.{Order}
@@ -22,11 +22,11 @@ some-none e = cc
 found-behind : {X : Type 0} (p : X → Bool) (k : ℕ) (xs ys : List X) → find p xs ≡ None → find p (take k xs ++ ys) ≡ find p ys
 found-behind p zero xs ys none = refl
 found-behind p (suc k) [] ys none = refl
-found-behind {X = X} p (suc k) (x ∷ xs) ys none = by (p x) none
+found-behind {X = X} p (suc k) (x ∷ xs) ys none = by (p x) none (found-behind p k xs ys)
   where
-    by : (b : Bool) → cond b (Some x) (find p xs) ≡ None → cond b (Some x) (find p (take k xs ++ ys)) ≡ find p ys
-    by true here = absurd (some-none here)
-    by false rest = found-behind p k xs ys rest
+    by : (b : Bool) → cond b (Some x) (find p xs) ≡ None → (find p xs ≡ None → find p (take k xs ++ ys) ≡ find p ys) → cond b (Some x) (find p (take k xs ++ ys)) ≡ find p ys
+    by true here rest = absurd (some-none here)
+    by false none rest = rest none
 
 -- the trades that stay are left out where no order is named
 pub seen_behind : (order : Option Order) (kept : ℕ) (trades back : List Trade) → AreUnbroken trades → find (is_broken order trades) (option_map_or (λ own. take kept trades) order [] ++ back) ≡ find (is_broken order trades) (take kept trades ++ back)

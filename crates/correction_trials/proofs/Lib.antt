@@ -26,3 +26,5 @@ pub mod OneMoved
 pub mod OneMore
 -- the replay of one household from the start that is kept of it
 pub mod ReopenedOne
+-- the trades that stay break no order
+pub mod KeptUnbroken

@@ -63,7 +63,7 @@ fn broken_of<'a>(
 
 // The old trades that stay and that a correction could break: none of them where it names no order.
 fn trades_seen<'a>(order: Option<&Order>, trades: &'a [Trade], moved: &HouseholdMove) -> &'a [Trade]
-    ensures { result.now ≡ option_map_or (λ own. take moved.kept trades.now)
+    ensures { result.now ≡ option_map_or (λ own. take moved.now.kept trades.now)
         (option_copied order.entry) [] }
 {
     match order {
