@@ -1,8 +1,10 @@
 //! What the definition of a run over a connection means.
-ghost use Rattle.std.specs.Prelude.{◌≡◌, ◌≤◌, ◌++◌, List, length, ℕ};
-ghost use Rattle.connection_service.specs.Answers.{At};
+ghost use Rattle.std.specs.Prelude.{◌≡◌, ◌≤◌, ◌++◌, Bool, List, length, ℕ};
+ghost use Rattle.agent_events.specs.declared.request.Request.{Request};
+ghost use Rattle.connection_service.specs.Answers.{Answers, At};
+ghost use Rattle.connection_service.specs.Requests.{Asks, IsRuledOrUnkept, SaysUnkept};
 ghost use Rattle.connection_service.specs.Runs.{Run};
-ghost use Rattle.http_calls.specs.Calls.{ends};
+ghost use Rattle.http_calls.specs.Calls.{ends, item_key};
 ghost use Rattle.http_stream.specs.Stream.{Items, Stream, StreamItem};
 ghost use Rattle.register_machine.specs.journal.Journals.{Journal};
 
@@ -23,4 +25,24 @@ pub fn runs_go_on()
     ensures clock { (operator : List ℕ) (stream : Stream) (opened : At) (left : Stream) (at : At)
         (texts : List (List ℕ))
         → Run operator stream opened left at texts → opened.clock.last ≤ at.clock.last }
+{}
+
+/// A request that breaks no rule is accepted: its reply is no refusal, and its event is kept. One that breaks some is refused by the
+/// first, and nothing is kept. In the place of either reply stands only a 503 or a 507.
+pub fn requests_that_break_no_rule_are_accepted()
+    ensures { (operator : List ℕ) (item : StreamItem) (request : Request) (last : Bool) (old : At)
+        (bytes : List ℕ) (new : At)
+        → Asks item request → Answers operator item last old bytes new
+        → IsRuledOrUnkept operator (item_key item) last request old bytes new }
+{
+    register_laws::answer_laws::requests_are_refused_by_the_first_rule_broken();
+    register_laws::answer_laws::requests_that_break_no_rule_bring_their_event();
+}
+
+/// Behind a 503 or a 507, whatever the item, the journal is the one before. No reply of the register has such a text.
+pub fn answers_503_and_507_keep_nothing()
+    ensures { (operator : List ℕ) (item : StreamItem) (last : Bool) (old : At) (bytes : List ℕ)
+        (new : At)
+        → Answers operator item last old bytes new → SaysUnkept last bytes
+        → new.kept.journal ≡ old.kept.journal }
 {}
