@@ -7,3 +7,4 @@ pub mod CountFacts
 pub mod StepFacts
 pub mod GoingFacts
 pub mod UnkeptTexts
+pub mod LawfulRuns

@@ -1,6 +1,6 @@
 -- what each item of a connection is answered with
 pub mod Answers
--- what becomes of a request by the rules
+-- what becomes of a request: the rules, and its household's view
 pub mod Requests
 -- a run over the items of a connection
 pub mod Runs

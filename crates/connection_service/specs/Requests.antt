@@ -1,10 +1,11 @@
--- What becomes of a request over a connection: it is refused by the first rule that it breaks, or accepted.
-use Rattle.std.specs.Prelude.{Bool, List, None, Ok, Option, Some, [], false, ℕ, ◌++◌, ◌∷◌, ◌≡◌, ◌⊎◌}
+-- What becomes of a request over a connection: it is refused by the first rule that it breaks, or accepted; and a household's own
+-- is answered as from its own view of the journal.
+use Rattle.std.specs.Prelude.{Bool, List, None, Ok, Option, Some, [], false, max, ℕ, ◌++◌, ◌∷◌, ◌≡◌, ◌⊎◌}
 use Rattle.agent_events.specs.Events.{Event}
 use Rattle.agent_events.specs.declared.reply.Refusal.{Refusal}
 use Rattle.agent_events.specs.declared.reply.Reply.{Reply}
 use Rattle.agent_events.specs.declared.request.Request.{Request}
-use Rattle.connection_service.specs.Answers.{At, Kept, Reads, situation_read}
+use Rattle.connection_service.specs.Answers.{At, Gets, Kept, Reads, said_once, situation_read}
 use Rattle.http_calls.specs.Calls.{item_answer}
 use Rattle.http_calls.specs.declared.calls.CallAsk.{CallAsk}
 use Rattle.http_replies.specs.Bytes.{bytes_of, fault_bytes}
@@ -12,7 +13,10 @@ use Rattle.http_stream.specs.Stream.{StreamItem}
 use Rattle.http_stream.specs.declared.fault.HttpFault.{HttpFault}
 use Rattle.register_laws.specs.Answers.{is_query}
 use Rattle.register_laws.specs.Completeness.{event_brought, is_known, is_refusal, refusal_of}
+use Rattle.register_machine.specs.journal.Journals.{last_moment}
+use Rattle.register_machine.specs.journal.Views.{view}
 use Rattle.register_machine.specs.rules.Situations.{Situation}
+use Rattle.register_machine.specs.run.Answers.{machine_answer}
 
 -- an item of the stream asks this request
 abbrev pub Asks : StreamItem → Request → Type 0
@@ -44,3 +48,11 @@ pub record IsRuledOrUnkept (operator key : List ℕ) (last : Bool) (request : Re
   pub ruled : SaysUnkept last bytes
       ⊎ IsRuled (refusal_of (situation_read operator old.kept.journal key reading) request)
       (situation_read operator old.kept.journal key reading) request last old.kept bytes new.kept
+
+-- A request gets what the machine says to it behind the household's own view of the journal, at the moment that it has in the journal.
+pub record IsAnsweredInView (household : ℕ) (operator key : List ℕ) (last : Bool) (request : Request) (old : At) (bytes : List ℕ) (new : At) : Type 0 where
+  pub reading : ℕ
+  pub read : Reads old.clock reading new.clock
+  pub gets : Gets last
+      (said_once last (machine_answer operator (view household old.kept.journal) (max reading (last_moment old.kept.journal)) key request))
+      old.kept bytes new.kept

@@ -1,12 +1,14 @@
 //! What the definition of a run over a connection means.
-ghost use Rattle.std.specs.Prelude.{◌≡◌, ◌≤◌, ◌++◌, Bool, List, length, ℕ};
+ghost use Rattle.std.specs.Prelude.{◌≡◌, ◌≤◌, ◌<◌, ◌++◌, Bool, List, length, ℕ};
 ghost use Rattle.agent_events.specs.declared.request.Request.{Request};
 ghost use Rattle.connection_service.specs.Answers.{Answers, At};
-ghost use Rattle.connection_service.specs.Requests.{Asks, IsRuledOrUnkept, SaysUnkept};
+ghost use Rattle.connection_service.specs.Requests.{Asks, IsAnsweredInView, IsRuledOrUnkept, SaysUnkept};
 ghost use Rattle.connection_service.specs.Runs.{Run};
 ghost use Rattle.http_calls.specs.Calls.{ends, item_key};
 ghost use Rattle.http_stream.specs.Stream.{Items, Stream, StreamItem};
+ghost use Rattle.register_laws.specs.Isolation.{IsAskedOf};
 ghost use Rattle.register_machine.specs.journal.Journals.{Journal};
+ghost use Rattle.register_machine.specs.journal.Lawful.{IsLawful};
 
 /// A run has a text for each of the first items of its stream, in order; so in whatever pieces the bytes came, its items are those of
 /// the whole stream.
@@ -46,3 +48,26 @@ pub fn answers_503_and_507_keep_nothing()
         → Answers operator item last old bytes new → SaysUnkept last bytes
         → new.kept.journal ≡ old.kept.journal }
 {}
+
+/// A run behind a lawful journal leaves it lawful, so each of its items is answered behind a lawful one.
+pub fn runs_leave_journals_lawful()
+    ensures { (operator : List ℕ) (stream : Stream) (opened : At) (left : Stream) (at : At)
+        (texts : List (List ℕ))
+        → IsLawful opened.kept.journal → Run operator stream opened left at texts
+        → IsLawful at.kept.journal }
+{
+    register_laws::batch_laws::batches_leave_journals_lawful();
+}
+
+/// While the journal isn't full, an order, a cancel, a look at an account and a statement of a household are answered as from the
+/// household's own view of the journal, whatever the key: with the reply that the machine gives there, and with the same event kept.
+pub fn households_are_answered_from_their_views()
+    ensures { (operator : List ℕ) (item : StreamItem) (request : Request) (household : ℕ)
+        (last : Bool) (old : At) (bytes : List ℕ) (new : At)
+        → IsLawful old.kept.journal → length old.kept.journal < 100000000
+        → Asks item request → IsAskedOf old.kept.journal household request
+        → Answers operator item last old bytes new
+        → IsAnsweredInView household operator (item_key item) last request old bytes new }
+{
+    register_laws::household_laws::households_are_isolated();
+}
