@@ -6,3 +6,5 @@ pub mod ServingFacts
 pub mod CountFacts
 pub mod StepFacts
 pub mod GoingFacts
+pub mod UnkeptTexts
+pub mod LawfulRuns

@@ -1,0 +1,58 @@
+-- What becomes of a request over a connection: it is refused by the first rule that it breaks, or accepted; and a household's own
+-- is answered as from its own view of the journal.
+use Rattle.std.specs.Prelude.{Bool, List, None, Ok, Option, Some, [], false, max, ℕ, ◌++◌, ◌∷◌, ◌≡◌, ◌⊎◌}
+use Rattle.agent_events.specs.Events.{Event}
+use Rattle.agent_events.specs.declared.reply.Refusal.{Refusal}
+use Rattle.agent_events.specs.declared.reply.Reply.{Reply}
+use Rattle.agent_events.specs.declared.request.Request.{Request}
+use Rattle.connection_service.specs.Answers.{At, Gets, Kept, Reads, said_once, situation_read}
+use Rattle.http_calls.specs.Calls.{item_answer}
+use Rattle.http_calls.specs.declared.calls.CallAsk.{CallAsk}
+use Rattle.http_replies.specs.Bytes.{bytes_of, fault_bytes}
+use Rattle.http_stream.specs.Stream.{StreamItem}
+use Rattle.http_stream.specs.declared.fault.HttpFault.{HttpFault}
+use Rattle.register_laws.specs.Answers.{is_query}
+use Rattle.register_laws.specs.Completeness.{event_brought, is_known, is_refusal, refusal_of}
+use Rattle.register_machine.specs.journal.Journals.{last_moment}
+use Rattle.register_machine.specs.journal.Views.{view}
+use Rattle.register_machine.specs.rules.Situations.{Situation}
+use Rattle.register_machine.specs.run.Answers.{machine_answer}
+
+-- an item of the stream asks this request
+abbrev pub Asks : StreamItem → Request → Type 0
+Asks item request = item_answer item ≡ Ok (CallAsk.One (Ok request))
+
+-- a text says that nothing was kept: the keeper failed, or memory was wanting
+abbrev pub SaysUnkept : Bool → List ℕ → Type 0
+SaysUnkept last bytes = (bytes ≡ fault_bytes HttpFault.S503 last) ⊎ (bytes ≡ fault_bytes HttpFault.S507 last)
+
+-- The reply is no refusal; and where the content is new and more than a look is asked for, the event that the request brings is
+-- kept.
+pub record IsAccepted (situation : Situation) (request : Request) (last : Bool) (old : Kept) (bytes : List ℕ) (new : Kept) : Type 0 where
+  pub reply : Reply
+  pub said : bytes ≡ bytes_of reply last
+  pub granted : is_refusal reply ≡ false
+  pub kept : is_known situation request ≡ false → is_query request ≡ false
+      → (event : Event) × (event_brought situation request ≡ Some event) × (new.journal ≡ old.journal ++ event ∷ [])
+
+-- by the first rule that is broken, where one is
+abbrev pub IsRuled : Option Refusal → Situation → Request → Bool → Kept → List ℕ → Kept → Type 0
+IsRuled None situation request last old bytes new = IsAccepted situation request last old bytes new
+IsRuled (Some refusal) situation request last old bytes new = (bytes ≡ bytes_of (Reply.Refused refusal) last) × (new ≡ old)
+
+-- A request that breaks no rule, at the reading that it took, is accepted, and one that breaks some is refused by the first; unless its
+-- text says that nothing was kept.
+pub record IsRuledOrUnkept (operator key : List ℕ) (last : Bool) (request : Request) (old : At) (bytes : List ℕ) (new : At) : Type 0 where
+  pub reading : ℕ
+  pub read : Reads old.clock reading new.clock
+  pub ruled : SaysUnkept last bytes
+      ⊎ IsRuled (refusal_of (situation_read operator old.kept.journal key reading) request)
+      (situation_read operator old.kept.journal key reading) request last old.kept bytes new.kept
+
+-- A request gets what the machine says to it behind the household's own view of the journal, at the moment that it has in the journal.
+pub record IsAnsweredInView (household : ℕ) (operator key : List ℕ) (last : Bool) (request : Request) (old : At) (bytes : List ℕ) (new : At) : Type 0 where
+  pub reading : ℕ
+  pub read : Reads old.clock reading new.clock
+  pub gets : Gets last
+      (said_once last (machine_answer operator (view household old.kept.journal) (max reading (last_moment old.kept.journal)) key request))
+      old.kept bytes new.kept
