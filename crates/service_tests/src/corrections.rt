@@ -2,7 +2,7 @@
 use crate::calendars::PricingDays;
 use crate::worked::Worked;
 
-pub const CORRECTIONS: [Worked; 8] = [
+pub const CORRECTIONS: [Worked; 9] = [
     // 10000.00 at the first sheet's 10.00 are 1000.000 shares, which are worth 10500.00 by now. The dealer pays the
     // difference. Sent again, the correction is answered as before, and nothing is paid twice.
     Worked {
@@ -155,6 +155,37 @@ ok,trace,101,1,filled,1719838800,1719864000,10.00,100.000,1000.00,0.00,0.000\n\
 ok,fix,2,14:1000.00\n\
 ok,trace,101,1,filled,1719867700,1719950400,20.00,50.000,1000.00,0.00,0.000\n\
 ok,show,101,14:50.000:0.000:1000.00\n",
+    },
+    // Class 13 has a price on both sheets and no order: no trade is another one, on an earlier sheet or the last, so there
+    // are no gains, and books and statements stay.
+    Worked {
+        name: "a corrected price of a class that nobody holds",
+        days: PricingDays::Each,
+        items: b"1719838800,h-mary000001,buy,101,1,14,1000.00\n\
+1719867600,op-desk000001,sheet,1,1719864000,11:10.00 12:10.00 13:20.00 14:10.00\n\
+1719954000,op-desk000001,sheet,1,1719950400,11:10.00 12:10.00 13:20.00 14:10.50\n",
+        looks: b"1719954000,op-desk000001,books\n\
+1719954000,h-mary000001,statement,101,2024-07-01,2024-07-31\n\
+1719954000,op-desk000001,fixprice,1,agent,13,1719864000,25.00\n\
+1719954000,op-desk000001,fixprice,2,fund,13,1719950400,18.00\n\
+1719954000,op-desk000001,books\n\
+1719954000,h-mary000001,statement,101,2024-07-01,2024-07-31\n\
+1719954000,op-desk000001,fixprice,1,agent,13,1719864000,25.00\n",
+        replies: b"ok,books,11:0.000:0.00 12:0.000:0.00 13:0.000:0.00 14:100.000:1000.00,0.00,0.00,5:0.00,\
+-1000.00\n\
+ok,statement,101,\"STATEMENT 101 MARY DOE\nPERIOD 2024-07-01 2024-07-31\n\
+2024-07-01 buy ref 1 class 14 gross 1000.00 price 10.00 shares 100.000 charge 0.00\n\
+HOLDINGS\n\
+class 14 INDEX-N shares 100.000 escrow 0.000 cost 1000.00 nav 10.50 value 1050.00\nEND\n\"\n\
+ok,fix,1,\n\
+ok,fix,2,\n\
+ok,books,11:0.000:0.00 12:0.000:0.00 13:0.000:0.00 14:100.000:1000.00,0.00,0.00,5:0.00,\
+-1000.00\n\
+ok,statement,101,\"STATEMENT 101 MARY DOE\nPERIOD 2024-07-01 2024-07-31\n\
+2024-07-01 buy ref 1 class 14 gross 1000.00 price 10.00 shares 100.000 charge 0.00\n\
+HOLDINGS\n\
+class 14 INDEX-N shares 100.000 escrow 0.000 cost 1000.00 nav 10.50 value 1050.00\nEND\n\"\n\
+ok,fix,1,\n",
     },
     // The class gives 1000.00 back for shares that are worth as much. Nothing is held behind it, and what is bought later
     // stands alone.

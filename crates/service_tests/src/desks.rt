@@ -4,12 +4,16 @@ ghost use Rattle.dealer_lines.specs.Lines.{all_lines};
 ghost use Rattle.register_desk.specs.Rows.{TellsRowsOf};
 
 use crate::runs::open;
-use crate::texts::{DEALER, MARY, OPERATOR, PREAMBLE};
-use agent_events::{Amount, Asked, Body, Identifier, LineForm, Order, Reference, Reply, Request};
+use crate::texts::{DEALER, MARY, OPERATOR, PREAMBLE, TWO_DAYS, joined, together};
+use crate::worked::replies;
+use agent_events::{
+    Amount, Asked, Bearer, Body, FixPriceForm, Identifier, LineForm, Order, Reference, Reply,
+    Request,
+};
 use agent_http::reply_line;
 use agent_keeper::{KeepFault, Keeper, MemoryKeeper};
 use household_fold::Steps;
-use money_units::{Cents, Moment, NoMemory};
+use money_units::{Cents, Moment, Nav, NoMemory};
 use register_desk::Desk;
 use std::alloc::Global;
 use std::marker::Brand;
@@ -137,11 +141,12 @@ fn a_batch_is_kept_whole_or_not_at_all(rt: HostRuntime) -> Result<(), Fail> {
     Ok(())
 }
 
-// Prepares a request of a household's at the last moment, and commits what it brings.
+// Prepares a request at the last moment, and commits what it brings.
 fn commit_request<K: Keeper, L: Ledger>(
     alloc: Global,
     desk: &mut Desk,
     keeper: &mut K,
+    key: &[u8],
     request: &Request,
     steps: &mut Steps<L>,
 ) -> Result<Told, Fail>
@@ -151,7 +156,7 @@ fn commit_request<K: Keeper, L: Ledger>(
     ensures told { TellsRowsOf (K.tells keeper.new) desk.new.book.journal }
 {
     let moment = desk.last_moment();
-    let caller = desk.caller_of(MARY, OPERATOR);
+    let caller = desk.caller_of(key, OPERATOR);
     let prepared = desk.prepare(keeper, moment, caller, request, steps)?;
     let mut lines = Vec::new(alloc);
     reply_line(alloc, prepared.reply(), &mut lines)?;
@@ -178,8 +183,8 @@ fn commit_both<K: Keeper, L: Ledger>(
     requires attached { IsTrue (K.is_attached keeper.old) }
     requires told { TellsRowsOf (K.tells keeper.old) desk.old.book.journal }
 {
-    let one = commit_request(alloc, desk, keeper, &Request::Order(first), steps)?;
-    let other = commit_request(alloc, desk, keeper, &Request::Order(second), steps)?;
+    let one = commit_request(alloc, desk, keeper, MARY, &Request::Order(first), steps)?;
+    let other = commit_request(alloc, desk, keeper, MARY, &Request::Order(second), steps)?;
     Ok((one, other))
 }
 
@@ -212,5 +217,96 @@ fn what_is_accepted_is_kept_and_a_refusal_is_not(rt: HostRuntime) -> Result<(), 
     assert_eq!(rt; second.lines.as_slice(), b"no,1\n".as_slice());
     assert_eq!(rt; (second.base, second.kept, second.events), (12, Ok(()), 12));
     assert_eq!(rt; keeper.len(), Ok(12));
+    Ok(())
+}
+
+// 8.00 in the place of the first sheet's 10.00 of class 11, and the agent bears a loss.
+fn corrected_price() -> Result<Request, Fail> {
+    Ok(Request::FixPrice(FixPriceForm {
+        fix: Reference::new(1).ok_or("a reference")?,
+        bearer: Bearer::Agent,
+        class: Identifier::new(11).ok_or("a number from 1 on")?,
+        moment: Moment::new(1_719_864_000).ok_or("a moment")?,
+        nav: Nav::new(800).ok_or("a net asset value")?,
+    }))
+}
+
+// Prepares a request of the operator's at the last moment, and discards it: the line of its reply.
+fn discard_request<K: Keeper, L: Ledger>(
+    alloc: Global,
+    desk: &mut Desk,
+    keeper: &mut K,
+    request: &Request,
+    steps: &mut Steps<L>,
+) -> Result<Vec<u8>, Fail>
+    requires attached { IsTrue (K.is_attached keeper.old) }
+    requires told { TellsRowsOf (K.tells keeper.old) desk.old.book.journal }
+    ensures attached { IsTrue (K.is_attached keeper.new) }
+    ensures told { TellsRowsOf (K.tells keeper.new) desk.new.book.journal }
+{
+    let moment = desk.last_moment();
+    let caller = desk.caller_of(OPERATOR, OPERATOR);
+    let prepared = desk.prepare(keeper, moment, caller, request, steps)?;
+    let mut line = Vec::new(alloc);
+    reply_line(alloc, prepared.reply(), &mut line)?;
+    prepared.discard();
+    Ok(line)
+}
+
+// What is asked before a correction, between and behind.
+const LOOKS: &[u8] = b"1719954000,op-desk000001,show,101\n\
+1719954000,op-desk000001,trace,101,1\n\
+1719954000,op-desk000001,books\n";
+
+// What a desk behind a script tells, a stroke behind each: looks, a correction that is discarded, the looks, the correction that is
+// prepared again and committed, and the looks; with the events before the commit and behind it.
+fn discard_and_commit<L: Ledger>(
+    alloc: Global,
+    blank: Blank,
+    keeper: &mut MemoryKeeper,
+    script: &[u8],
+) -> Result<(Vec<u8>, u64, u64), Fail>
+    requires name { blank.name ≡ L.name }
+    requires parts { blank.parts ≡ L.parts }
+    requires some { 0 < blank.parts }
+{
+    let mut steps = Steps::<L>::new(blank);
+    let request = corrected_price()?;
+    let mut desk = open(alloc, keeper, script, &mut steps)?;
+    let before = replies(alloc, &mut desk, keeper, LOOKS, &mut steps)?;
+    let line = discard_request(alloc, &mut desk, keeper, &request, &mut steps)?;
+    let after = replies(alloc, &mut desk, keeper, LOOKS, &mut steps)?;
+    let told = commit_request(alloc, &mut desk, keeper, OPERATOR, &request, &mut steps)?;
+    let behind = replies(alloc, &mut desk, keeper, LOOKS, &mut steps)?;
+    let all = joined(alloc, &[&before, &line, &after, &told.lines, &behind])?;
+    Ok((all, told.base, told.events))
+}
+
+const BEFORE: &[u8] = b"ok,show,101,11:942.507:0.000:10000.00\n\
+ok,trace,101,1,filled,1719838800,1719864000,10.61,942.507,10000.00,574.93,0.000\n\
+ok,books,11:942.507:9425.07 12:0.000:0.00 13:0.000:0.00 14:0.000:0.00,574.93,0.00,5:0.00,-10000.00\n";
+
+// At 8.00 the offering price is 8.49, and 10000.00 buy 1177.856 shares, worth 9422.85 (9422.848) at 8.00. The class has 2.22 less and
+// 235.349 shares more, worth 2353.49 at 10.00.
+const FIXED: &[u8] = b"ok,fix,1,11:-2355.71\n";
+
+const BEHIND: &[u8] = b"ok,show,101,11:1177.856:0.000:10000.00\n\
+ok,trace,101,1,filled,1719838800,1719864000,8.49,1177.856,10000.00,577.15,0.000\n\
+ok,books,11:1177.856:11778.56 12:0.000:0.00 13:0.000:0.00 14:0.000:0.00,577.15,-2355.71,5:0.00,\
+-10000.00\n";
+
+#[test]
+fn a_correction_that_is_discarded_leaves_all_as_before(rt: HostRuntime) -> Result<(), Fail> {
+    let script = together(rt.alloc(), PREAMBLE, TWO_DAYS)?;
+    let wanted = joined(rt.alloc(), &[BEFORE, FIXED, BEFORE, FIXED, BEHIND])?;
+    let mut keeper = MemoryKeeper::new(rt.alloc(), &[])?;
+    let (all, base, events) = discard_and_commit::<Brand>(
+        rt.alloc(),
+        Blank::new(1),
+        &mut keeper,
+        &script,
+    )?;
+    assert_eq!(rt; all.as_slice(), wanted.as_slice());
+    assert_eq!(rt; (base, events, keeper.len()), (14, 15, Ok(15)));
     Ok(())
 }

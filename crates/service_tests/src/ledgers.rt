@@ -1,5 +1,5 @@
-//! A book of 50 households over 70 sheets: what is corrected at its end stands as if it had been right from the start, and opened
-//! anew it stands the same.
+//! A book of 50 households over 70 sheets: what is corrected, in whichever order, stands as if it had been right from the start, and
+//! opened anew it stands the same.
 use crate::calendars::PricingDays;
 use crate::worked::looks_behind;
 use money_units::NoMemory;
@@ -9,14 +9,85 @@ use std::test::Fail;
 // How many households have an account each, 1001 and so on, and how many days from 2024-07-01 on the sheets are of.
 const HOUSEHOLDS: u64 = 50;
 
-const DAYS: u64 = 98;
+const DAYS: u64 = 99;
 
-// The days whose prices, rates and orders are corrected: three Mondays.
+// The days whose price and rate are corrected, and the one behind whose sheet some corrections come: three Mondays.
 const PRICE_DAY: u64 = 7;
 
 const RATE_DAY: u64 = 21;
 
-const ORDER_DAY: u64 = 35;
+const EARLY_DAY: u64 = 56;
+
+// Orders that the book has where it is right, each with the day before whose pricing moment it was received, on Mondays too.
+const RIGHT_ORDERS: [(u64, &[u8]); 3] = [
+    (28, b"buy,1005,902,12,5000.00\n"),
+    (35, b"buy,1004,901,12,20000.00\n"),
+    (49, b"buy,1006,903,13,4000.00\n"),
+];
+
+// And where it is wrong: one that is of another account, one two weeks late and one two weeks early.
+const WRONG_ORDERS: [(u64, &[u8]); 3] = [
+    (35, b"buy,1003,900,12,60000.00\n"),
+    (42, b"buy,1005,902,12,5000.00\n"),
+    (35, b"buy,1006,903,13,4000.00\n"),
+];
+
+// What corrects each: the price and the rate of their days, the order that is wanting and the other one in its place, and the orders
+// that are moved to an earlier and to a later sheet, 50 minutes before these days' pricing moments.
+const PRICE: &[u8] = b"fixprice,1,fund,12,1720468800,10.71\n";
+
+const RATE: &[u8] = b"fixrate,2,fund,12,1721678400,0.230000\n";
+
+const ENTERED: &[u8] = b"enter,3,fund,1722885000,buy,1004,901,12,20000.00\n";
+
+const VOIDED: &[u8] = b"void,4,fund,1003,900\n";
+
+const EARLIER: &[u8] = b"replace,5,fund,1722280200,buy,1005,902,12,5000.00\n";
+
+const LATER: &[u8] = b"replace,6,fund,1724094600,buy,1006,903,13,4000.00\n";
+
+// A book that is right from the start, or wrong at first: with the corrections that come behind the sheet of the early day, and those
+// at the end, in order.
+struct Book {
+    name: &'static str,
+    wrong: bool,
+    early: &'static [&'static [u8]],
+    late: &'static [&'static [u8]],
+}
+
+const RIGHT: Book = Book {
+    name: "right from the start",
+    wrong: false,
+    early: &[],
+    late: &[],
+};
+
+const CORRECTED: [Book; 4] = [
+    Book {
+        name: "by day",
+        wrong: true,
+        early: &[],
+        late: &[PRICE, RATE, EARLIER, ENTERED, VOIDED, LATER],
+    },
+    Book {
+        name: "the last day first",
+        wrong: true,
+        early: &[],
+        late: &[LATER, VOIDED, ENTERED, EARLIER, RATE, PRICE],
+    },
+    Book {
+        name: "some early, and at the end those of earlier days",
+        wrong: true,
+        early: &[VOIDED, LATER, RATE],
+        late: &[EARLIER, PRICE, ENTERED],
+    },
+    Book {
+        name: "the moved order before the rate of its dividend",
+        wrong: true,
+        early: &[EARLIER, PRICE],
+        late: &[ENTERED, LATER, VOIDED, RATE],
+    },
+];
 
 // The pricing moment of a day.
 fn moment_of(day: u64) -> u64 {
@@ -100,21 +171,23 @@ fn words_of(turn: u64) -> (&'static [u8], &'static [u8]) {
     }
 }
 
-// The orders of a day, an hour before its pricing moment.
-fn add_orders(text: &mut Vec<u8>, alloc: Global, day: u64) -> Result<(), NoMemory> {
-    let moment = moment_of(day).saturating_sub(3_600);
+// The orders of a day, an hour before its pricing moment; or, at the end, what came of each.
+fn add_orders(text: &mut Vec<u8>, alloc: Global, day: u64, traced: bool) -> Result<(), NoMemory> {
+    let moment = if traced {
+        moment_of(DAYS)
+    } else {
+        moment_of(day).saturating_sub(3_600)
+    };
     for number in 0..HOUSEHOLDS {
         if (number.saturating_mul(3).saturating_add(day)) % 10 == 0 {
             let account = number.saturating_add(1_000);
             let turn = number.saturating_add(day / 10) % 11;
-            add_order(
-                text,
-                alloc,
-                moment,
-                account,
-                day.saturating_add(1),
-                words_of(turn),
-            )?;
+            let words = if traced {
+                (b"trace,".as_slice(), b"\n".as_slice())
+            } else {
+                words_of(turn)
+            };
+            add_order(text, alloc, moment, account, day.saturating_add(1), words)?;
         }
     }
     Ok(())
@@ -179,97 +252,119 @@ fn add_day(text: &mut Vec<u8>, alloc: Global, day: u64, wrong: bool) -> Result<(
         add_dividend(text, alloc, day, b"12,", rate)?;
         add_dividend(text, alloc, day, b"13,", b",0.400000\n")?;
     }
-    add_orders(text, alloc, day)?;
-    if day == ORDER_DAY {
-        add_turned_order(text, alloc, wrong)?;
-    }
+    add_orders(text, alloc, day, false)?;
+    let turned = if wrong { &WRONG_ORDERS } else { &RIGHT_ORDERS };
+    add_turned_orders(text, alloc, day, turned)?;
     add_sheet(text, alloc, day, wrong && day == PRICE_DAY)
 }
 
-// The order of the day that is right, or another one in its place: the right one is entered later, and this one voided.
-fn add_turned_order(text: &mut Vec<u8>, alloc: Global, wrong: bool) -> Result<(), NoMemory> {
-    let moment = moment_of(ORDER_DAY).saturating_sub(3_000);
-    if wrong {
-        add_order(
-            text,
-            alloc,
-            moment,
-            1_003,
-            900,
-            (b"buy,", b",12,60000.00\n"),
-        )
-    } else {
-        add_order(
-            text,
-            alloc,
-            moment,
-            1_004,
-            901,
-            (b"buy,", b",12,20000.00\n"),
-        )
+// Those of these orders that are of a day, 50 minutes before its pricing moment.
+fn add_turned_orders(
+    text: &mut Vec<u8>,
+    alloc: Global,
+    day: u64,
+    turned: &[(u64, &[u8])],
+) -> Result<(), NoMemory> {
+    for (of_day, words) in turned {
+        if *of_day == day {
+            begin_item(text, alloc, moment_of(day).saturating_sub(3_000), words)?;
+        }
     }
-}
-
-// The corrections of all that is wrong.
-fn add_corrections(text: &mut Vec<u8>, alloc: Global) -> Result<(), NoMemory> {
-    let now = moment_of(DAYS);
-    begin_item(text, alloc, now, b"fixprice,1,fund,12,")?;
-    add_number(text, alloc, moment_of(PRICE_DAY))?;
-    text.push(b',')?;
-    add_price(text, alloc, (PRICE_DAY * 53 % 300) + 1_000)?;
-    text.push(b'\n')?;
-    begin_item(text, alloc, now, b"fixrate,2,fund,12,")?;
-    add_number(text, alloc, moment_of(RATE_DAY))?;
-    text.extend_from_slice(b",0.230000\n")?;
-    begin_item(text, alloc, now, b"enter,3,fund,")?;
-    add_number(text, alloc, moment_of(ORDER_DAY).saturating_sub(3_000))?;
-    text.extend_from_slice(b",buy,1004,901,12,20000.00\n")?;
-    begin_item(text, alloc, now, b"void,4,fund,1003,900\n")?;
     Ok(())
 }
 
-// The whole book: wrong at first and corrected at the end, or right from the start.
-fn book_of(alloc: Global, wrong: bool) -> Result<Vec<u8>, NoMemory> {
+// Corrections in order.
+fn add_corrections(
+    text: &mut Vec<u8>,
+    alloc: Global,
+    moment: u64,
+    corrections: &[&[u8]],
+) -> Result<(), NoMemory> {
+    for words in corrections {
+        begin_item(text, alloc, moment, words)?;
+    }
+    Ok(())
+}
+
+// The whole book.
+fn items_of(alloc: Global, book: &Book) -> Result<Vec<u8>, NoMemory> {
     let mut text = Vec::new(alloc);
     for number in 0..HOUSEHOLDS {
         add_household(&mut text, alloc, number)?;
     }
     for day in 0..DAYS {
         if is_priced(day) {
-            add_day(&mut text, alloc, day, wrong)?;
+            add_day(&mut text, alloc, day, book.wrong)?;
+        }
+        if day == EARLY_DAY {
+            let moment = moment_of(day).saturating_add(7_200);
+            add_corrections(&mut text, alloc, moment, book.early)?;
         }
     }
-    if wrong {
-        add_corrections(&mut text, alloc)?;
-    }
+    add_corrections(&mut text, alloc, moment_of(DAYS), book.late)?;
     Ok(text)
 }
 
-// What is asked of each account, and of the books.
+// What is asked of each account.
+fn add_looks(text: &mut Vec<u8>, alloc: Global, number: u64) -> Result<(), NoMemory> {
+    let now = moment_of(DAYS);
+    let account = number.saturating_add(1_000);
+    begin_item(text, alloc, now, b"show,")?;
+    add_number(text, alloc, account)?;
+    text.push(b'\n')?;
+    begin_item(text, alloc, now, b"statement,")?;
+    add_number(text, alloc, account)?;
+    text.extend_from_slice(b",2024-07-01,2024-12-31\n")?;
+    Ok(())
+}
+
+// What is asked of each account and each order that the right book has, and of the books.
 fn looks(alloc: Global) -> Result<Vec<u8>, NoMemory> {
     let mut text = Vec::new(alloc);
     let now = moment_of(DAYS);
     for number in 0..HOUSEHOLDS {
-        let account = number.saturating_add(1_000);
-        begin_item(&mut text, alloc, now, b"show,")?;
-        add_number(&mut text, alloc, account)?;
-        text.push(b'\n')?;
-        begin_item(&mut text, alloc, now, b"statement,")?;
-        add_number(&mut text, alloc, account)?;
-        text.extend_from_slice(b",2024-07-01,2024-12-31\n")?;
+        add_looks(&mut text, alloc, number)?;
     }
+    for day in 0..DAYS {
+        if is_priced(day) {
+            add_orders(&mut text, alloc, day, true)?;
+        }
+    }
+    begin_item(&mut text, alloc, now, b"trace,1004,901\n")?;
+    begin_item(&mut text, alloc, now, b"trace,1005,902\n")?;
+    begin_item(&mut text, alloc, now, b"trace,1006,903\n")?;
     begin_item(&mut text, alloc, now, b"books\n")?;
     Ok(text)
 }
 
+// The replies to the looks behind a book, and those of the desk opened anew.
+fn told_behind(alloc: Global, book: &Book, looks: &[u8]) -> Result<(Vec<u8>, Vec<u8>), Fail> {
+    let items = items_of(alloc, book)?;
+    looks_behind(alloc, PricingDays::Each, &items, looks, looks)
+}
+
+// The first book whose looks are told otherwise, at once or by the desk opened anew; empty without one.
+fn first_unlike(
+    alloc: Global,
+    books: &[Book],
+    looks: &[u8],
+    right: &[u8],
+) -> Result<&'static str, Fail> {
+    for book in books {
+        let (told, anew) = told_behind(alloc, book, looks)?;
+        if told.as_slice() != right || anew.as_slice() != right {
+            return Ok(book.name);
+        }
+    }
+    Ok("")
+}
+
+// The desk that got everything right stands for a plain replay: a test can't show what `HouseholdState::advance` asks of its facts.
 #[test]
 fn what_is_corrected_stands_as_if_it_had_been_right(rt: HostRuntime) -> Result<(), Fail> {
     let looks = looks(rt.alloc())?;
-    let book = book_of(rt.alloc(), false)?;
-    let (right, _) = looks_behind(rt.alloc(), PricingDays::Each, &book, &looks, b"")?;
-    let book = book_of(rt.alloc(), true)?;
-    let (corrected, opened) = looks_behind(rt.alloc(), PricingDays::Each, &book, &looks, &looks)?;
-    let alike = corrected.as_slice() == right.as_slice() && opened.as_slice() == right.as_slice();
-    assert!(rt; alike && right.len() > 10_000);
+    let (right, anew) = told_behind(rt.alloc(), &RIGHT, &looks)?;
+    assert!(rt; anew.as_slice() == right.as_slice() && right.len() > 80_000);
+    assert_eq!(rt; first_unlike(rt.alloc(), &CORRECTED, &looks, &right)?, "");
     Ok(())
 }

@@ -1,6 +1,9 @@
 //! What requests are answered: an order in pieces of any length, the looks, a correction, a batch, and what is no request.
 use crate::runs::{Given, PLAIN, replies_to, served};
-use crate::texts::{ACCEPTED, PREAMBLE, PURCHASE, ROW, TWO_DAYS, joined, reply, together};
+use crate::texts::{
+    ACCEPTED, DEALER_LINES, DEALER_LINES_TOLD, FIRST_SHEET, PREAMBLE, PURCHASE, ROW, TWO_DAYS,
+    joined, reply, together,
+};
 use agent_keeper::{Keeper, MemoryKeeper};
 use std::test::Fail;
 
@@ -137,6 +140,30 @@ fn a_dealer_s_lines_are_answered_in_one_reply(rt: HostRuntime) -> Result<(), Fai
     let (written, events) = replies_to(rt.alloc(), &PLAIN, &stream)?;
     assert_eq!(rt; written.as_slice(), wanted.as_slice());
     assert_eq!(rt; events, 13);
+    Ok(())
+}
+
+#[test]
+fn a_dealer_s_lines_with_carriage_returns_and_quotes_are_answered(
+    rt: HostRuntime,
+) -> Result<(), Fail> {
+    let script = together(rt.alloc(), PREAMBLE, FIRST_SHEET)?;
+    let wanted = joined(rt.alloc(), &[DEALER_LINES_TOLD])?;
+    for piece in [1_usize, 7, 4096] {
+        let given = Given {
+            script: &script,
+            reading: 1_719_964_800,
+            piece,
+            ..PLAIN
+        };
+        let (written, events) = replies_to(rt.alloc(), &given, DEALER_LINES)?;
+        assert_eq!(rt;
+            written.as_slice(),
+            wanted.as_slice(),
+            "in pieces of {piece}"
+        );
+        assert_eq!(rt; events, 14, "in pieces of {piece}");
+    }
     Ok(())
 }
 

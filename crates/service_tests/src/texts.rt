@@ -45,6 +45,35 @@ pub const ROW: &[u8] =
     b"\x01\x07\x00\x00\x00\x00\x66\x82\xa8\x50\x00\x00\x00\x65\x00\x00\x00\x00\x00\x00\x00\x01\x00\
 \x00\x00\x00\x00\x66\x82\xa8\x50\x00\x00\x00\x00\x66\x83\x0a\xc0\x01\x00\x00\x00\x0b\x00\x00\x00\x00\x00\x0f\x42\x40";
 
+/// The sheet of 2024-07-01.
+pub const FIRST_SHEET: &[u8] =
+    b"1719867600,op-desk000001,sheet,1,1719864000,11:10.00 12:10.00 13:20.00 14:10.00\n";
+
+/// A dealer's lines with carriage returns, one between quotes. The third is of the first sheet, and too late; the fourth names an
+/// account that isn't the dealer's.
+pub const DEALER_LINES: &[u8] =
+    b"POST /v1/batch HTTP/1.1\r\nX-Agent-Key: d-broker00005\r\nContent-Type: text/csv\r\n\
+Content-Length: 144\r\n\r\n\
+\"1719950399\",\"buy\",\"103\",\"1\",\"14\",\"1000.00\"\r\n\
+1719950400,buy,103,2,14,1000.00\r\n\
+1719863999,buy,103,3,14,1000.00\r\n\
+1719950000,buy,101,9,14,1000.00\r\n";
+
+/// Their reply at 1719964800, four hours behind the second day's pricing moment.
+pub const DEALER_LINES_TOLD: &[u8] =
+    b"HTTP/1.1 200 OK\r\nContent-Type: text/csv\r\nContent-Length: 95\r\n\r\n\
+ok,order,103,1,1719950399,1719950400\n\
+ok,order,103,2,1719950400,1720036800\n\
+no,8,1719864000\n\
+no,1\n";
+
+/// The two rows that are kept of them.
+pub const DEALER_ROWS: &[u8] =
+    b"\x01\x07\x00\x00\x00\x00\x66\x84\x94\x80\x00\x00\x00\x67\x00\x00\x00\x00\x00\x00\x00\x01\x01\x00\
+\x00\x00\x00\x66\x84\x5c\x3f\x00\x00\x00\x00\x66\x84\x5c\x40\x01\x00\x00\x00\x0e\x00\x00\x00\x00\x00\x01\x86\xa0\
+\x01\x07\x00\x00\x00\x00\x66\x84\x94\x80\x00\x00\x00\x67\x00\x00\x00\x00\x00\x00\x00\x02\x01\x00\
+\x00\x00\x00\x66\x84\x5c\x40\x00\x00\x00\x00\x66\x85\xad\xc0\x01\x00\x00\x00\x0e\x00\x00\x00\x00\x00\x01\x86\xa0";
+
 /// The reply where the keeper failed.
 pub const NOT_KEPT: &[u8] =
     b"HTTP/1.1 503 Service Unavailable\r\nContent-Type: application/json\r\nContent-Length: 30\r\n\r\n\

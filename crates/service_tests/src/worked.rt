@@ -55,8 +55,8 @@ fn items_with(items: &[u8]) -> u64 {
         .saturating_add(1)
 }
 
-// The replies of a desk to a script, a line each.
-fn replies<K: Keeper, L: Ledger>(
+/// The replies of a desk to a script, a line each.
+pub fn replies<K: Keeper, L: Ledger>(
     alloc: Global,
     desk: &mut Desk,
     keeper: &mut K,
@@ -65,6 +65,7 @@ fn replies<K: Keeper, L: Ledger>(
 ) -> Result<Vec<u8>, Fail>
     requires attached { IsTrue (K.is_attached keeper.old) }
     requires told { TellsRowsOf (K.tells keeper.old) desk.old.book.journal }
+    ensures told { TellsRowsOf (K.tells keeper.new) desk.new.book.journal }
 {
     let mut sink = MemorySink::new(alloc, 4096, 1_000_000, &[])?;
     answer_script(alloc, OPERATOR, desk, keeper, script, &mut sink, steps)?;
