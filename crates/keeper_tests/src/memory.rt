@@ -1,4 +1,7 @@
 //! The keepers in memory.
+ghost use Rattle.std.specs.Prelude.{◌≡◌, [], IfOk};
+ghost use Rattle.agent_keeper.specs.Memory.{calls_that_fail, calls_made, faults_made};
+
 use crate::batches::{BOTH, FIRST, NOTHING, commit, first_batch, shown, two_commits};
 use agent_keeper::{KeepFault, Keeper, MemoryKeeper, SureKeeper, append_row};
 use money_units::Bytes;
@@ -108,6 +111,49 @@ fn before_any_commit_a_stop_leaves_nothing(rt: HostRuntime) -> Result<(), Fail> 
             stopped_at_first(rt.alloc(), with_last)?.as_slice(),
             NOTHING
         );
+    }
+    Ok(())
+}
+
+// A copy of a keeper two of whose calls were made, one of them failed: the copy counts none.
+fn copy_behind_a_fault(alloc: Global, with_last: bool) -> Result<MemoryKeeper, KeepFault>
+    ensures fails { IfOk result (λ copy. calls_that_fail copy ≡ []) }
+    ensures calls { IfOk result (λ copy. calls_made copy ≡ 0) }
+    ensures faults { IfOk result (λ copy. faults_made copy ≡ 0) }
+{
+    let mut keeper = MemoryKeeper::new(alloc, &[2])?;
+    commit(&mut keeper, &first_batch(alloc)?)?;
+    let _told = keeper.len();
+    Ok(keeper.after_stop(alloc, with_last)?)
+}
+
+#[test]
+fn a_copy_counts_anew_and_fails_at_no_call(rt: HostRuntime) -> Result<(), Fail> {
+    let alloc = rt.alloc();
+    for (with_last, rows) in [(false, 0), (true, 2)] {
+        let mut copy = copy_behind_a_fault(alloc, with_last)?;
+        for _ in 0..3 {
+            assert_eq!(rt; copy.len(), Ok(rows));
+        }
+    }
+    Ok(())
+}
+
+// What a stop leaves of a copy that has made no commit, which a stop left of a keeper behind two commits.
+fn stopped_twice(alloc: Global, first: bool, second: bool) -> Result<Vec<u8>, KeepFault> {
+    let mut keeper = MemoryKeeper::new(alloc, &[])?;
+    two_commits(alloc, &mut keeper)?;
+    let copy = keeper.after_stop(alloc, first)?;
+    let mut left = copy.after_stop(alloc, second)?;
+    shown(alloc, &mut left)
+}
+
+#[test]
+fn before_its_first_commit_a_stop_leaves_the_rows_of_a_copy(rt: HostRuntime) -> Result<(), Fail> {
+    let alloc = rt.alloc();
+    for second in [false, true] {
+        assert_eq!(rt; stopped_twice(alloc, false, second)?.as_slice(), FIRST);
+        assert_eq!(rt; stopped_twice(alloc, true, second)?.as_slice(), BOTH);
     }
     Ok(())
 }

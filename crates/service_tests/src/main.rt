@@ -29,6 +29,8 @@ mod runs;
 #[cfg(test)]
 mod scripts;
 #[cfg(test)]
+mod sizes;
+#[cfg(test)]
 mod statements;
 #[cfg(test)]
 mod texts;

@@ -1,3 +1,4 @@
 pub mod Answers
+pub mod Commits
 pub mod Faults
 pub mod Keeper
