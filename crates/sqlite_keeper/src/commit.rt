@@ -21,7 +21,8 @@ pub(crate) fn commit_batch<S: Alter>(
 ) -> Result<(), KeepFault>
     ensures whole { HasCleanDisk (state S.Store conn.new)
         → OnOk result
-        (MakesAll (state S.Store) (changes_of base batch.now) (record conn.old { in_transaction = true })
+        (MakesAll (state S.Store) (changes_of base batch.now)
+        (record conn.old { in_transaction = true })
         (state S.Store conn.new).committed
         × ((state S.Store conn.new).now ≡ (state S.Store conn.new).committed)) }
     ensures neither { HasCleanDisk (state S.Store conn.new)
@@ -31,7 +32,8 @@ pub(crate) fn commit_batch<S: Alter>(
         × ((state S.Store conn.new).committed ≡ (state S.Store conn.old).committed)) }
     ensures crash { Survives (state S.Store conn.old) (state S.Store conn.new)
         (λ trees. (db : _)
-        × MakesAll (state S.Store) (changes_of base batch.now) (record conn.old { in_transaction = true }) db
+        × MakesAll (state S.Store) (changes_of base batch.now)
+        (record conn.old { in_transaction = true }) db
         × (trees ≡ db.trees)) }
 {
     if !conn.is_autocommit() {
@@ -53,8 +55,10 @@ fn make_changes<S: Alter>(
     ensures ran { HasCleanDisk (state S.Store changes.new.conn.now)
         → IsTrue (state S.Store changes.old.conn.now).in_transaction
         → OnOk result
-        (RunsAll (state S.Store) (changes_of base batch.now) changes.old.conn.now changes.new.conn.now) }
-    ensures nothing { CommitsNothing (state S.Store changes.old.conn.now) (state S.Store changes.new.conn.now) }
+        (RunsAll (state S.Store) (changes_of base batch.now)
+        changes.old.conn.now changes.new.conn.now) }
+    ensures nothing { CommitsNothing (state S.Store changes.old.conn.now)
+        (state S.Store changes.new.conn.now) }
 {
     insert_rows(changes, base, batch.rows.as_slice())?;
     put_checks(changes, batch.puts.as_slice())?;
@@ -71,8 +75,10 @@ fn insert_rows<S: Alter>(
     ensures ran { HasCleanDisk (state S.Store changes.new.conn.now)
         → IsTrue (state S.Store changes.old.conn.now).in_transaction
         → OnOk result
-        (RunsAll (state S.Store) (rows_added base rows.now) changes.old.conn.now changes.new.conn.now) }
-    ensures nothing { CommitsNothing (state S.Store changes.old.conn.now) (state S.Store changes.new.conn.now) }
+        (RunsAll (state S.Store) (rows_added base rows.now)
+        changes.old.conn.now changes.new.conn.now) }
+    ensures nothing { CommitsNothing (state S.Store changes.old.conn.now)
+        (state S.Store changes.new.conn.now) }
 {
     let mut place = base;
     for row in rows {
@@ -90,8 +96,10 @@ fn put_checks<S: Alter>(
     ensures ran { HasCleanDisk (state S.Store changes.new.conn.now)
         → IsTrue (state S.Store changes.old.conn.now).in_transaction
         → OnOk result
-        (RunsAll (state S.Store) (map check_put puts.now) changes.old.conn.now changes.new.conn.now) }
-    ensures nothing { CommitsNothing (state S.Store changes.old.conn.now) (state S.Store changes.new.conn.now) }
+        (RunsAll (state S.Store) (map check_put puts.now)
+        changes.old.conn.now changes.new.conn.now) }
+    ensures nothing { CommitsNothing (state S.Store changes.old.conn.now)
+        (state S.Store changes.new.conn.now) }
 {
     for put in puts {
         put_check(changes, put)?;
@@ -107,8 +115,10 @@ fn remove_checks<S: Alter>(
     ensures ran { HasCleanDisk (state S.Store changes.new.conn.now)
         → IsTrue (state S.Store changes.old.conn.now).in_transaction
         → OnOk result
-        (RunsAll (state S.Store) (map check_removed names.now) changes.old.conn.now changes.new.conn.now) }
-    ensures nothing { CommitsNothing (state S.Store changes.old.conn.now) (state S.Store changes.new.conn.now) }
+        (RunsAll (state S.Store) (map check_removed names.now)
+        changes.old.conn.now changes.new.conn.now) }
+    ensures nothing { CommitsNothing (state S.Store changes.old.conn.now)
+        (state S.Store changes.new.conn.now) }
 {
     for name in names {
         remove_check(changes, *name)?;
@@ -125,8 +135,10 @@ fn insert_row<S: Alter>(
     ensures ran { HasCleanDisk (state S.Store changes.new.conn.now)
         → IsTrue (state S.Store changes.old.conn.now).in_transaction
         → OnOk result
-        (Runs (state S.Store) (row_added place bytes.now) changes.old.conn.now changes.new.conn.now) }
-    ensures nothing { CommitsNothing (state S.Store changes.old.conn.now) (state S.Store changes.new.conn.now) }
+        (Runs (state S.Store) (row_added place bytes.now)
+        changes.old.conn.now changes.new.conn.now) }
+    ensures nothing { CommitsNothing (state S.Store changes.old.conn.now)
+        (state S.Store changes.new.conn.now) }
 {
     let Ok(place) = i64::try_from(place) else {
         return Err(KeepFault::Failed);
@@ -139,8 +151,10 @@ fn put_check<S: Alter>(changes: &mut Transaction<'_, S>, put: &CheckPut) -> Resu
     ensures ran { HasCleanDisk (state S.Store changes.new.conn.now)
         → IsTrue (state S.Store changes.old.conn.now).in_transaction
         → OnOk result
-        (Runs (state S.Store) (check_put put.now) changes.old.conn.now changes.new.conn.now) }
-    ensures nothing { CommitsNothing (state S.Store changes.old.conn.now) (state S.Store changes.new.conn.now) }
+        (Runs (state S.Store) (check_put put.now)
+        changes.old.conn.now changes.new.conn.now) }
+    ensures nothing { CommitsNothing (state S.Store changes.old.conn.now)
+        (state S.Store changes.new.conn.now) }
 {
     let bytes = put.bytes.as_slice();
     run_change(
@@ -160,8 +174,10 @@ fn remove_check<S: Alter>(
     ensures ran { HasCleanDisk (state S.Store changes.new.conn.now)
         → IsTrue (state S.Store changes.old.conn.now).in_transaction
         → OnOk result
-        (Runs (state S.Store) (check_removed name) changes.old.conn.now changes.new.conn.now) }
-    ensures nothing { CommitsNothing (state S.Store changes.old.conn.now) (state S.Store changes.new.conn.now) }
+        (Runs (state S.Store) (check_removed name)
+        changes.old.conn.now changes.new.conn.now) }
+    ensures nothing { CommitsNothing (state S.Store changes.old.conn.now)
+        (state S.Store changes.new.conn.now) }
 {
     run_change(
         changes,
@@ -184,9 +200,11 @@ fn run_change<S: Alter>(
     ensures ran { HasCleanDisk (state S.Store changes.new.conn.now)
         → IsTrue (state S.Store changes.old.conn.now).in_transaction
         → OnOk result
-        (Runs (state S.Store) (record { text = sql.now; params = bound params.now; least = least; most = most })
+        (Runs (state S.Store)
+        (record { text = sql.now; params = bound params.now; least = least; most = most })
         changes.old.conn.now changes.new.conn.now) }
-    ensures nothing { CommitsNothing (state S.Store changes.old.conn.now) (state S.Store changes.new.conn.now) }
+    ensures nothing { CommitsNothing (state S.Store changes.old.conn.now)
+        (state S.Store changes.new.conn.now) }
 {
     let changed = changes.execute(sql, params).map_err(fault_of)?;
     if least <= changed && changed <= most {
