@@ -69,6 +69,11 @@ fn both(alloc: Global, first: &[u8], second: &[u8]) -> Result<Vec<u8>, AllocErro
     Ok(bytes)
 }
 
+// The words of a line, one space apart.
+fn words_in<'a>(alloc: Global, line: &'a str) -> Result<Vec<&'a str>, AllocError> {
+    line.split(' ').collect(alloc)
+}
+
 // A door of these connections, whose listed calls of `listen` and `accept` fail.
 fn door_of(alloc: Global, texts: &[&[u8]], fails: &[u64]) -> Result<MemoryDoor, Fail> {
     let mut connections = Connections::new(alloc);
@@ -199,7 +204,10 @@ class 11 shares 0.000 cash 0.00\nclass 12 shares 39.433 cash 793.00\n";
 const LOADED_NOTHING: &[u8] = b"events 5\nsheets 0\nrefused 0\nfilled 0\nunfilled 0\n\
 class 11 shares 0.000 cash 0.00\nclass 12 shares 0.000 cash 0.00\n";
 
-// A load of one household over one day, and over none.
+const LOADED_BOOK: &[u8] = b"events 1520\nsheets 70\nrefused 0\nfilled 1384\nunfilled 16\n\
+class 11 shares 19859.846 cash 207917.75\nclass 12 shares 10418.874 cash 213574.00\n";
+
+// A load of one household over one day and over none, and one of twenty households over seventy days.
 fn loads<L: Ledger>(alloc: Global, blank: Blank) -> Result<bool, Fail>
     requires name { blank.name ≡ L.name }
     requires parts { blank.parts ≡ L.parts }
@@ -207,19 +215,77 @@ fn loads<L: Ledger>(alloc: Global, blank: Blank) -> Result<bool, Fail>
 {
     let mut steps = Steps::<L>::new(blank);
     let mut keeper = SureKeeper::new(alloc);
-    let texts = ["load", "--number", "1", "--households", "1", "--days", "1"];
-    let (status, lines) = outcome_of(alloc, &texts, &mut keeper, b"", &mut steps)?;
-    if status != 0 || lines.as_slice() != LOADED {
-        return Ok(false);
+    for (line, wanted) in [
+        ("load --number 1 --households 1 --days 1", LOADED),
+        ("load --days=0 --households=1 --number=1", LOADED_NOTHING),
+        ("load --number 7 --households 20 --days 70", LOADED_BOOK),
+    ] {
+        let texts = words_in(alloc, line)?;
+        let (status, lines) = outcome_of(alloc, &texts, &mut keeper, b"", &mut steps)?;
+        if status != 0 || lines.as_slice() != wanted {
+            return Ok(false);
+        }
     }
-    let texts = ["load", "--days=0", "--households=1", "--number=1"];
-    let (status, lines) = outcome_of(alloc, &texts, &mut keeper, b"", &mut steps)?;
-    Ok(status == 0 && lines.as_slice() == LOADED_NOTHING)
+    Ok(true)
 }
 
 #[test]
 fn a_load_prints_its_summary(rt: HostRuntime) -> Result<(), Fail> {
     assert!(rt; loads::<Brand>(rt.alloc(), Blank::new(1))?);
+    Ok(())
+}
+
+// A repeated option, one that is missing, an unknown one, no value, a value that begins with `-`, a word more, and `--`; a
+// number with a sign, with a leading zero, and out of its range; and no command.
+const BAD_WORDS: &str = "\
+apply --store r --key op-desk000001 --store r\n\
+apply --store r\n\
+apply --store r --key op-desk000001 --port 80\n\
+apply --store= --key=op-desk000001\n\
+apply --key op-desk000001 --store\n\
+apply --store -r --key op-desk000001\n\
+apply --store r --key op-desk000001 extra\n\
+apply -- --store r --key op-desk000001\n\
+apply --store r --key h-mary000001\n\
+load --number +7 --households 20 --days 70\n\
+load --number -7 --households 20 --days 70\n\
+load --number 07 --households 20 --days 70\n\
+load --number 7 --households 0 --days 70\n\
+load --number 7 --households 1001 --days 70\n\
+load --number 7 --households 20 --days 2001\n\
+load --number 7 --households 20\n\
+serve --store r --port 0 --key op-desk000001 --connections 1\n\
+serve --store r --port 65536 --key op-desk000001 --connections 1\n\
+serve --store r --port 80 --key op-desk000001 --connections 0\n\
+help\n\
+--version\n";
+
+// Bad words are status 1 and the line `usage`, whatever the input.
+fn is_usage<L: Ledger>(alloc: Global, texts: &[&str], steps: &mut Steps<L>) -> Result<bool, Fail> {
+    let mut keeper = SureKeeper::new(alloc);
+    let (status, lines) = outcome_of(alloc, texts, &mut keeper, PREAMBLE, steps)?;
+    Ok(status == 1 && lines.as_slice() == b"usage\n".as_slice())
+}
+
+// The last line is one empty word, and without any word the words are bad too.
+fn says_usage<L: Ledger>(alloc: Global, blank: Blank) -> Result<bool, Fail>
+    requires name { blank.name ≡ L.name }
+    requires parts { blank.parts ≡ L.parts }
+    requires some { 0 < blank.parts }
+{
+    let mut steps = Steps::<L>::new(blank);
+    for line in BAD_WORDS.split('\n') {
+        let texts = words_in(alloc, line)?;
+        if !is_usage(alloc, &texts, &mut steps)? {
+            return Ok(false);
+        }
+    }
+    is_usage(alloc, &[], &mut steps)
+}
+
+#[test]
+fn bad_words_are_status_1(rt: HostRuntime) -> Result<(), Fail> {
+    assert!(rt; says_usage::<Brand>(rt.alloc(), Blank::new(1))?);
     Ok(())
 }
 
