@@ -4,8 +4,8 @@ use Rattle.std.specs.Io.KnownBytes.{Appends}
 use Rattle.std.proofs.lemmas.Bool.{eq-eqb, true≢false}
 use Rattle.agent_cli.proofs.RunFacts.{over-any, same-grow}
 use Rattle.agent_cli.proofs.Statuses.{by_first, no_such}
-use Rattle.agent_cli.specs.Ends.{Ends, IfApply, IfLoad, IfServe, LeavesDoor, Sides, is_one_of, load_of_options}
-use Rattle.agent_cli.specs.Runs.{TellSame, status_line}
+use Rattle.agent_cli.specs.Ends.{Ends, IfApply, IfLoad, IfServe, LeavesDoor, Sides, is_one_of, load_of_options, sink}
+use Rattle.agent_cli.specs.Runs.{SaysLine, TellSame, status_line}
 use Rattle.agent_edge.specs.Counts.{Rose}
 use Rattle.command_words.specs.Commands.{Apply, Command, Load, Serve, apply, load, serve}
 use Rattle.load_requests.specs.Summaries.{load_text}
@@ -18,7 +18,7 @@ pub record LoadEnds (options : Load) (status : ℕ) (before after : Sides) : Typ
   pub no_fault : status ≡ 0 → after.write_faults ≡ before.write_faults
   pub front : status ≡ 4 → AppendsFront before.written after.written (load_text (load_of_options options))
   pub fault : status ≡ 4 → Rose before.write_faults after.write_faults
-  pub no_memory : status ≡ 7 → AppendsFront before.written after.written (status_line 7)
+  pub no_memory : status ≡ 7 → SaysLine (status_line 7) (sink before) (sink after)
   pub told : TellSame before.told after.told
   pub kept_count : after.keeper_faults ≡ before.keeper_faults
   pub left : after.left ≡ before.left
@@ -67,7 +67,7 @@ load-ends options status before after is = record {
 -- the facts of a run for which memory is wanting before anything was begun
 pub record EndsAtOnce (status : ℕ) (before after : Sides) : Type 0 where
   pub status_is : status ≡ 7
-  pub line : AppendsFront before.written after.written (status_line 7)
+  pub line : SaysLine (status_line 7) (sink before) (sink after)
   pub told : TellSame before.told after.told
   pub kept_count : after.keeper_faults ≡ before.keeper_faults
   pub left : after.left ≡ before.left

@@ -3,14 +3,13 @@ use Rattle.std.proofs.Common.{List, Ok, Some, [], false, inl, inr, refl, sym, �
 use Rattle.std.specs.List.{list_any}
 use Rattle.std.proofs.lemmas.Bool.{true≢false}
 use Rattle.agent_cli.proofs.Statuses.{by_first, no_such}
-use Rattle.agent_cli.specs.Ends.{Ends, LeavesDoor, SaysOnly, Sides, is_one_of, service}
-use Rattle.agent_cli.specs.Runs.{AreServedFrom, GrowLawfully, TellsLawful, damaged_line, door_failed, status_line}
+use Rattle.agent_cli.specs.Ends.{Ends, LeavesDoor, SaysOnly, Sides, is_one_of, service, sink}
+use Rattle.agent_cli.specs.Runs.{AreServedFrom, GrowLawfully, MaySayLine, SaysLine, TellSame, TellsLawful, damaged_line, door_failed, status_line}
 use Rattle.agent_edge.specs.Counts.{Rose}
 use Rattle.agent_keeper.specs.Calls.{Rose as KeeperRose}
 use Rattle.agent_keeper.specs.Content.{Content}
 use Rattle.command_words.specs.Commands.{Serve, serve}
 use Rattle.register_desk.specs.Rows.{IsDamagedAt}
-use Rattle.script_answers.specs.Runs.{AppendsFront}
 
 -- the facts of serving
 pub record ServeEnds (options : Serve) (status : ℕ) (before after : Sides) : Type 0 where
@@ -20,13 +19,14 @@ pub record ServeEnds (options : Serve) (status : ℕ) (before after : Sides) : T
   pub no_write_fault : status ≡ 0 → after.write_faults ≡ before.write_faults
   pub keeper_fault : status ≡ 5 → KeeperRose before.keeper_faults after.keeper_faults
   pub failed : status ≡ 5 → SaysOnly (status_line 5) before after
-  pub damaged : status ≡ 6 → (place : ℕ) × SaysOnly (damaged_line place) before after
+  pub damaged : status ≡ 6 → (place : ℕ) × MaySayLine (damaged_line place) (sink before) (sink after)
+      × TellSame before.told after.told
       × ((kept : Content) → after.told kept → IsDamagedAt place kept.rows)
   pub not_damaged : is_one_of (0 ∷ 8 ∷ []) status → TellsLawful after.told
   pub no_memory : status ≡ 7 → SaysOnly (status_line 7) before after
   pub unopened : is_one_of (5 ∷ 6 ∷ 7 ∷ []) status → LeavesDoor before after
   pub served_before : status ≡ 8 → AreServedFrom options.key options.connections door_failed (service before) (service after)
-  pub door_line : status ≡ 8 → AppendsFront before.written after.written (status_line 8)
+  pub door_line : status ≡ 8 → SaysLine (status_line 8) (sink before) (sink after)
   pub door_fault : status ≡ 8 → Rose before.door_faults after.door_faults
   pub no_door_fault : status ≢ 8 → after.door_faults ≡ before.door_faults
   pub kept : (first last : Content) → before.told first → after.told last → GrowLawfully first.rows last.rows

@@ -1,16 +1,16 @@
 -- What a whole run leaves, by the status with which it ends.
-use Rattle.std.proofs.Common.{Err, IfSome, List, None, Ok, OnOk, Option, Result, Some, [], ap, append-nil, arith, inl, inr, length, length-append, refl, subst, sym, take, true, ℕ, ◌+◌, ◌++◌, ◌==◌, ◌∙◌, ◌∷◌, ◌<◌, ◌≡◌}
-use Rattle.std.proofs.Math.Seq.{take-append-add}
+use Rattle.std.proofs.Common.{Err, IfSome, List, None, Ok, OnErr, OnOk, Option, Result, Some, [], ap, append-nil, arith, inl, inr, length, refl, subst, sym, take, true, ℕ, ◌++◌, ◌==◌, ◌∙◌, ◌∷◌, ◌<◌, ◌≡◌}
 use Rattle.std.specs.Io.KnownBytes.{Appends}
 use Rattle.std.proofs.KnownBytes.{Appends-trans}
-use Rattle.agent_cli.specs.Runs.{EndsWithLine, GrowLawfully, IsOpened, IsStopped, TellSame, status_line, status_of}
-use Rattle.script_answers.specs.Runs.{AppendsFront, AreAnswered, AreEndedBy, CountsEnds, EndsAs, IsCutShort, OfFront, run_over}
+use Rattle.agent_cli.specs.Runs.{AreEndedSaying, EndsWithLine, GrowLawfully, IsOpened, IsStopped, SaysBehind, SaysLine, SinkAt, TellSame, status_line, status_of}
+use Rattle.script_answers.specs.Runs.{AreAnswered, CountsEnds, EndsAs, IsCutShort, OfFront, run_over}
 use Rattle.script_answers.proofs.RunFacts.{none-answered}
 use Rattle.script_answers.specs.declared.answering.AnswerFault.{AnswerFault}
 use Rattle.script_answers.specs.declared.answering.AnswerFault.TheVariants.{Keeper, NoMemory, Write}
 use Rattle.agent_events.specs.Items.{ScriptItem}
 use Rattle.agent_cli.specs.declared.applying.TheConstants.{MAX_SCRIPT}
 use Rattle.agent_edge.specs.Counts.{Rose}
+use Rattle.agent_edge.specs.declared.sinks.SinkFault.{SinkFault}
 use Rattle.std.specs.List.{list_any}
 use Rattle.agent_keeper.specs.Calls.{Rose as KeeperRose}
 use Rattle.agent_keeper.specs.Content.{Content}
@@ -19,28 +19,40 @@ use Rattle.register_machine.specs.journal.Journals.{Journal}
 use Rattle.register_machine.specs.journal.Lawful.{IsLawful}
 use Rattle.register_machine.specs.run.Scripts.{script_items}
 
--- a front of a line behind others
-pub front-behind : (old mid new : Option (List ℕ)) (lines line : List ℕ) → Appends old mid lines → AppendsFront mid new line → AppendsFront old new (lines ++ line)
-front-behind old mid new lines line before (count, within, after) = (
-  length lines + count,
-  omega (arith, length-append lines line),
-  subst (Appends old new) (sym (take-append-add lines line count)) (Appends-trans old mid new lines (take count line) before after),
+-- a line that was written by itself
+pub line-said : (line : List ℕ) (old new : SinkAt) (result : Result Unit SinkFault) → OnOk result (Appends old.written new.written line)
+    → OnErr result ((count : ℕ) × (count < length line) × Appends old.written new.written (take count line))
+    → OnErr result (Rose old.faults new.faults) → OnOk result (new.faults ≡ old.faults) → SaysLine line old new
+line-said line old new (Ok done) all front fault no_fault = inl (all, no_fault)
+line-said line old new (Err failed) all (count, within, written) fault no_fault = inr (fault, count, within, written)
+
+-- a line behind others, which were written without a fault
+pub said-behind : (lines line : List ℕ) (old mid new : SinkAt) → Appends old.written mid.written lines → mid.faults ≡ old.faults
+    → SaysLine line mid new → SaysBehind lines line old new
+said-behind lines line old mid new before same (inl (after, no_fault)) =
+    inl (Appends-trans old.written mid.written new.written lines line before after, no_fault ∙ same)
+said-behind lines line old mid new before same (inr (rose, count, within, after)) = inr (
+  subst (λ n. Rose n new.faults) same rose,
+  count,
+  within,
+  Appends-trans old.written mid.written new.written lines (take count line) before after,
 )
 
-pub ended-by : (said operator : List ℕ) (opened : Journal) (items : List ScriptItem) (told : Content → Type 0) (old mid new : Option (List ℕ)) → AreAnswered operator opened items told old mid → AppendsFront mid new said → AreEndedBy said operator opened items told old new
-ended-by said operator opened items told old mid new answered front = record {
-  lines = front-behind old mid new (run_over operator opened items).lines said answered.lines front;
+pub ended-by : (line operator : List ℕ) (opened : Journal) (items : List ScriptItem) (told : Content → Type 0) (old mid new : SinkAt) → AreAnswered operator opened items told old.written mid.written → mid.faults ≡ old.faults → SaysLine line mid new → AreEndedSaying line operator opened items told old new
+ended-by line operator opened items told old mid new answered same said = record {
+  lines = said-behind (run_over operator opened items).lines line old mid new answered.lines same said;
   kept = answered.kept;
 }
 
-pub front-ended : (said operator : List ℕ) (opened : Journal) (items : List ScriptItem) (told : Content → Type 0) (old mid new : Option (List ℕ)) → OfFront (λ front. AreAnswered operator opened front told old mid) items → AppendsFront mid new said → OfFront (λ front. AreEndedBy said operator opened front told old new) items
-front-ended said operator opened items told old mid new (count, within, answered) front =
-    (count, within, ended-by said operator opened (take count items) told old mid new answered front)
+pub front-ended : (line operator : List ℕ) (opened : Journal) (items : List ScriptItem) (told : Content → Type 0) (old mid new : SinkAt) → OfFront (λ front. AreAnswered operator opened front told old.written mid.written) items → mid.faults ≡ old.faults → SaysLine line mid new → OfFront (λ front. AreEndedSaying line operator opened front told old new) items
+front-ended line operator opened items told old mid new (count, within, answered) same said =
+    (count, within, ended-by line operator opened (take count items) told old mid new answered same said)
 
 -- what a status says of answers that ended early
-pub ended-cut : (operator : List ℕ) (opened : Journal) (items : List ScriptItem) (told : Content → Type 0) (old mid new : Option (List ℕ)) (ends : Result Unit AnswerFault) (fault : AnswerFault) (status : ℕ) → EndsAs operator opened items told old mid ends → ends ≡ Err fault → status ≡ status_of fault → EndsWithLine fault mid new → status ≡ 4 → IsCutShort operator opened items told old new
+pub ended-cut : (operator : List ℕ) (opened : Journal) (items : List ScriptItem) (told : Content → Type 0) (old mid new : SinkAt) (ends : Result Unit AnswerFault) (fault : AnswerFault) (status : ℕ) → EndsAs operator opened items told old.written mid.written ends → ends ≡ Err fault → status ≡ status_of fault → EndsWithLine fault mid new → status ≡ 4 → IsCutShort operator opened items told old.written new.written
 ended-cut operator opened items told old mid new ends Write status held is known line e =
-    subst (λ out. IsCutShort operator opened items told old out) (sym line) (subst (EndsAs operator opened items told old mid) is held)
+    subst (λ (sink : SinkAt). IsCutShort operator opened items told old.written sink.written) (sym line)
+    (subst (EndsAs operator opened items told old.written mid.written) is held)
 ended-cut operator opened items told old mid new ends Keeper status held is known line e = absurd (wrong e known)
   where
     wrong : status ≡ 4 → status ≡ 5 → ⊥
@@ -50,26 +62,28 @@ ended-cut operator opened items told old mid new ends NoMemory status held is kn
     wrong : status ≡ 4 → status ≡ 7 → ⊥
     wrong a b = omega (arith, a, b)
 
-pub ended-failed : (operator : List ℕ) (opened : Journal) (items : List ScriptItem) (told : Content → Type 0) (old mid new : Option (List ℕ)) (ends : Result Unit AnswerFault) (fault : AnswerFault) (status : ℕ) → EndsAs operator opened items told old mid ends → ends ≡ Err fault → status ≡ status_of fault → EndsWithLine fault mid new → status ≡ 5 → OfFront (λ front. AreEndedBy (status_line 5) operator opened front told old new) items
-ended-failed operator opened items told old mid new ends Keeper status held is known line e =
-    front-ended (status_line 5) operator opened items told old mid new (subst (EndsAs operator opened items told old mid) is held) line
-ended-failed operator opened items told old mid new ends Write status held is known line e = absurd (wrong e known)
+pub ended-failed : (operator : List ℕ) (opened : Journal) (items : List ScriptItem) (told : Content → Type 0) (kb ka : ℕ) (old mid new : SinkAt) (ends : Result Unit AnswerFault) (fault : AnswerFault) (status : ℕ) → EndsAs operator opened items told old.written mid.written ends → CountsEnds kb ka old.faults mid.faults ends → ends ≡ Err fault → status ≡ status_of fault → EndsWithLine fault mid new → status ≡ 5 → OfFront (λ front. AreEndedSaying (status_line 5) operator opened front told old new) items
+ended-failed operator opened items told kb ka old mid new ends Keeper status held counts is known line e =
+    front-ended (status_line 5) operator opened items told old mid new (subst (EndsAs operator opened items told old.written mid.written) is held)
+    (subst (CountsEnds kb ka old.faults mid.faults) is counts).1 line
+ended-failed operator opened items told kb ka old mid new ends Write status held counts is known line e = absurd (wrong e known)
   where
     wrong : status ≡ 5 → status ≡ 4 → ⊥
     wrong a b = omega (arith, a, b)
-ended-failed operator opened items told old mid new ends NoMemory status held is known line e = absurd (wrong e known)
+ended-failed operator opened items told kb ka old mid new ends NoMemory status held counts is known line e = absurd (wrong e known)
   where
     wrong : status ≡ 5 → status ≡ 7 → ⊥
     wrong a b = omega (arith, a, b)
 
-pub ended-short : (operator : List ℕ) (opened : Journal) (items : List ScriptItem) (told : Content → Type 0) (old mid new : Option (List ℕ)) (ends : Result Unit AnswerFault) (fault : AnswerFault) (status : ℕ) → EndsAs operator opened items told old mid ends → ends ≡ Err fault → status ≡ status_of fault → EndsWithLine fault mid new → status ≡ 7 → OfFront (λ front. AreEndedBy (status_line 7) operator opened front told old new) items
-ended-short operator opened items told old mid new ends NoMemory status held is known line e =
-    front-ended (status_line 7) operator opened items told old mid new (subst (EndsAs operator opened items told old mid) is held) line
-ended-short operator opened items told old mid new ends Write status held is known line e = absurd (wrong e known)
+pub ended-short : (operator : List ℕ) (opened : Journal) (items : List ScriptItem) (told : Content → Type 0) (kb ka : ℕ) (old mid new : SinkAt) (ends : Result Unit AnswerFault) (fault : AnswerFault) (status : ℕ) → EndsAs operator opened items told old.written mid.written ends → CountsEnds kb ka old.faults mid.faults ends → ends ≡ Err fault → status ≡ status_of fault → EndsWithLine fault mid new → status ≡ 7 → OfFront (λ front. AreEndedSaying (status_line 7) operator opened front told old new) items
+ended-short operator opened items told kb ka old mid new ends NoMemory status held counts is known line e =
+    front-ended (status_line 7) operator opened items told old mid new (subst (EndsAs operator opened items told old.written mid.written) is held)
+    (subst (CountsEnds kb ka old.faults mid.faults) is counts) line
+ended-short operator opened items told kb ka old mid new ends Write status held counts is known line e = absurd (wrong e known)
   where
     wrong : status ≡ 7 → status ≡ 4 → ⊥
     wrong a b = omega (arith, a, b)
-ended-short operator opened items told old mid new ends Keeper status held is known line e = absurd (wrong e known)
+ended-short operator opened items told kb ka old mid new ends Keeper status held counts is known line e = absurd (wrong e known)
   where
     wrong : status ≡ 7 → status ≡ 5 → ⊥
     wrong a b = omega (arith, a, b)
@@ -114,9 +128,9 @@ never-done NoMemory status known e = wrong e known
     wrong a b = omega (arith, a, b)
 
 -- ended before the first item
-pub ended-at-once : (said operator : List ℕ) (opened : Journal) (items : List ScriptItem) (told : Content → Type 0) (old new : Option (List ℕ)) → TellsRowsOf told opened → AppendsFront old new said → OfFront (λ front. AreEndedBy said operator opened front told old new) items
-ended-at-once said operator opened items told old new kept front =
-    front-ended said operator opened items told old old new (none-answered operator opened items told old kept) front
+pub ended-at-once : (line operator : List ℕ) (opened : Journal) (items : List ScriptItem) (told : Content → Type 0) (old new : SinkAt) → TellsRowsOf told opened → SaysLine line old new → OfFront (λ front. AreEndedSaying line operator opened front told old new) items
+ended-at-once line operator opened items told old new kept said =
+    front-ended line operator opened items told old old new (none-answered operator opened items told old.written kept) refl said
 
 -- what was told before the run is told when the store is open, so it is of the journal that was opened
 pub is-opened : (before mid now : Content → Type 0) (opened : Journal) → ((last : Content) → now last → (first : Content) → before first → mid first) → TellsRowsOf mid opened → IsLawful opened → IsOpened before now opened
@@ -174,6 +188,6 @@ ends-too-long status known left e is =
     (λ script long. ap (λ s. list_any (λ n. s == n) (2 ∷ 3 ∷ 7 ∷ [])) e ∙ is)
 
 -- a run that ended behind some items, from the journal that was opened
-pub stopped : (line operator : List ℕ) (before now : Content → Type 0) (left old new : Option (List ℕ)) (opened : Journal) → IsOpened before now opened → IfSome left (λ script. OfFront (λ front. AreEndedBy line operator opened front now old new) (script_items script)) → IsStopped line operator before now left old new
+pub stopped : (line operator : List ℕ) (before now : Content → Type 0) (left : Option (List ℕ)) (old new : SinkAt) (opened : Journal) → IsOpened before now opened → IfSome left (λ script. OfFront (λ front. AreEndedSaying line operator opened front now old new) (script_items script)) → IsStopped line operator before now left old new
 stopped line operator before now None old new opened is held = tt
 stopped line operator before now (Some script) old new opened is held = (opened, is, held)

@@ -2,7 +2,7 @@
 use Rattle.std.specs.Io.KnownBytes.{Appends}
 use Rattle.std.specs.List.{list_any}
 use Rattle.std.specs.Prelude.{IfSome, IsTrue, List, None, Ok, Option, Some, [], length, ℕ, ◌<◌, ◌==◌, ◌∷◌, ◌≡◌, ◌≢◌, ◌≤◌, ◌⊎◌}
-use Rattle.agent_cli.specs.Runs.{AreServedFrom, GrowLawfully, IsCut, IsDone, IsStopped, IsUntouched, ServiceAt, TellSame, TellsLawful, damaged_line, door_failed, service_at, status_line}
+use Rattle.agent_cli.specs.Runs.{AreServedFrom, GrowLawfully, IsCut, IsDone, IsStopped, IsUntouched, MaySayLine, SaysLine, ServiceAt, SinkAt, TellSame, TellsLawful, damaged_line, door_failed, service_at, sink_at, status_line}
 use Rattle.agent_cli.specs.declared.applying.TheConstants.{MAX_SCRIPT}
 use Rattle.agent_edge.specs.Counts.{Rose}
 use Rattle.agent_keeper.specs.Calls.{Rose as KeeperRose}
@@ -47,6 +47,10 @@ sides_of keeper door clock source sink = record {
 -- what of them serving works on
 abbrev pub service : Sides → ServiceAt
 service sides = service_at sides.told sides.keeper_faults sides.door sides.clock
+
+-- what of them is the sink's
+abbrev pub sink : Sides → SinkAt
+sink sides = sink_at sides.written sides.write_faults
 
 -- the numbers of a load are within its bounds
 abbrev pub IsInRange : CommandRead → Type 0
@@ -93,9 +97,9 @@ load_of_options options = record { number = options.number; households = options
 abbrev pub is_one_of : List ℕ → ℕ → Type 0
 is_one_of statuses status = IsTrue (list_any (λ known. status == known) statuses)
 
--- the run is untouched but for the line of a status
+-- what is kept is as it was, and the line of a status was said
 abbrev pub SaysOnly : List ℕ → Sides → Sides → Type 0
-SaysOnly line before after = IsUntouched line before.told after.told before.written after.written
+SaysOnly line before after = IsUntouched line before.told after.told (sink before) (sink after)
 
 -- the door and the clock are as they were
 abbrev pub LeavesDoor : Sides → Sides → Type 0
@@ -152,10 +156,11 @@ pub record Ends (command : Option Command) (status : ℕ) (before after : Sides)
   pub failed : status ≡ 5
       → SaysOnly (status_line 5) before after
       ⊎ IsApply command (λ options.
-      IsStopped (status_line 5) options.key before.told after.told before.left before.written after.written)
-  -- 6: the line says the first row of the store that is missing, no spelling, or not lawful behind the rows before it; a store
-  -- with such a row ends with none of the statuses of a store that is open
-  pub damaged : status ≡ 6 → (place : ℕ) × SaysOnly (damaged_line place) before after
+      IsStopped (status_line 5) options.key before.told after.told before.left (sink before) (sink after))
+  -- 6: the line says the first row of the store that is missing, no spelling, or not lawful behind the rows before it; where memory
+  -- for the line is wanting nothing is written. A store with such a row ends with none of the statuses of a store that is open
+  pub damaged : status ≡ 6 → (place : ℕ) × MaySayLine (damaged_line place) (sink before) (sink after)
+      × TellSame before.told after.told
       × ((kept : Content) → after.told kept → IsDamagedAt place kept.rows)
   pub not_damaged : IfApply command (λ _. is_one_of (0 ∷ 2 ∷ 3 ∷ 4 ∷ []) status → TellsLawful after.told)
   pub served_undamaged : IfServe command (λ _. is_one_of (0 ∷ 8 ∷ []) status → TellsLawful after.told)
@@ -163,11 +168,11 @@ pub record Ends (command : Option Command) (status : ℕ) (before after : Sides)
   pub no_memory : status ≡ 7
       → SaysOnly (status_line 7) before after
       ⊎ IsApply command (λ options.
-      IsStopped (status_line 7) options.key before.told after.told before.left before.written after.written)
+      IsStopped (status_line 7) options.key before.told after.told before.left (sink before) (sink after))
   -- 8: only where listening or accepting failed in this call, and then with no other status; only `serve` ends so, and the
   -- connections before it were served
   pub door_fault : status ≡ 8 → Rose before.door_faults after.door_faults
   pub no_door_fault : status ≢ 8 → after.door_faults ≡ before.door_faults
   pub served_before : status ≡ 8 → IsServe command (λ options.
       AreServedFrom options.key options.connections door_failed (service before) (service after))
-  pub door_line : status ≡ 8 → AppendsFront before.written after.written (status_line 8)
+  pub door_line : status ≡ 8 → SaysLine (status_line 8) (sink before) (sink after)

@@ -1,11 +1,14 @@
 -- What a run leaves where it ends, and the line of a status.
-use Rattle.std.specs.Prelude.{Err, IfSome, List, Option, Result, Some, [], codes, decimal, if◌then◌else◌, ℕ, ◌++◌, ◌==◌, ◌∷◌, ◌≡◌, ◌≤◌, ◌⊎◌}
+use Rattle.std.specs.Io.KnownBytes.{Appends}
+use Rattle.std.specs.Prelude.{Err, IfSome, List, Option, Result, Some, [], codes, decimal, if◌then◌else◌, length, take, ℕ, ◌++◌, ◌<◌, ◌==◌, ◌∷◌, ◌≡◌, ◌≤◌, ◌⊎◌}
+use Rattle.agent_edge.specs.Counts.{Rose}
 use Rattle.agent_edge.specs.declared.doors.DoorFault.{DoorFault}
 use Rattle.connection_service.specs.Answers.{At, ClockAt, kept_at}
 use Rattle.connection_service.specs.InTurn.{AreServed, DoorAt}
 use Rattle.script_answers.specs.declared.answering.AnswerFault.{AnswerFault}
 use Rattle.script_answers.specs.declared.answering.AnswerFault.TheVariants.{Keeper, NoMemory, Write}
-use Rattle.script_answers.specs.Runs.{AppendsFront, AreAnswered, AreEndedBy, IsCutShort, OfFront}
+use Rattle.script_answers.specs.Runs.{AreAnswered, IsCutShort, OfFront, run_over}
+use Rattle.agent_events.specs.Items.{ScriptItem}
 use Rattle.agent_keeper.specs.Content.{Content}
 use Rattle.register_desk.specs.Rows.{TellsRowsOf, rows_of}
 use Rattle.register_machine.specs.journal.Journals.{Journal}
@@ -44,16 +47,44 @@ IsCut operator before now left_before left_after old new =
     (λ script. (left_after ≡ Some []) × (opened : Journal) × IsOpened before now opened
     × IsCutShort operator opened (script_items script) now old new)
 
+-- what was written to a sink, where it is told, and the sink's count of faults
+pub record SinkAt : Type 0 where
+  pub written : Option (List ℕ)
+  pub faults : ℕ
+
+abbrev pub sink_at : Option (List ℕ) → ℕ → SinkAt
+sink_at written faults = record { written = written; faults = faults }
+
+-- Behind these lines all of the line was written, and no write failed; or a write failed, and less than all of it stands.
+abbrev pub SaysBehind : List ℕ → List ℕ → SinkAt → SinkAt → Type 0
+SaysBehind lines line old new =
+    (Appends old.written new.written (lines ++ line) × (new.faults ≡ old.faults))
+    ⊎ (Rose old.faults new.faults × (count : ℕ) × (count < length line)
+    × Appends old.written new.written (lines ++ take count line))
+
+-- all of the line was written, and no write failed; or a write failed, and less than all of it stands
+abbrev pub SaysLine : List ℕ → SinkAt → SinkAt → Type 0
+SaysLine line old new = SaysBehind [] line old new
+
+-- the line was said, or memory for making it was wanting, and the sink is as it was
+abbrev pub MaySayLine : List ℕ → SinkAt → SinkAt → Type 0
+MaySayLine line old new = SaysLine line old new ⊎ (new ≡ old)
+
+-- The items were answered, all of their lines are written, and behind them the run said a line of its own.
+pub record AreEndedSaying (line operator : List ℕ) (opened : Journal) (items : List ScriptItem) (told : Content → Type 0) (old new : SinkAt) : Type 0 where
+  pub lines : SaysBehind (run_over operator opened items).lines line old new
+  pub kept : TellsRowsOf told (run_over operator opened items).journal
+
 -- Behind some items of the script the run ended with a line of its own.
-abbrev pub IsStopped : List ℕ → List ℕ → (Content → Type 0) → (Content → Type 0) → Option (List ℕ) → Option (List ℕ) → Option (List ℕ) → Type 0
+abbrev pub IsStopped : List ℕ → List ℕ → (Content → Type 0) → (Content → Type 0) → Option (List ℕ) → SinkAt → SinkAt → Type 0
 IsStopped line operator before now left_before old new =
     IfSome left_before
     (λ script. (opened : Journal) × IsOpened before now opened
-    × OfFront (λ front. AreEndedBy line operator opened front now old new) (script_items script))
+    × OfFront (λ front. AreEndedSaying line operator opened front now old new) (script_items script))
 
 -- Nothing was answered, and nothing that is kept was changed.
-pub record IsUntouched (said : List ℕ) (before now : Content → Type 0) (old new : Option (List ℕ)) : Type 0 where
-  pub line : AppendsFront old new said
+pub record IsUntouched (said : List ℕ) (before now : Content → Type 0) (old new : SinkAt) : Type 0 where
+  pub line : SaysLine said old new
   pub kept : TellSame before now
 
 -- what serving works on: what the keeper tells and its count of faults, the door and the clock
@@ -106,7 +137,7 @@ status_of Write = 4
 status_of Keeper = 5
 status_of NoMemory = 7
 
-abbrev pub EndsWithLine : AnswerFault → Option (List ℕ) → Option (List ℕ) → Type 0
+abbrev pub EndsWithLine : AnswerFault → SinkAt → SinkAt → Type 0
 EndsWithLine Write old new = new ≡ old
-EndsWithLine Keeper old new = AppendsFront old new (status_line 5)
-EndsWithLine NoMemory old new = AppendsFront old new (status_line 7)
+EndsWithLine Keeper old new = SaysLine (status_line 5) old new
+EndsWithLine NoMemory old new = SaysLine (status_line 7) old new

@@ -4,9 +4,9 @@ ghost use Rattle.std.specs.List.{list_any};
 ghost use Rattle.agent_edge.specs.Counts.{Rose};
 ghost use Rattle.agent_keeper.specs.Calls.{Rose as KeeperRose};
 ghost use Rattle.agent_keeper.specs.Content.{Content};
-ghost use Rattle.agent_cli.specs.Runs.{EndsWithLine, GrowLawfully, IsCut, IsDone, IsStopped, IsUntouched, damaged_line, status_line, status_of};
+ghost use Rattle.agent_cli.specs.Runs.{AreEndedSaying, EndsWithLine, GrowLawfully, IsCut, IsDone, IsStopped, IsUntouched, MaySayLine, SaysLine, TellSame, damaged_line, sink_at, status_line, status_of};
 ghost use Rattle.agent_cli.specs.declared.applying.TheConstants.{MAX_SCRIPT};
-ghost use Rattle.script_answers.specs.Runs.{AppendsFront, AreAnswered, AreEndedBy, IsCutShort, OfFront};
+ghost use Rattle.script_answers.specs.Runs.{AreAnswered, IsCutShort, OfFront};
 ghost use Rattle.script_answers.specs.declared.answering.AnswerFault.TheVariants as Fault;
 ghost use Rattle.register_desk.specs.Rows.{IsDamagedAt, TellsRowsOf, rows_of};
 ghost use Rattle.register_machine.specs.journal.Journals.{Journal};
@@ -29,7 +29,8 @@ pub const MAX_SCRIPT: usize = 16_777_216;
 // Ends where the answers of a script ended early; a line that a write cut short is the last.
 fn ended<O: Sink>(fault: AnswerFault, out: &mut O) -> Status
     ensures status { result.0 ≡ status_of fault }
-    ensures line { EndsWithLine fault (O.contents out.old) (O.contents out.new) }
+    ensures line { EndsWithLine fault (sink_at (O.contents out.old) (O.faults out.old))
+        (sink_at (O.contents out.new) (O.faults out.new)) }
     ensures never_falls { O.faults out.old ≤ O.faults out.new }
     ensures silent { fault ≡ Fault.Write → O.faults out.new ≡ O.faults out.old }
 {
@@ -63,13 +64,15 @@ fn answered<K: Keeper, O: Sink, L: StepLedger>(
         (O.contents out.old) (O.contents out.new) }
     ensures keeper_fault { result.0 ≡ 5 → KeeperRose (K.faults keeper.old) (K.faults keeper.new) }
     ensures failed { result.0 ≡ 5
-        → OfFront (λ front. AreEndedBy (status_line 5) operator.now desk.book.journal front
+        → OfFront (λ front. AreEndedSaying (status_line 5) operator.now desk.book.journal front
         (K.tells keeper.new)
-        (O.contents out.old) (O.contents out.new)) (script_items script.now) }
+        (sink_at (O.contents out.old) (O.faults out.old))
+        (sink_at (O.contents out.new) (O.faults out.new))) (script_items script.now) }
     ensures no_memory { result.0 ≡ 7
-        → OfFront (λ front. AreEndedBy (status_line 7) operator.now desk.book.journal front
+        → OfFront (λ front. AreEndedSaying (status_line 7) operator.now desk.book.journal front
         (K.tells keeper.new)
-        (O.contents out.old) (O.contents out.new)) (script_items script.now) }
+        (sink_at (O.contents out.old) (O.faults out.old))
+        (sink_at (O.contents out.new) (O.faults out.new))) (script_items script.now) }
     ensures grown { (kept : Content) → K.tells keeper.new kept
         → (more : Journal) × IsLawful (desk.book.journal ++ more)
         × (kept.rows ≡ rows_of (desk.book.journal ++ more)) }
@@ -113,17 +116,21 @@ fn read_and_answer<K: Keeper, S: Source, O: Sink, L: StepLedger>(
         (O.contents out.old) (O.contents out.new)) }
     ensures keeper_fault { result.0 ≡ 5 → KeeperRose (K.faults keeper.old) (K.faults keeper.new) }
     ensures failed { result.0 ≡ 5 → IfSome (S.left input.old) (λ script.
-        OfFront (λ front. AreEndedBy (status_line 5) operator.now desk.book.journal front
+        OfFront (λ front. AreEndedSaying (status_line 5) operator.now desk.book.journal front
         (K.tells keeper.new)
-        (O.contents out.old) (O.contents out.new)) (script_items script)) }
+        (sink_at (O.contents out.old) (O.faults out.old))
+        (sink_at (O.contents out.new) (O.faults out.new))) (script_items script)) }
     ensures no_memory { result.0 ≡ 7 → IfSome (S.left input.old) (λ script.
-        OfFront (λ front. AreEndedBy (status_line 7) operator.now desk.book.journal front
+        OfFront (λ front. AreEndedSaying (status_line 7) operator.now desk.book.journal front
         (K.tells keeper.new)
-        (O.contents out.old) (O.contents out.new)) (script_items script)) }
+        (sink_at (O.contents out.old) (O.faults out.old))
+        (sink_at (O.contents out.new) (O.faults out.new))) (script_items script)) }
     ensures long_line { result.0 ≡ 2
-        → AppendsFront (O.contents out.old) (O.contents out.new) (status_line 2) }
+        → SaysLine (status_line 2) (sink_at (O.contents out.old) (O.faults out.old))
+        (sink_at (O.contents out.new) (O.faults out.new)) }
     ensures fault_line { result.0 ≡ 3
-        → AppendsFront (O.contents out.old) (O.contents out.new) (status_line 3) }
+        → SaysLine (status_line 3) (sink_at (O.contents out.old) (O.faults out.old))
+        (sink_at (O.contents out.new) (O.faults out.new)) }
     ensures unread { (result.0 ≡ 2) ⊎ (result.0 ≡ 3) → keeper.new ≡ keeper.old }
     ensures grown { (kept : Content) → K.tells keeper.new kept
         → (more : Journal) × IsLawful (desk.book.journal ++ more)
@@ -171,12 +178,14 @@ pub(crate) fn apply<K: Keeper, S: Source, O: Sink, L: StepLedger>(
         → IsTrue (list_any (λ known. result.0 == known) (2 ∷ 3 ∷ 5 ∷ 6 ∷ 7 ∷ []))) }
     ensures long_line { result.0 ≡ 2
         → IsUntouched (status_line 2) (K.tells keeper.old) (K.tells keeper.new)
-        (O.contents out.old) (O.contents out.new) }
+        (sink_at (O.contents out.old) (O.faults out.old))
+        (sink_at (O.contents out.new) (O.faults out.new)) }
     ensures read_fault { result.0 ≡ 3 → Rose (S.faults input.old) (S.faults input.new) }
     ensures no_read_fault { result.0 ≢ 3 → S.faults input.new ≡ S.faults input.old }
     ensures fault_line { result.0 ≡ 3
         → IsUntouched (status_line 3) (K.tells keeper.old) (K.tells keeper.new)
-        (O.contents out.old) (O.contents out.new) }
+        (sink_at (O.contents out.old) (O.faults out.old))
+        (sink_at (O.contents out.new) (O.faults out.new)) }
     ensures write_fault { result.0 ≡ 4 → Rose (O.faults out.old) (O.faults out.new) }
     ensures cut { result.0 ≡ 4
         → IsCut key.now (K.tells keeper.old) (K.tells keeper.new) (S.left input.old)
@@ -185,23 +194,28 @@ pub(crate) fn apply<K: Keeper, S: Source, O: Sink, L: StepLedger>(
     ensures keeper_fault { result.0 ≡ 5 → KeeperRose (K.faults keeper.old) (K.faults keeper.new) }
     ensures failed { result.0 ≡ 5
         → IsUntouched (status_line 5) (K.tells keeper.old) (K.tells keeper.new)
-        (O.contents out.old) (O.contents out.new)
+        (sink_at (O.contents out.old) (O.faults out.old))
+        (sink_at (O.contents out.new) (O.faults out.new))
         ⊎ IsStopped (status_line 5) key.now (K.tells keeper.old) (K.tells keeper.new)
         (S.left input.old)
-        (O.contents out.old) (O.contents out.new) }
+        (sink_at (O.contents out.old) (O.faults out.old))
+        (sink_at (O.contents out.new) (O.faults out.new)) }
     ensures damaged { result.0 ≡ 6 → (place : ℕ)
-        × IsUntouched (damaged_line place) (K.tells keeper.old) (K.tells keeper.new)
-        (O.contents out.old) (O.contents out.new)
+        × MaySayLine (damaged_line place) (sink_at (O.contents out.old) (O.faults out.old))
+        (sink_at (O.contents out.new) (O.faults out.new))
+        × TellSame (K.tells keeper.old) (K.tells keeper.new)
         × ((kept : Content) → K.tells keeper.new kept → IsDamagedAt place kept.rows) }
     ensures not_damaged { IsTrue (list_any (λ known. result.0 == known) (0 ∷ 2 ∷ 3 ∷ 4 ∷ []))
         → (kept : Content) → K.tells keeper.new kept → (journal : Journal) × IsLawful journal
         × (kept.rows ≡ rows_of journal) }
     ensures no_memory { result.0 ≡ 7
         → IsUntouched (status_line 7) (K.tells keeper.old) (K.tells keeper.new)
-        (O.contents out.old) (O.contents out.new)
+        (sink_at (O.contents out.old) (O.faults out.old))
+        (sink_at (O.contents out.new) (O.faults out.new))
         ⊎ IsStopped (status_line 7) key.now (K.tells keeper.old) (K.tells keeper.new)
         (S.left input.old)
-        (O.contents out.old) (O.contents out.new) }
+        (sink_at (O.contents out.old) (O.faults out.old))
+        (sink_at (O.contents out.new) (O.faults out.new)) }
     ensures kept { (first last : Content) → K.tells keeper.old first → K.tells keeper.new last
         → GrowLawfully first.rows last.rows }
 {

@@ -2,7 +2,7 @@
 ghost use Rattle.std.specs.Prelude.{◌≡◌, ◌≤◌, ◌∷◌, []};
 ghost use Rattle.std.specs.Io.KnownBytes.{Appends};
 ghost use Rattle.agent_cli.specs.Ends.{is_one_of};
-ghost use Rattle.agent_cli.specs.Runs.{status_line};
+ghost use Rattle.agent_cli.specs.Runs.{SaysLine, sink_at, status_line};
 ghost use Rattle.agent_edge.specs.Counts.{Rose};
 ghost use Rattle.load_requests.specs.Summaries as summary;
 ghost use Rattle.script_answers.specs.Runs.{AppendsFront};
@@ -50,7 +50,8 @@ pub(crate) fn load<O: Sink, L: StepLedger>(
         (summary.load_text (record { number = number; households = households; days = days })) }
     ensures fault { result.0 ≡ 4 → Rose (O.faults out.old) (O.faults out.new) }
     ensures no_memory { result.0 ≡ 7
-        → AppendsFront (O.contents out.old) (O.contents out.new) (status_line 7) }
+        → SaysLine (status_line 7) (sink_at (O.contents out.old) (O.faults out.old))
+        (sink_at (O.contents out.new) (O.faults out.new)) }
 {
     match load_text(alloc, number, households, days, steps) {
         Ok(text) => printed(out, &text),

@@ -86,7 +86,7 @@ fn do_command<K: Keeper, D: Door, C: Clock, S: Source, O: Sink, L: StepLedger>(
 /// meet the rule; 2 the script has more than 16 MiB; 3 a read failed; 4 a write failed; 5 the keeper failed; 6 a row of the
 /// store is damaged; 7 want of memory; 8 the door couldn't listen or accept. Serving ends with 5, 6 and 7 only before the first
 /// connection: a fault of a connection ends that connection, and a fault of the keeper or want of memory at an item is its
-/// reply. All but 0 and 4 print a line.
+/// reply. All but 0 and 4 print a line, 6 where there is memory for it.
 pub fn run<K: Keeper, D: Door, C: Clock, S: Source, O: Sink, L: StepLedger>(
     alloc: Global,
     words: &[String],

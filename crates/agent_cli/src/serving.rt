@@ -1,7 +1,7 @@
 //! The command `serve`: it opens the store, listens at a port, and serves connections one after another.
 ghost use Rattle.std.specs.Prelude.{◌≡◌, ◌≢◌, ◌++◌, [], ◌∷◌, IsTrue, OnErr, OnOk, ℕ};
 ghost use Rattle.agent_cli.specs.Ends.{is_one_of};
-ghost use Rattle.agent_cli.specs.Runs.{AreServedBehind, AreServedFrom, GrowLawfully, IsUntouched, TellsLawful, damaged_line, door_failed, service_at, status_line};
+ghost use Rattle.agent_cli.specs.Runs.{AreServedBehind, AreServedFrom, GrowLawfully, IsUntouched, MaySayLine, SaysLine, TellSame, TellsLawful, damaged_line, door_failed, service_at, sink_at, status_line};
 ghost use Rattle.agent_edge.specs.Counts.{Rose};
 ghost use Rattle.agent_keeper.specs.Calls.{Rose as KeeperRose};
 ghost use Rattle.agent_keeper.specs.Content.{Content};
@@ -11,7 +11,6 @@ ghost use Rattle.connection_service.specs.Serving.{at_of};
 ghost use Rattle.register_desk.specs.Rows.{IsDamagedAt, TellsRowsOf, rows_of};
 ghost use Rattle.register_machine.specs.journal.Journals.{Journal};
 ghost use Rattle.register_machine.specs.journal.Lawful.{IsLawful};
-ghost use Rattle.script_answers.specs.Runs.{AppendsFront};
 
 use crate::ends::{Status, damaged, end, keeper_fault, no_memory};
 use crate::opening::open;
@@ -87,7 +86,8 @@ fn serve_opened<K: Keeper, D: Door, C: Clock, O: Sink, L: StepLedger>(
         (door_at (D.is_connected door.new) (D.told door.new) (D.link_faults door.new))
         (clock_at (C.last clock.new) (C.coming clock.new))) }
     ensures door_line { result.0 ≡ 8
-        → AppendsFront (O.contents out.old) (O.contents out.new) (status_line 8) }
+        → SaysLine (status_line 8) (sink_at (O.contents out.old) (O.faults out.old))
+        (sink_at (O.contents out.new) (O.faults out.new)) }
     ensures door_fault { result.0 ≡ 8 → Rose (D.door_faults door.old) (D.door_faults door.new) }
     ensures no_door_fault { result.0 ≢ 8 → D.door_faults door.new ≡ D.door_faults door.old }
     ensures grown { (kept : Content) → K.tells keeper.new kept
@@ -140,15 +140,18 @@ pub(crate) fn serve<K: Keeper, D: Door, C: Clock, O: Sink, L: StepLedger>(
     ensures keeper_fault { result.0 ≡ 5 → KeeperRose (K.faults keeper.old) (K.faults keeper.new) }
     ensures failed { result.0 ≡ 5
         → IsUntouched (status_line 5) (K.tells keeper.old) (K.tells keeper.new)
-        (O.contents out.old) (O.contents out.new) }
+        (sink_at (O.contents out.old) (O.faults out.old))
+        (sink_at (O.contents out.new) (O.faults out.new)) }
     ensures damaged { result.0 ≡ 6 → (place : ℕ)
-        × IsUntouched (damaged_line place) (K.tells keeper.old) (K.tells keeper.new)
-        (O.contents out.old) (O.contents out.new)
+        × MaySayLine (damaged_line place) (sink_at (O.contents out.old) (O.faults out.old))
+        (sink_at (O.contents out.new) (O.faults out.new))
+        × TellSame (K.tells keeper.old) (K.tells keeper.new)
         × ((kept : Content) → K.tells keeper.new kept → IsDamagedAt place kept.rows) }
     ensures not_damaged { is_one_of (0 ∷ 8 ∷ []) result.0 → TellsLawful (K.tells keeper.new) }
     ensures no_memory { result.0 ≡ 7
         → IsUntouched (status_line 7) (K.tells keeper.old) (K.tells keeper.new)
-        (O.contents out.old) (O.contents out.new) }
+        (sink_at (O.contents out.old) (O.faults out.old))
+        (sink_at (O.contents out.new) (O.faults out.new)) }
     ensures unopened { is_one_of (5 ∷ 6 ∷ 7 ∷ []) result.0
         → (door.new ≡ door.old) × (clock.new ≡ clock.old) }
     ensures served_before { result.0 ≡ 8 → AreServedFrom key.now connections door_failed
@@ -159,7 +162,8 @@ pub(crate) fn serve<K: Keeper, D: Door, C: Clock, O: Sink, L: StepLedger>(
         (door_at (D.is_connected door.new) (D.told door.new) (D.link_faults door.new))
         (clock_at (C.last clock.new) (C.coming clock.new))) }
     ensures door_line { result.0 ≡ 8
-        → AppendsFront (O.contents out.old) (O.contents out.new) (status_line 8) }
+        → SaysLine (status_line 8) (sink_at (O.contents out.old) (O.faults out.old))
+        (sink_at (O.contents out.new) (O.faults out.new)) }
     ensures door_fault { result.0 ≡ 8 → Rose (D.door_faults door.old) (D.door_faults door.new) }
     ensures no_door_fault { result.0 ≢ 8 → D.door_faults door.new ≡ D.door_faults door.old }
     ensures kept { (first last : Content) → K.tells keeper.old first → K.tells keeper.new last

@@ -69,13 +69,24 @@ fn both(alloc: Global, first: &[u8], second: &[u8]) -> Result<Vec<u8>, AllocErro
     Ok(bytes)
 }
 
-// A door of these connections, whose listed calls of `listen` and `accept` fail.
-fn door_of(alloc: Global, texts: &[&[u8]], fails: &[u64]) -> Result<MemoryDoor, Fail> {
+// The words of a line, one space apart.
+fn words_in<'a>(alloc: Global, line: &'a str) -> Result<Vec<&'a str>, AllocError> {
+    line.split(' ').collect(alloc)
+}
+
+// A door of these connections in pieces of 64 bytes, where the listed calls of `listen` and `accept` fail, and the listed reads
+// and writes.
+fn door_of(
+    alloc: Global,
+    texts: &[&[u8]],
+    fails: &[u64],
+    link_fails: &[u64],
+) -> Result<MemoryDoor, Fail> {
     let mut connections = Connections::new(alloc);
     for text in texts {
         connections.push(Bytes::from_slice(alloc, text)?)?;
     }
-    Ok(MemoryDoor::new(alloc, connections, 4096, 4096, fails, &[])?)
+    Ok(MemoryDoor::new(alloc, connections, 64, 4096, fails, link_fails)?)
 }
 
 // The status of a run over a keeper and a door, on 2024-07-01 at 09:00 in New York, and the bytes that it wrote.
@@ -108,7 +119,7 @@ fn outcome_of<K: Keeper, L: Ledger>(
     script: &[u8],
     steps: &mut Steps<L>,
 ) -> Result<(u8, Vec<u8>), Fail> {
-    let mut door = door_of(alloc, &[], &[])?;
+    let mut door = door_of(alloc, &[], &[], &[])?;
     outcome_at(alloc, texts, keeper, &mut door, script, steps)
 }
 
@@ -199,7 +210,10 @@ class 11 shares 0.000 cash 0.00\nclass 12 shares 39.433 cash 793.00\n";
 const LOADED_NOTHING: &[u8] = b"events 5\nsheets 0\nrefused 0\nfilled 0\nunfilled 0\n\
 class 11 shares 0.000 cash 0.00\nclass 12 shares 0.000 cash 0.00\n";
 
-// A load of one household over one day, and over none.
+const LOADED_BOOK: &[u8] = b"events 1520\nsheets 70\nrefused 0\nfilled 1384\nunfilled 16\n\
+class 11 shares 19859.846 cash 207917.75\nclass 12 shares 10418.874 cash 213574.00\n";
+
+// A load of one household over one day and over none, and one of twenty households over seventy days.
 fn loads<L: Ledger>(alloc: Global, blank: Blank) -> Result<bool, Fail>
     requires name { blank.name ≡ L.name }
     requires parts { blank.parts ≡ L.parts }
@@ -207,19 +221,77 @@ fn loads<L: Ledger>(alloc: Global, blank: Blank) -> Result<bool, Fail>
 {
     let mut steps = Steps::<L>::new(blank);
     let mut keeper = SureKeeper::new(alloc);
-    let texts = ["load", "--number", "1", "--households", "1", "--days", "1"];
-    let (status, lines) = outcome_of(alloc, &texts, &mut keeper, b"", &mut steps)?;
-    if status != 0 || lines.as_slice() != LOADED {
-        return Ok(false);
+    for (line, wanted) in [
+        ("load --number 1 --households 1 --days 1", LOADED),
+        ("load --days=0 --households=1 --number=1", LOADED_NOTHING),
+        ("load --number 7 --households 20 --days 70", LOADED_BOOK),
+    ] {
+        let texts = words_in(alloc, line)?;
+        let (status, lines) = outcome_of(alloc, &texts, &mut keeper, b"", &mut steps)?;
+        if status != 0 || lines.as_slice() != wanted {
+            return Ok(false);
+        }
     }
-    let texts = ["load", "--days=0", "--households=1", "--number=1"];
-    let (status, lines) = outcome_of(alloc, &texts, &mut keeper, b"", &mut steps)?;
-    Ok(status == 0 && lines.as_slice() == LOADED_NOTHING)
+    Ok(true)
 }
 
 #[test]
 fn a_load_prints_its_summary(rt: HostRuntime) -> Result<(), Fail> {
     assert!(rt; loads::<Brand>(rt.alloc(), Blank::new(1))?);
+    Ok(())
+}
+
+// A repeated option, one that is missing, an unknown one, no value, a value that begins with `-`, a word more, and `--`; a
+// number with a sign, with a leading zero, and out of its range; and no command.
+const BAD_WORDS: &str = "\
+apply --store r --key op-desk000001 --store r\n\
+apply --store r\n\
+apply --store r --key op-desk000001 --port 80\n\
+apply --store= --key=op-desk000001\n\
+apply --key op-desk000001 --store\n\
+apply --store -r --key op-desk000001\n\
+apply --store r --key op-desk000001 extra\n\
+apply -- --store r --key op-desk000001\n\
+apply --store r --key h-mary000001\n\
+load --number +7 --households 20 --days 70\n\
+load --number -7 --households 20 --days 70\n\
+load --number 07 --households 20 --days 70\n\
+load --number 7 --households 0 --days 70\n\
+load --number 7 --households 1001 --days 70\n\
+load --number 7 --households 20 --days 2001\n\
+load --number 7 --households 20\n\
+serve --store r --port 0 --key op-desk000001 --connections 1\n\
+serve --store r --port 65536 --key op-desk000001 --connections 1\n\
+serve --store r --port 80 --key op-desk000001 --connections 0\n\
+help\n\
+--version\n";
+
+// Bad words are status 1 and the line `usage`, whatever the input.
+fn is_usage<L: Ledger>(alloc: Global, texts: &[&str], steps: &mut Steps<L>) -> Result<bool, Fail> {
+    let mut keeper = SureKeeper::new(alloc);
+    let (status, lines) = outcome_of(alloc, texts, &mut keeper, PREAMBLE, steps)?;
+    Ok(status == 1 && lines.as_slice() == b"usage\n".as_slice())
+}
+
+// The last line is one empty word, and without any word the words are bad too.
+fn says_usage<L: Ledger>(alloc: Global, blank: Blank) -> Result<bool, Fail>
+    requires name { blank.name ≡ L.name }
+    requires parts { blank.parts ≡ L.parts }
+    requires some { 0 < blank.parts }
+{
+    let mut steps = Steps::<L>::new(blank);
+    for line in BAD_WORDS.split('\n') {
+        let texts = words_in(alloc, line)?;
+        if !is_usage(alloc, &texts, &mut steps)? {
+            return Ok(false);
+        }
+    }
+    is_usage(alloc, &[], &mut steps)
+}
+
+#[test]
+fn bad_words_are_status_1(rt: HostRuntime) -> Result<(), Fail> {
+    assert!(rt; says_usage::<Brand>(rt.alloc(), Blank::new(1))?);
     Ok(())
 }
 
@@ -262,7 +334,7 @@ fn serves<L: Ledger>(alloc: Global, blank: Blank) -> Result<bool, Fail>
     let mut steps = Steps::<L>::new(blank);
     let mut keeper = MemoryKeeper::new(alloc, &[])?;
     let (status, _) = outcome(alloc, &mut keeper, PREAMBLE, &mut steps)?;
-    let mut door = door_of(alloc, &[BUY, TRACE, TRACE], &[])?;
+    let mut door = door_of(alloc, &[BUY, TRACE, TRACE], &[], &[])?;
     let (served, lines) = outcome_at(alloc, &SERVE, &mut keeper, &mut door, b"", &mut steps)?;
     if status != 0 || served != 0 || !lines.is_empty() {
         return Ok(false);
@@ -279,21 +351,65 @@ fn two_connections_are_served(rt: HostRuntime) -> Result<(), Fail> {
     Ok(())
 }
 
-// Listening is the door's first call, and accepting the second.
+const NO_ORDER_REPLY: &[u8] = b"HTTP/1.1 404 Not Found\r\nContent-Type: application/json\r\n\
+Content-Length: 37\r\nConnection: close\r\n\r\n{\"code\":\"3\",\"reply\":\"no\",\"value\":\"2\"}";
+
+const LOOK: &[u8] = b"1719838800,h-mary000001,trace,101,1\n";
+
+const IS_KEPT: &[u8] = b"ok,trace,101,1,pending,1719838800,1719864000,0.00,0.000,0.00,0.00,0.000\n";
+
+const ISNT_KEPT: &[u8] = b"no,3,2\n";
+
+// The status and the line of serving through a door behind the preamble, and what a look through `apply` finds of the order.
+fn look_behind<L: Ledger>(
+    alloc: Global,
+    door: &mut MemoryDoor,
+    steps: &mut Steps<L>,
+) -> Result<(u8, Vec<u8>, Vec<u8>), Fail> {
+    let mut keeper = MemoryKeeper::new(alloc, &[])?;
+    let _ = outcome(alloc, &mut keeper, PREAMBLE, steps)?;
+    let (served, said) = outcome_at(alloc, &SERVE, &mut keeper, door, b"", steps)?;
+    let (_, found) = outcome(alloc, &mut keeper, LOOK, steps)?;
+    Ok((served, said, found))
+}
+
+// These bytes were written on the connections that were shut, as many as these.
+fn has_written(door: &MemoryDoor, wanted: &[&[u8]]) -> bool {
+    if door.finished().len() != wanted.len() {
+        return false;
+    }
+    for (link, bytes) in door.finished().iter().zip(wanted) {
+        if link.written() != *bytes {
+            return false;
+        }
+    }
+    true
+}
+
+// Listening is the door's first call, and accepting the second and the third; there is no fourth.
+const DOOR_CALLS: [(u64, u8, &[u8], usize, &[u8]); 4] = [
+    (1, 8, b"door fault\n", 0, ISNT_KEPT),
+    (2, 8, b"door fault\n", 0, ISNT_KEPT),
+    (3, 8, b"door fault\n", 1, IS_KEPT),
+    (4, 0, b"", 2, IS_KEPT),
+];
+
+// Each call fails in turn: so many connections were served before it, and what they brought is kept.
 fn a_door_fails<L: Ledger>(alloc: Global, blank: Blank) -> Result<bool, Fail>
     requires name { blank.name ≡ L.name }
     requires parts { blank.parts ≡ L.parts }
     requires some { 0 < blank.parts }
 {
     let mut steps = Steps::<L>::new(blank);
-    for failing in [1_u64, 2] {
-        let mut keeper = SureKeeper::new(alloc);
-        let mut door = door_of(alloc, &[BUY], &[failing])?;
-        let (status, lines) = outcome_at(alloc, &SERVE, &mut keeper, &mut door, b"", &mut steps)?;
-        if status != 8
-            || lines.as_slice() != b"door fault\n".as_slice()
-            || !door.finished().is_empty()
-        {
+    let replies = [BUY_REPLY, TRACE_REPLY];
+    for (failing, ends, line, count, look) in DOOR_CALLS {
+        let mut door = door_of(alloc, &[BUY, TRACE, TRACE], &[failing], &[])?;
+        let (status, said, found) = look_behind(alloc, &mut door, &mut steps)?;
+        let wanted = replies.get(..count).unwrap_or(&replies);
+        if status != ends || said.as_slice() != line || found.as_slice() != look {
+            return Ok(false);
+        }
+        if !has_written(&door, wanted) {
             return Ok(false);
         }
     }
@@ -303,5 +419,74 @@ fn a_door_fails<L: Ledger>(alloc: Global, blank: Blank) -> Result<bool, Fail>
 #[test]
 fn a_door_that_fails_is_status_8(rt: HostRuntime) -> Result<(), Fail> {
     assert!(rt; a_door_fails::<Brand>(rt.alloc(), Blank::new(1))?);
+    Ok(())
+}
+
+// The purchase is two reads, its reply three writes, and the end of its connection a read; the look is two reads, and its reply
+// five writes. So many bytes of each reply stand where this call fails; there is no fourteenth.
+const LINK_CALLS: [(u64, usize, usize); 12] = [
+    (3, 0, 272),
+    (4, 64, 272),
+    (5, 128, 272),
+    (6, 156, 272),
+    (7, 156, 0),
+    (8, 156, 0),
+    (9, 156, 0),
+    (10, 156, 64),
+    (11, 156, 128),
+    (12, 156, 192),
+    (13, 156, 256),
+    (14, 156, 272),
+];
+
+// Serves a purchase and a look at it while this read or write fails: no line is printed, these bytes were written, and so the
+// order is found in the store.
+fn serves_on<L: Ledger>(
+    alloc: Global,
+    failing: u64,
+    replies: [&[u8]; 2],
+    look: &[u8],
+    steps: &mut Steps<L>,
+) -> Result<bool, Fail> {
+    let mut door = door_of(alloc, &[BUY, TRACE], &[], &[failing])?;
+    let (status, said, found) = look_behind(alloc, &mut door, steps)?;
+    let faults = if failing < 14 { 1 } else { 0 };
+    Ok(
+        status == 0
+            && said.is_empty()
+            && found.as_slice() == look
+            && has_written(&door, &replies)
+            && door.link_faults() == faults,
+    )
+}
+
+// Each read and write fails in turn: the status is 0, and the purchase is kept exactly where it was read whole.
+fn a_link_fails<L: Ledger>(alloc: Global, blank: Blank) -> Result<bool, Fail>
+    requires name { blank.name ≡ L.name }
+    requires parts { blank.parts ≡ L.parts }
+    requires some { 0 < blank.parts }
+{
+    let mut steps = Steps::<L>::new(blank);
+    for failing in [1_u64, 2] {
+        let replies = [b"".as_slice(), NO_ORDER_REPLY];
+        if !serves_on(alloc, failing, replies, ISNT_KEPT, &mut steps)? {
+            return Ok(false);
+        }
+    }
+    for (failing, first, second) in LINK_CALLS {
+        let replies = [
+            BUY_REPLY.get(..first).unwrap_or(BUY_REPLY),
+            TRACE_REPLY.get(..second).unwrap_or(TRACE_REPLY),
+        ];
+        if !serves_on(alloc, failing, replies, IS_KEPT, &mut steps)? {
+            return Ok(false);
+        }
+    }
+    Ok(true)
+}
+
+#[test]
+fn a_link_that_fails_is_status_0(rt: HostRuntime) -> Result<(), Fail> {
+    assert!(rt; a_link_fails::<Brand>(rt.alloc(), Blank::new(1))?);
     Ok(())
 }

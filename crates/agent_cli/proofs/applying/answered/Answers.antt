@@ -1,4 +1,5 @@
 use Rattle.agent_cli.proofs.RunFacts.{counts-keeper, counts-write, ended-cut, ended-failed, ended-short, grown-by, never-done}
+use Rattle.agent_cli.specs.Runs.{sink_at}
 use Rattle.register_machine.specs.run.Scripts.{script_items}
 use Rattle.agent_cli.proofs.applying.answered.Goals as goal
 
@@ -21,7 +22,9 @@ returns-in-Err-clause-write_fault g c =
 pub returns-in-Err-clause-cut : goal.returns-in-Err-clause-cut
 returns-in-Err-clause-cut g c =
     ended-cut c.args.operator.now c.args.desk.book.journal (script_items c.args.script.now) (g.K.Keeper.tells c.answer_script-ends.new.keeper)
-    (g.O.Sink.contents c.args.out.now) (g.O.Sink.contents c.answer_script-ends.new.out) (g.O.Sink.contents c.ended.new.out)
+    (sink_at (g.O.Sink.contents c.args.out.now) (g.O.Sink.faults c.args.out.now))
+    (sink_at (g.O.Sink.contents c.answer_script-ends.new.out) (g.O.Sink.faults c.answer_script-ends.new.out))
+    (sink_at (g.O.Sink.contents c.ended.new.out) (g.O.Sink.faults c.ended.new.out))
     c.answer_script-ends.result c.in-Err.fault c.ended.result.0 c.answer_script-ends.ensures.ends c.in-Err.is c.ended.ensures.status c.ended.ensures.line
 
 pub returns-in-Err-clause-keeper_fault : goal.returns-in-Err-clause-keeper_fault
@@ -32,14 +35,20 @@ returns-in-Err-clause-keeper_fault g c =
 pub returns-in-Err-clause-failed : goal.returns-in-Err-clause-failed
 returns-in-Err-clause-failed g c =
     ended-failed c.args.operator.now c.args.desk.book.journal (script_items c.args.script.now) (g.K.Keeper.tells c.answer_script-ends.new.keeper)
-    (g.O.Sink.contents c.args.out.now) (g.O.Sink.contents c.answer_script-ends.new.out) (g.O.Sink.contents c.ended.new.out)
-    c.answer_script-ends.result c.in-Err.fault c.ended.result.0 c.answer_script-ends.ensures.ends c.in-Err.is c.ended.ensures.status c.ended.ensures.line
+    (g.K.Keeper.faults c.args.keeper.now) (g.K.Keeper.faults c.answer_script-ends.new.keeper)
+    (sink_at (g.O.Sink.contents c.args.out.now) (g.O.Sink.faults c.args.out.now))
+    (sink_at (g.O.Sink.contents c.answer_script-ends.new.out) (g.O.Sink.faults c.answer_script-ends.new.out))
+    (sink_at (g.O.Sink.contents c.ended.new.out) (g.O.Sink.faults c.ended.new.out))
+    c.answer_script-ends.result c.in-Err.fault c.ended.result.0 c.answer_script-ends.ensures.ends c.answer_script-ends.ensures.counts c.in-Err.is c.ended.ensures.status c.ended.ensures.line
 
 pub returns-in-Err-clause-no_memory : goal.returns-in-Err-clause-no_memory
 returns-in-Err-clause-no_memory g c =
     ended-short c.args.operator.now c.args.desk.book.journal (script_items c.args.script.now) (g.K.Keeper.tells c.answer_script-ends.new.keeper)
-    (g.O.Sink.contents c.args.out.now) (g.O.Sink.contents c.answer_script-ends.new.out) (g.O.Sink.contents c.ended.new.out)
-    c.answer_script-ends.result c.in-Err.fault c.ended.result.0 c.answer_script-ends.ensures.ends c.in-Err.is c.ended.ensures.status c.ended.ensures.line
+    (g.K.Keeper.faults c.args.keeper.now) (g.K.Keeper.faults c.answer_script-ends.new.keeper)
+    (sink_at (g.O.Sink.contents c.args.out.now) (g.O.Sink.faults c.args.out.now))
+    (sink_at (g.O.Sink.contents c.answer_script-ends.new.out) (g.O.Sink.faults c.answer_script-ends.new.out))
+    (sink_at (g.O.Sink.contents c.ended.new.out) (g.O.Sink.faults c.ended.new.out))
+    c.answer_script-ends.result c.in-Err.fault c.ended.result.0 c.answer_script-ends.ensures.ends c.answer_script-ends.ensures.counts c.in-Err.is c.ended.ensures.status c.ended.ensures.line
 
 pub returns-in-Err-clause-grown : goal.returns-in-Err-clause-grown
 returns-in-Err-clause-grown g c =

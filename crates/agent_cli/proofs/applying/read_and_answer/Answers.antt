@@ -1,7 +1,7 @@
 use Rattle.std.proofs.Common.{List, Some, [], refl, subst, ℕ, ◌≡◌}
 use Rattle.agent_cli.proofs.RunFacts.{ended-at-once, ends-too-long, grown-nothing, over-any, over-whole}
-use Rattle.agent_cli.specs.Runs.{status_line}
-use Rattle.script_answers.specs.Runs.{AreEndedBy, IsCutShort, OfFront}
+use Rattle.agent_cli.specs.Runs.{AreEndedSaying, sink_at, status_line}
+use Rattle.script_answers.specs.Runs.{IsCutShort, OfFront}
 use Rattle.register_machine.specs.run.Scripts.{script_items}
 use Rattle.agent_cli.proofs.applying.read_and_answer.Goals as goal
 
@@ -29,10 +29,12 @@ returns-in-Err-Fault-clause-grown g c =
 
 pub returns-in-Err-NoMemory-clause-no_memory : goal.returns-in-Err-NoMemory-clause-no_memory
 returns-in-Err-NoMemory-clause-no_memory g c = λ _.
+    let old = sink_at (g.O.Sink.contents c.args.out.now) (g.O.Sink.faults c.args.out.now) in
+    let new = sink_at (g.O.Sink.contents c.no_memory.new.out) (g.O.Sink.faults c.no_memory.new.out) in
     over-any
-    (λ script. OfFront (λ front. AreEndedBy (status_line 7) c.args.operator.now c.args.desk.book.journal front (g.K.Keeper.tells c.args.keeper.now) (g.O.Sink.contents c.args.out.now) (g.O.Sink.contents c.no_memory.new.out)) (script_items script))
+    (λ script. OfFront (λ front. AreEndedSaying (status_line 7) c.args.operator.now c.args.desk.book.journal front (g.K.Keeper.tells c.args.keeper.now) old new) (script_items script))
     (g.S.Source.left c.args.input.now)
-    (λ script. ended-at-once (status_line 7) c.args.operator.now c.args.desk.book.journal (script_items script) (g.K.Keeper.tells c.args.keeper.now) (g.O.Sink.contents c.args.out.now) (g.O.Sink.contents c.no_memory.new.out) c.requires.told c.no_memory.ensures.line)
+    (λ script. ended-at-once (status_line 7) c.args.operator.now c.args.desk.book.journal (script_items script) (g.K.Keeper.tells c.args.keeper.now) old new c.requires.told c.no_memory.ensures.line)
 
 pub returns-in-Err-NoMemory-clause-grown : goal.returns-in-Err-NoMemory-clause-grown
 returns-in-Err-NoMemory-clause-grown g c =

@@ -43,7 +43,8 @@ returns-in-Err-Keeper-clause-kept g c =
 pub returns-in-Err-Damaged-clause-damaged : goal.returns-in-Err-Damaged-clause-damaged
 returns-in-Err-Damaged-clause-damaged g c = λ is. (
   c.in-Err-Damaged.place,
-  record { line = c.damaged.ensures.line; kept = c.open.ensures.same },
+  c.damaged.ensures.line,
+  c.open.ensures.same,
   c.open.ensures.damaged c.in-Err-Damaged.place (c.in-Err-Damaged.is ∙ ap (λ fault. Err fault) c.in-Err-Damaged.field-0-is),
 )
 
