@@ -115,13 +115,13 @@ fn before_any_commit_a_stop_leaves_nothing(rt: HostRuntime) -> Result<(), Fail> 
     Ok(())
 }
 
-// A copy of a keeper two of whose calls were made, one of them failed: the copy counts none.
+// A copy of a keeper that has made three calls, the last of which failed: the copy counts none.
 fn copy_behind_a_fault(alloc: Global, with_last: bool) -> Result<MemoryKeeper, KeepFault>
     ensures fails { IfOk result (λ copy. calls_that_fail copy ≡ []) }
     ensures calls { IfOk result (λ copy. calls_made copy ≡ 0) }
     ensures faults { IfOk result (λ copy. faults_made copy ≡ 0) }
 {
-    let mut keeper = MemoryKeeper::new(alloc, &[2])?;
+    let mut keeper = MemoryKeeper::new(alloc, &[3])?;
     commit(&mut keeper, &first_batch(alloc)?)?;
     let _told = keeper.len();
     Ok(keeper.after_stop(alloc, with_last)?)
@@ -130,7 +130,7 @@ fn copy_behind_a_fault(alloc: Global, with_last: bool) -> Result<MemoryKeeper, K
 #[test]
 fn a_copy_counts_anew_and_fails_at_no_call(rt: HostRuntime) -> Result<(), Fail> {
     let alloc = rt.alloc();
-    for (with_last, rows) in [(false, 0), (true, 2)] {
+    for (with_last, rows) in [(false, 0), (true, 1)] {
         let mut copy = copy_behind_a_fault(alloc, with_last)?;
         for _ in 0..3 {
             assert_eq!(rt; copy.len(), Ok(rows));
