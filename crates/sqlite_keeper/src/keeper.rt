@@ -1,6 +1,9 @@
 //! The keeper over a file.
-ghost use Rattle.std.specs.Prelude.{◌≡◌, false};
+ghost use Rattle.std.specs.Prelude.{◌≡◌, ◌≢◌, ◌+◌, ◌-◌, ◌^◌, false, true, Err, IsTrue, OnOk, OnErr, length, min};
 ghost use Rattle.agent_keeper.specs.Calls.{Counts};
+ghost use Rattle.sqlite.specs.Held.{state};
+ghost use Rattle.sqlite.specs.State.{HasCleanDisk, Survives};
+ghost use Rattle.sqlite_keeper.specs.Commits.{changes_of, MakesAll};
 ghost use Rattle.sqlite_keeper.specs.Keeper.{has_store, faults_made};
 
 use crate::commit::commit_batch;
@@ -8,30 +11,50 @@ use crate::faults::fault_of;
 use crate::reads::{count_rows, find_check, find_row};
 use crate::tables::make_tables;
 use agent_keeper::{Batch, KeepFault, Keeper};
-use sqlite::{Connection, File, FileStore};
+use sqlite::{Alter, Connection, File, FileStore};
 
 /// An open store. Nobody else writes the file while it is open, so the number of rows is known between calls.
 #[derive(Drop)]
-struct Store {
-    conn: Connection<FileStore<File>>,
+struct Store<S: Alter> {
+    conn: Connection<S>,
     rows: u64,
 }
 
-impl Store {
-    // Opens the path and makes the two tables where they are missing.
-    fn open(rt: &HostRuntime, path: &str) -> Result<Store, KeepFault> {
-        let mut conn = Connection::open(rt, path).map_err(fault_of)?;
-        make_tables(&mut conn)?;
-        let rows = count_rows(&mut conn)?;
-        Ok(Store { conn, rows })
-    }
+// Opens the path and makes the two tables where they are missing.
+fn open_store(rt: &HostRuntime, path: &str) -> Result<Store<FileStore<File>>, KeepFault> {
+    let mut conn = Connection::open(rt, path).map_err(fault_of)?;
+    make_tables(&mut conn)?;
+    let rows = count_rows(&mut conn)?;
+    Ok(Store { conn, rows })
+}
 
+impl<S: Alter> Store<S> {
     fn count(&mut self) -> Result<u64, KeepFault> {
         self.rows = count_rows(&mut self.conn)?;
         Ok(self.rows)
     }
 
-    fn commit(&mut self, base: u64, batch: &Batch) -> Result<(), KeepFault> {
+    fn commit(&mut self, base: u64, batch: &Batch) -> Result<(), KeepFault>
+        ensures base { self.old.rows ≢ base
+            → (result ≡ Err KeepFault.Failed) × (self.new ≡ self.old) }
+        ensures rows { OnOk result
+            (self.new.rows ≡ min (base + length batch.now.rows) (2 ^ 64 - 1)) }
+        ensures whole { HasCleanDisk (state S.Store self.new.conn)
+            → OnOk result
+            (MakesAll (state S.Store) (changes_of base batch.now)
+            (record self.old.conn { in_transaction = true }) (state S.Store self.new.conn).committed
+            × ((state S.Store self.new.conn).now ≡ (state S.Store self.new.conn).committed)) }
+        ensures neither { HasCleanDisk (state S.Store self.new.conn)
+            → IsTrue (state S.Store self.new.conn).is_open
+            → OnErr result
+            (((state S.Store self.new.conn).now ≡ (state S.Store self.old.conn).now)
+            × ((state S.Store self.new.conn).committed ≡ (state S.Store self.old.conn).committed)) }
+        ensures crash { Survives (state S.Store self.old.conn) (state S.Store self.new.conn)
+            (λ trees. (db : _)
+            × MakesAll (state S.Store) (changes_of base batch.now)
+            (record self.old.conn { in_transaction = true }) db
+            × (trees ≡ db.trees)) }
+    {
         if self.rows != base {
             return Err(KeepFault::Failed);
         }
@@ -47,7 +70,7 @@ impl Store {
 #[derive(Drop)]
 pub struct SqliteKeeper {
     rt: HostRuntime,
-    store: Option<Store>,
+    store: Option<Store<FileStore<File>>>,
     faults: u64,
 }
 
@@ -102,7 +125,7 @@ impl Keeper for SqliteKeeper {
         if self.store.is_some() {
             return Ok(());
         }
-        match Store::open(&self.rt, path) {
+        match open_store(&self.rt, path) {
             Ok(store) => {
                 self.store = Some(store);
                 Ok(())
