@@ -253,14 +253,65 @@ fn discard_request<K: Keeper, L: Ledger>(
     Ok(line)
 }
 
-// What is asked before a correction, between and behind.
+// What is asked behind a correction.
 const LOOKS: &[u8] = b"1719954000,op-desk000001,show,101\n\
 1719954000,op-desk000001,trace,101,1\n\
 1719954000,op-desk000001,books\n";
 
-// What a desk behind a script tells, a stroke behind each: looks, a correction that is discarded, the looks, the correction that is
-// prepared again and committed, and the looks; with the events before the commit and behind it.
-fn discard_and_commit<L: Ledger>(
+// The line of a correction that is discarded, and the looks, a stroke behind each.
+fn discard_and_look<K: Keeper, L: Ledger>(
+    alloc: Global,
+    desk: &mut Desk,
+    keeper: &mut K,
+    request: &Request,
+    steps: &mut Steps<L>,
+) -> Result<Vec<u8>, Fail>
+    requires attached { IsTrue (K.is_attached keeper.old) }
+    requires told { TellsRowsOf (K.tells keeper.old) desk.old.book.journal }
+{
+    let line = discard_request(alloc, desk, keeper, request, steps)?;
+    let looks = replies(alloc, desk, keeper, LOOKS, steps)?;
+    Ok(joined(alloc, &[&line, &looks])?)
+}
+
+// The line of a correction that is discarded, its line where it is prepared again and committed, and the looks, a stroke behind each;
+// with the events before the commit and behind it.
+fn discard_and_commit<K: Keeper, L: Ledger>(
+    alloc: Global,
+    desk: &mut Desk,
+    keeper: &mut K,
+    request: &Request,
+    steps: &mut Steps<L>,
+) -> Result<(Vec<u8>, u64, u64), Fail>
+    requires attached { IsTrue (K.is_attached keeper.old) }
+    requires told { TellsRowsOf (K.tells keeper.old) desk.old.book.journal }
+{
+    let line = discard_request(alloc, desk, keeper, request, steps)?;
+    let told = commit_request(alloc, desk, keeper, OPERATOR, request, steps)?;
+    let looks = replies(alloc, desk, keeper, LOOKS, steps)?;
+    let all = joined(alloc, &[&line, &told.lines, &looks])?;
+    Ok((all, told.base, told.events))
+}
+
+// The first of these at the desk behind a script.
+fn looks_behind_discard<L: Ledger>(
+    alloc: Global,
+    blank: Blank,
+    keeper: &mut MemoryKeeper,
+    script: &[u8],
+) -> Result<Vec<u8>, Fail>
+    requires name { blank.name ≡ L.name }
+    requires parts { blank.parts ≡ L.parts }
+    requires some { 0 < blank.parts }
+{
+    let mut steps = Steps::<L>::new(blank);
+    let request = corrected_price()?;
+    let mut desk = open(alloc, keeper, script, &mut steps)?;
+    discard_and_look(alloc, &mut desk, keeper, &request, &mut steps)
+}
+
+// The second one.
+fn commit_behind_discard<L: Ledger>(
     alloc: Global,
     blank: Blank,
     keeper: &mut MemoryKeeper,
@@ -273,13 +324,7 @@ fn discard_and_commit<L: Ledger>(
     let mut steps = Steps::<L>::new(blank);
     let request = corrected_price()?;
     let mut desk = open(alloc, keeper, script, &mut steps)?;
-    let before = replies(alloc, &mut desk, keeper, LOOKS, &mut steps)?;
-    let line = discard_request(alloc, &mut desk, keeper, &request, &mut steps)?;
-    let after = replies(alloc, &mut desk, keeper, LOOKS, &mut steps)?;
-    let told = commit_request(alloc, &mut desk, keeper, OPERATOR, &request, &mut steps)?;
-    let behind = replies(alloc, &mut desk, keeper, LOOKS, &mut steps)?;
-    let all = joined(alloc, &[&before, &line, &after, &told.lines, &behind])?;
-    Ok((all, told.base, told.events))
+    discard_and_commit(alloc, &mut desk, keeper, &request, &mut steps)
 }
 
 const BEFORE: &[u8] = b"ok,show,101,11:942.507:0.000:10000.00\n\
@@ -298,14 +343,25 @@ ok,books,11:1177.856:11778.56 12:0.000:0.00 13:0.000:0.00 14:0.000:0.00,577.15,-
 #[test]
 fn a_correction_that_is_discarded_leaves_all_as_before(rt: HostRuntime) -> Result<(), Fail> {
     let script = together(rt.alloc(), PREAMBLE, TWO_DAYS)?;
-    let wanted = joined(rt.alloc(), &[BEFORE, FIXED, BEFORE, FIXED, BEHIND])?;
     let mut keeper = MemoryKeeper::new(rt.alloc(), &[])?;
-    let (all, base, events) = discard_and_commit::<Brand>(
+    let all = looks_behind_discard::<Brand>(rt.alloc(), Blank::new(1), &mut keeper, &script)?;
+    let wanted = joined(rt.alloc(), &[FIXED, BEFORE])?;
+    assert_eq!(rt; all.as_slice(), wanted.as_slice());
+    assert_eq!(rt; keeper.len(), Ok(14));
+    Ok(())
+}
+
+#[test]
+fn a_correction_that_was_discarded_is_committed_as_a_new_one(rt: HostRuntime) -> Result<(), Fail> {
+    let script = together(rt.alloc(), PREAMBLE, TWO_DAYS)?;
+    let mut keeper = MemoryKeeper::new(rt.alloc(), &[])?;
+    let (all, base, events) = commit_behind_discard::<Brand>(
         rt.alloc(),
         Blank::new(1),
         &mut keeper,
         &script,
     )?;
+    let wanted = joined(rt.alloc(), &[FIXED, FIXED, BEHIND])?;
     assert_eq!(rt; all.as_slice(), wanted.as_slice());
     assert_eq!(rt; (base, events, keeper.len()), (14, 15, Ok(15)));
     Ok(())

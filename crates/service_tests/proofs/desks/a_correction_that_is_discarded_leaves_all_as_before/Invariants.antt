@@ -1,4 +1,4 @@
 use Rattle.service_tests.proofs.desks.a_correction_that_is_discarded_leaves_all_as_before.Given as goal
 
-abbrev pub ghosts-discard_and_commit : goal.ghosts-discard_and_commit
-ghosts-discard_and_commit g a = record { name = a.blank.name; parts = a.blank.parts }
+abbrev pub ghosts-looks_behind_discard : goal.ghosts-looks_behind_discard
+ghosts-looks_behind_discard g a = record { name = a.blank.name; parts = a.blank.parts }
