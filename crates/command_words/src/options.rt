@@ -82,7 +82,8 @@ pub fn values_in<'a>(
     words: &'a [String],
 ) -> Result<Option<ArgMatches<'a>>, NoMemory>
     ensures { IfOk result (λ found. option_map (λ given. first_value (found_of given)) found
-        ≡ values_of (map (λ option. option.now) options.entry.now) (map string_bytes words.entry.now)) }
+        ≡ values_of (map (λ option. option.now) options.entry.now)
+        (map string_bytes words.entry.now)) }
 {
     if !are_words(words) {
         return Ok(None);

@@ -16,7 +16,12 @@ pub fn words_that_give_a_command()
     ensures server { command_of (codes "serve" ∷ codes "--port=80" ∷ codes "--connections=12"
         ∷ codes "--store=r"
         ∷ codes "--key=op-desk000001" ∷ [])
-        ≡ Some (serve (record { store = codes "r"; port = 80; key = codes "op-desk000001"; connections = 12 })) }
+        ≡ Some (serve (record {
+          store = codes "r";
+          port = 80;
+          key = codes "op-desk000001";
+          connections = 12;
+        })) }
 {}
 
 /// Words that give none.

@@ -123,7 +123,8 @@ pub fn answer_lines(
     requires dealer { is_some (dealer_numbered (dealers_of book.now.journal) dealer) ≡ true }
     requires lines { all_lines lines.now ≡ true }
     ensures answer { IfOk result (λ answered. batch_after_lines
-        (own_at book.now.journal moment (AnyCaller.Dealer dealer)) lines.now ≡ lines_given answered) }
+        (own_at book.now.journal moment (AnyCaller.Dealer dealer)) lines.now
+        ≡ lines_given answered) }
     ensures lawful { IfOk result (λ answered.
         IsLawful (book.now.journal ++ (lines_given answered).events)) }
 {

@@ -35,7 +35,10 @@ pub fn new_mils_are_a_difference(
     to: Nav,
 )
     ensures { slice_get (renewed_all from to (before.now ++ piece ∷ behind.now)) (length before.now)
-        ≡ Some (record piece { mils = mils_at from to (mils_total before.now + piece.mils) - mils_at from to (mils_total before.now) }) }
+        ≡ Some (record piece {
+          mils = mils_at from to (mils_total before.now + piece.mils)
+              - mils_at from to (mils_total before.now);
+        }) }
 {}
 
 /// The shares that come in are worth what goes out, to half a mil: an exchange goes by the two net asset values alone.

@@ -124,7 +124,8 @@ fn day_after_dividend(
     requires listed { IsListed facts.now class }
     requires rate { rate ≤ 1000000000 }
     requires lots { AreNumbersWithin
-        (dividend_known facts.now rate nav day.old (record { account = account; class = class })).register }
+        (dividend_known facts.now rate nav day.old
+        (record { account = account; class = class })).register }
     ensures { OnOk result (day.new
         ≡ dividend_known facts.now rate nav day.old (record { account = account; class = class })) }
 {

@@ -53,8 +53,8 @@ impl Register {
         moment: Moment,
         request: &Request,
     ) -> Result<Verdict, NoMemory>
-        ensures { IfOk result (λ said. said
-            ≡ verdict (own_at self.now moment (caller_of self.now operator.now key.now)) request.now) }
+        ensures { IfOk result (λ said. said ≡ verdict
+            (own_at self.now moment (caller_of self.now operator.now key.now)) request.now) }
     {
         let caller = self.book.caller_of(key, operator);
         verdict_on(alloc, &self.book, &self.prices, caller, moment, request)

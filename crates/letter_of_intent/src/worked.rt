@@ -10,7 +10,14 @@ pub fn a_purchase_under_a_letter()
     ensures letter { new_letter 5000000 19905 0
         (row_of 0 575 ∷ row_of 2500000 500 ∷ row_of 5000000 450 ∷ row_of 10000000 350
         ∷ row_of 25000000 250 ∷ row_of 50000000 200 ∷ row_of 100000000 0 ∷ [])
-        ≡ record { amount = 5000000; day = 19905; start = 0; rate = 450; rest = 250000; bought = 0 } }
+        ≡ record {
+          amount = 5000000;
+          day = 19905;
+          start = 0;
+          rate = 450;
+          rest = 250000;
+          bought = 0;
+        } }
     ensures price { offering_price 1000 450 ≡ 1047 }
     ensures mils { mils_bought 1000000 1047 ≡ 955110 }
     ensures noted { note_of_purchase
@@ -136,7 +143,17 @@ pub fn a_letter_that_falls_short()
         }) 1100 238778
         ≡ record { due = 12500; paid = 11364; cash = 12500; waived = 0 } }
     ensures released { 238778 -
-        (settlement (row_of 0 575 ∷ row_of 2500000 500 ∷ row_of 5000000 450 ∷ row_of 10000000 350 ∷ row_of 25000000 250 ∷ row_of 50000000 200 ∷ row_of 100000000 0 ∷ []) (record { amount = 5000000; day = 19905; start = 0; rate = 450; rest = 0; bought = 1000000 }) 1100 238778).paid
+        (settlement
+        (row_of 0 575 ∷ row_of 2500000 500 ∷ row_of 5000000 450 ∷ row_of 10000000 350
+        ∷ row_of 25000000 250 ∷ row_of 50000000 200 ∷ row_of 100000000 0 ∷ [])
+        (record {
+          amount = 5000000;
+          day = 19905;
+          start = 0;
+          rate = 450;
+          rest = 0;
+          bought = 1000000;
+        }) 1100 238778).paid
         ≡ 227414 }
     ensures waived { settlement
         (row_of 0 575 ∷ row_of 2500000 500 ∷ row_of 5000000 450 ∷ row_of 10000000 350

@@ -65,5 +65,6 @@ pub fn the_charge_is_within_the_highest_rate(
     requires nav { 1 ≤ nav }
     requires split { split_of gross nav (bracket rows.now amount) ≡ Some split }
     ensures { 10000 * (split.price * split.charge)
-        ≤ split.price * (gross * first.rate) + 5000 * split.price + 5 * (split.price * nav) + 5000 * gross }
+        ≤ split.price * (gross * first.rate) + 5000 * split.price
+        + 5 * (split.price * nav) + 5000 * gross }
 {}

@@ -209,8 +209,8 @@ impl OrderBook {
         self.indexes.order_counts.count(account)
     }
 
-    /// The rate that the last correction gave a class at a pricing moment in seconds.
-    pub(crate) fn last_rate(&self, class: u32, moment: u64) -> Option<u64>
+    /// The rate that the last correction gave a class at a pricing moment.
+    pub(crate) fn last_rate(&self, class: u32, moment: Moment) -> Option<u64>
         ensures { result ≡ option_map (λ form. form.rate)
             (last_of (fixes_rate class moment) (rates_of self.now.journal).fixed) }
     {
@@ -259,7 +259,8 @@ impl OrderBook {
     /// The place among all orders of the last one of the same account before an order.
     pub fn earlier_order(&self, index: usize) -> Option<usize>
         ensures { (row : Row) → slice_get (orders_of self.now.journal) index ≡ Some row
-            → result ≡ last_place (is_order_of row.order.account) (take index (orders_of self.now.journal)) }
+            → result
+            ≡ last_place (is_order_of row.order.account) (take index (orders_of self.now.journal)) }
     {
         self.indexes.orders.earlier(index)
     }

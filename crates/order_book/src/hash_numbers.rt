@@ -26,7 +26,7 @@ pub(crate) fn identity_number(identity: Identity) -> u64
         Identity::Dealer(number) => mixed_number(5, number, 0),
         Identity::Household(number) => mixed_number(6, number, 0),
         Identity::Account(number) => mixed_number(7, number, 0),
-        Identity::Sheet { calendar, moment } => mixed_number(8, calendar, moment),
-        Identity::Dividend { class, moment } => mixed_number(9, class, moment),
+        Identity::Sheet { calendar, moment } => mixed_number(8, calendar, moment.seconds()),
+        Identity::Dividend { class, moment } => mixed_number(9, class, moment.seconds()),
     }
 }

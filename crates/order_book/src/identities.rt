@@ -54,7 +54,8 @@ impl Identities {
         requires { HasRoom self.old 1 }
         ensures kept { (journal : Journal) (moment : ℕ) → place ≡ length journal
             → KeepsPlaces self.old journal
-            → KeepsPlaces self.new (with_event journal (record { moment = moment; kind = kind.now })) }
+            → KeepsPlaces self.new
+            (with_event journal (record { moment = moment; kind = kind.now })) }
         ensures room { (n : ℕ) → HasRoom self.old (n + 1) → HasRoom self.new n }
     {
         put_first(&mut self.places, identity_in(kind), place);
@@ -68,7 +69,8 @@ impl Identities {
 fn put_first(places: &mut HashMap<Identity, usize>, identity: Identity, place: usize)
     requires { 1 ≤ spare places.old }
     ensures places { (q : Named) → get same_identity places.new q
-        ≡ option_or (get same_identity places.old q) (if same_identity identity q then Some place else None) }
+        ≡ option_or (get same_identity places.old q)
+        (if same_identity identity q then Some place else None) }
     ensures room { spare places.old ≤ spare places.new + 1 }
 {
     let entry: Result<_, _> = places.entry(identity);
@@ -96,11 +98,11 @@ fn identity_in(kind: &EventKind) -> Identity
         },
         EventKind::Sheet(form) => Identity::Sheet {
             calendar: form.calendar.number(),
-            moment: form.moment.seconds(),
+            moment: form.moment,
         },
         EventKind::Dividend(form) => Identity::Dividend {
             class: form.class.number(),
-            moment: form.moment.seconds(),
+            moment: form.moment,
         },
         EventKind::FixPrice(form) => Identity::Fix(form.fix.number()),
         EventKind::FixRate(form) => Identity::Fix(form.fix.number()),

@@ -6,6 +6,7 @@ ghost use Rattle.order_book.specs.HashNumbers.{identity_number};
 
 use crate::hash_numbers::identity_number;
 use fund_calendar::Day;
+use money_units::Moment;
 use std::hash::{Hash, Hasher};
 
 /// What an event brings that no other event may bring: the number of what it opens, a reference of an account, the number of
@@ -22,10 +23,10 @@ pub enum Identity {
     Dealer(u32),
     Household(u32),
     Account(u32),
-    /// The sheet of a calendar, by its pricing moment in seconds.
-    Sheet { calendar: u32, moment: u64 },
-    /// The dividend of a class, by its pricing moment in seconds.
-    Dividend { class: u32, moment: u64 },
+    /// The sheet of a calendar, by its pricing moment.
+    Sheet { calendar: u32, moment: Moment },
+    /// The dividend of a class, by its pricing moment.
+    Dividend { class: u32, moment: Moment },
 }
 
 impl Hash for Identity {

@@ -89,7 +89,8 @@ impl Keys {
         requires { HasKeyRoom self.old 1 }
         ensures kept { (journal : Journal) (moment : ℕ) → place ≡ length journal
             → KeepsKeys household_key_in self.old journal
-            → KeepsKeys household_key_in self.new (with_event journal (record { moment = moment; kind = kind.now })) }
+            → KeepsKeys household_key_in self.new
+            (with_event journal (record { moment = moment; kind = kind.now })) }
         ensures room { (n : ℕ) → HasKeyRoom self.old (n + 1) → HasKeyRoom self.new n }
     {
         if let EventKind::Household(form) = kind {
@@ -103,7 +104,8 @@ impl Keys {
         requires { HasKeyRoom self.old 1 }
         ensures kept { (journal : Journal) (moment : ℕ) → place ≡ length journal
             → KeepsKeys dealer_key_in self.old journal
-            → KeepsKeys dealer_key_in self.new (with_event journal (record { moment = moment; kind = kind.now })) }
+            → KeepsKeys dealer_key_in self.new
+            (with_event journal (record { moment = moment; kind = kind.now })) }
         ensures room { (n : ℕ) → HasKeyRoom self.old (n + 1) → HasKeyRoom self.new n }
     {
         if let EventKind::Dealer(form) = kind {

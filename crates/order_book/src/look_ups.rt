@@ -70,11 +70,7 @@ impl OrderBook {
         ensures { option_copied result
             ≡ find (declares class moment) (rates_of self.now.journal).declared }
     {
-        let named = Identity::Dividend {
-            class,
-            moment: moment.seconds(),
-        };
-        match self.brought(named) {
+        match self.brought(Identity::Dividend { class, moment }) {
             Some(event) => dividend_in(event.kind()),
             None => None,
         }
@@ -84,7 +80,7 @@ impl OrderBook {
     pub fn rate(&self, class: u32, moment: Moment) -> u64
         ensures { result ≡ rate_at (rates_of self.now.journal) class moment }
     {
-        match self.last_rate(class, moment.seconds()) {
+        match self.last_rate(class, moment) {
             Some(rate) => rate,
             None => match self.dividend(class, moment) {
                 Some(form) => form.rate.millionths(),

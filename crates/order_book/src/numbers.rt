@@ -73,7 +73,8 @@ impl Numbers {
         requires households { self.old.households < 100000000 }
         ensures kept { (journal : Journal) (moment : ℕ) → place ≡ length journal
             → KeepsNumbers self.old journal
-            → KeepsNumbers self.new (with_event journal (record { moment = moment; kind = kind.now })) }
+            → KeepsNumbers self.new
+            (with_event journal (record { moment = moment; kind = kind.now })) }
         ensures room { (n : ℕ) → HasNumberRoom self.old (n + 1) → HasNumberRoom self.new n }
     {
         match kind {

@@ -75,7 +75,8 @@ impl Orders {
         ensures kept { (journal : Journal) (moment : ℕ) → place ≡ length journal
             → KeepsOrders self.old journal
             → Fits journal (record { moment = moment; kind = kind.now })
-            → KeepsOrders self.new (with_event journal (record { moment = moment; kind = kind.now })) }
+            → KeepsOrders self.new
+            (with_event journal (record { moment = moment; kind = kind.now })) }
         ensures room { (n : ℕ) → HasOrderRoom self.old (n + 1) → HasOrderRoom self.new n }
     {
         match kind {
@@ -96,7 +97,8 @@ impl Orders {
         requires { HasOrderRoom self.old 1 }
         ensures rows { self.new.rows.items ≡ self.old.rows.items ++ row.now ∷ [] }
         ensures names { (names : List Name) → length self.old.rows.items ≡ length names
-            → KeepsNames self.old.index names → KeepsNames self.new.index (names ++ name_of row.now ∷ []) }
+            → KeepsNames self.old.index names
+            → KeepsNames self.new.index (names ++ name_of row.now ∷ []) }
         ensures above { 0 < row.now.order.ref_no }
         ensures room { (n : ℕ) → HasOrderRoom self.old (n + 1) → HasOrderRoom self.new n }
     {
@@ -108,7 +110,8 @@ impl Orders {
 
     fn strike(&mut self, name: OrderName)
         ensures rows { self.new.rows.items
-            ≡ changed_where as_struck (get same_name self.old.index.places name) self.old.rows.items }
+            ≡ changed_where as_struck (get same_name self.old.index.places name)
+            self.old.rows.items }
         ensures index { self.new.index ≡ self.old.index }
         ensures room { (n : ℕ) → HasOrderRoom self.old n → HasOrderRoom self.new n }
     {

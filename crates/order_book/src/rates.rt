@@ -11,16 +11,16 @@ ghost use Rattle.register_machine.specs.journal.Journals.{Journal, with_event};
 
 use crate::hash_numbers::mixed_number;
 use agent_events::EventKind;
-use money_units::NoMemory;
+use money_units::{Moment, NoMemory};
 use std::alloc::Global;
 use std::collections::HashMap;
 use std::hash::{Hash, Hasher};
 
-/// A class and a pricing moment in seconds.
+/// A class and a pricing moment.
 #[derive(Clone, Copy, PartialEq, Eq)]
 pub struct RateName {
     pub class: u32,
-    pub moment: u64,
+    pub moment: Moment,
 }
 
 impl Hash for RateName {
@@ -29,7 +29,7 @@ impl Hash for RateName {
     ghost respects_eq = { Prim.search (hashing, rules) };
 
     fn hash<H: Hasher>(&self, state: &mut H) {
-        state.write_u64(mixed_number(0, self.class, self.moment));
+        state.write_u64(mixed_number(0, self.class, self.moment.seconds()));
     }
 }
 
@@ -69,13 +69,14 @@ impl FixedRates {
     pub fn take(&mut self, kind: &EventKind)
         requires { HasRateRoom self.old 1 }
         ensures kept { (journal : Journal) (moment : ℕ) → KeepsRates self.old journal
-            → KeepsRates self.new (with_event journal (record { moment = moment; kind = kind.now })) }
+            → KeepsRates self.new
+            (with_event journal (record { moment = moment; kind = kind.now })) }
         ensures room { (n : ℕ) → HasRateRoom self.old (n + 1) → HasRateRoom self.new n }
     {
         if let EventKind::FixRate(form) = kind {
             let name = RateName {
                 class: form.class.number(),
-                moment: form.moment.seconds(),
+                moment: form.moment,
             };
             put(&mut self.rates, name, form.rate.millionths());
         }

@@ -44,7 +44,8 @@ impl Tally {
         requires room { HasTallyRoom self.old 1 }
         requires few { count_of self.old number < 100000000 }
         ensures counts { (other : ℕ)
-            → count_of self.new other ≡ count_of self.old other + (if number == other then 1 else 0) }
+            → count_of self.new other
+            ≡ count_of self.old other + (if number == other then 1 else 0) }
         ensures room { (n : ℕ) → HasTallyRoom self.old (n + 1) → HasTallyRoom self.new n }
     {
         let entry: Result<_, _> = self.counts.entry(number);

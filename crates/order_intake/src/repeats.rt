@@ -40,11 +40,11 @@ fn identity_asked(request: &Request) -> Option<Identity>
         Request::Account(form) => Some(Identity::Account(form.account.number())),
         Request::Sheet(form) => Some(Identity::Sheet {
             calendar: form.calendar.number(),
-            moment: form.moment.seconds(),
+            moment: form.moment,
         }),
         Request::Dividend(form) => Some(Identity::Dividend {
             class: form.class.number(),
-            moment: form.moment.seconds(),
+            moment: form.moment,
         }),
         Request::FixPrice(form) => Some(fix_of(form.fix)),
         Request::FixRate(form) => Some(fix_of(form.fix)),
