@@ -4,7 +4,7 @@ use Rattle.std.proofs.lemmas.Bool.Decides.{Decides-eqb}
 use Rattle.forward_price.specs.declared.price_sheet.Sheet.{Sheet}
 use Rattle.forward_price.specs.declared.price_sheet.Patch.{Patch}
 use Rattle.forward_price.specs.Sheets.{nav_on}
-use Rattle.forward_price.specs.PriceTables.{sheet_numbered, price_on, sheets_on_trial, patched_nav, trial_nav}
+use Rattle.forward_price.specs.PriceTables.{Table, with_correction, sheet_numbered, price_on, sheets_on_trial, patched_nav, trial_nav}
 use Rattle.forward_price.proofs.PatchFacts.{price-patched}
 
 tested : (b : Bool) → (b ≡ true) ⊎ (b ≡ false)
@@ -45,3 +45,6 @@ pub other_sheet : (patch : Patch) (sheets : List Sheet) (number class : ℕ) →
 other_sheet patch sheets number class apart =
     price-patched (Some patch) sheets number class
     ∙ read_as_is patch class number (sheet_numbered sheets number) (λ s e. rw (differs s.number patch.sheet (λ same. apart (sym (numbered-is sheets number s e) ∙ same))) refl)
+
+pub as_made : (patch : Patch) (t : Table) (number class : ℕ) → price_on (sheets_on_trial (Some patch) t.sheets) number class ≡ price_on (with_correction t patch.class patch.sheet patch.nav).sheets number class
+as_made patch t number class = refl

@@ -28,11 +28,19 @@ last_length-append sheets sheet =
 abbrev book_of : Table → ℕ → ℕ → Book
 book_of t spare list = record { table = t; spare = spare; list = list }
 
--- a sheet that is published and withdrawn leaves the book as it was, where its list takes the room
-pub room_back : (book : Book) (calendar : ℕ) (moment : ℕ) (prices : List (ℕ × ℕ)) → book.list ≡ length prices → withdrawn_book (published_book book calendar moment prices) ≡ book
-room_back book calendar moment prices takes =
+-- a sheet that is published and withdrawn leaves the table as it was
+pub table_back : (t : Table) (calendar moment : ℕ) (prices : List (ℕ × ℕ)) → without_last (with_published t calendar moment prices) ≡ t
+table_back t calendar moment prices = ap (with_sheets t) (published_back t.sheets (sheet_published t calendar moment prices))
+
+-- and the book but for the room of the next list, which is then that of its own list
+pub room_back : (book : Book) (calendar moment : ℕ) (prices : List (ℕ × ℕ)) → withdrawn_book (published_book book calendar moment prices) ≡ record book { list = length prices }
+room_back book calendar moment prices =
     let sheet : Sheet = sheet_published book.table calendar moment prices in
-    let table : without_last (with_published book.table calendar moment prices) ≡ book.table = ap (with_sheets book.table) (published_back book.table.sheets sheet) in
-    let list : max 0 (last_length (book.table.sheets ++ sheet ∷ [])) ≡ book.list = omega (arith, last_length-append book.table.sheets sheet, takes) in
-    ap (λ t. book_of t book.spare (max 0 (last_length (book.table.sheets ++ sheet ∷ [])))) table
+    let list : max 0 (last_length (book.table.sheets ++ sheet ∷ [])) ≡ length prices = omega (arith, last_length-append book.table.sheets sheet) in
+    ap (λ t. book_of t book.spare (max 0 (last_length (book.table.sheets ++ sheet ∷ [])))) (table_back book.table calendar moment prices)
     ∙ ap (λ n. book_of book.table book.spare n) list
+
+-- so the book is as it was where its list takes all of the room
+pub room_whole : (book : Book) (calendar moment : ℕ) (prices : List (ℕ × ℕ)) → book.list ≡ length prices → withdrawn_book (published_book book calendar moment prices) ≡ book
+room_whole book calendar moment prices takes =
+    room_back book calendar moment prices ∙ ap (λ n. book_of book.table book.spare n) (sym takes)

@@ -3,23 +3,25 @@ ghost use Rattle.std.specs.Prelude.{◌≡◌, map};
 ghost use Rattle.forward_price.specs.PriceTables.{sheets_with_nav, corrected_sheet, closed_in, is_priced, is_priced_day};
 
 use crate::price_sheet::Sheet;
+use crate::sheet;
 use fund_calendar::{Calendar, Day};
 use money_units::Nav;
+use std::alloc::Global;
 
-fn correct_sheet(sheet: &mut Sheet, class: u32, number: u32, nav: Nav)
+fn correct_sheet(alloc: Global, sheet: &mut Sheet, class: u32, number: u32, nav: Nav)
     ensures { sheet.new ≡ corrected_sheet class number nav sheet.old }
 {
     if sheet.number == number {
-        sheet.prices.correct(class, nav);
+        sheet::correct(alloc, &mut sheet.prices, class, nav);
     }
 }
 
 /// Gives a class another net asset value on the sheet of one number.
-pub fn correct_sheets(sheets: &mut [Sheet], class: u32, number: u32, nav: Nav)
+pub fn correct_sheets(alloc: Global, sheets: &mut [Sheet], class: u32, number: u32, nav: Nav)
     ensures { sheets.new ≡ sheets_with_nav class number nav sheets.old }
 {
     for sheet in sheets.iter_mut() {
-        correct_sheet(sheet, class, number, nav);
+        correct_sheet(alloc, sheet, class, number, nav);
     }
 }
 

@@ -39,17 +39,22 @@ pub fn priced_orders_stay()
         ≡ option_map (λ sheet. sheet.number) (next_sheet t.sheets asked receipt) }
 {}
 
-/// What was published last is taken back whole, and the book is as it was where its list takes the room: the room that
-/// the list doesn't need stays, and the room of the list is given back.
+/// What was published last is taken back whole, and what is spare stays. The room of the next list is then as large as
+/// the list that was taken back: the book is as it was where the list took all that was reserved.
+#[tactic(auto, using(crate::proofs::RoomFacts::table_back, crate::proofs::RoomFacts::room_back, crate::proofs::RoomFacts::room_whole))]
 pub fn withdrawn_as_before()
     ensures table { (t : Table) (calendar moment : ℕ) (prices : List (ℕ × ℕ))
         → without_last (with_published t calendar moment prices) ≡ t }
     ensures room { (book : Book) (calendar moment : ℕ) (prices : List (ℕ × ℕ))
+        → withdrawn_book (published_book book calendar moment prices)
+        ≡ record book { list = length prices } }
+    ensures whole { (book : Book) (calendar moment : ℕ) (prices : List (ℕ × ℕ))
         → book.list ≡ length prices
         → withdrawn_book (published_book book calendar moment prices) ≡ book }
 {}
 
 /// A list is complete exactly where no class is missing or too many; else the class that is named is the least of those.
+#[tactic(auto, using(crate::proofs::KeptFacts::complete_from, crate::proofs::KeptFacts::none_wrong_in, crate::proofs::KeptFacts::least_wrong))]
 pub fn complete_lists_have_no_wrong_class()
     ensures complete { (classes : List Opening) (calendar moment : ℕ) (prices : List (ℕ × ℕ))
         → IsRising prices → wrong_class classes calendar moment prices ≡ None
@@ -64,6 +69,7 @@ pub fn complete_lists_have_no_wrong_class()
 {}
 
 /// A correction on trial is read for its class and sheet alone, and as it will stand once it is made.
+#[tactic(auto, using(crate::proofs::LawFacts::as_made, crate::proofs::LawFacts::other_class, crate::proofs::LawFacts::other_sheet))]
 pub fn trial_is_read_alone()
     ensures made { (patch : Patch) (t : Table) (number class : ℕ)
         → price_on (sheets_on_trial (Some patch) t.sheets) number class
@@ -85,6 +91,7 @@ pub fn last_price_is_the_latest()
 /// Every price book whose calls keep to the order of time is orderly: it begins so, and stays so under a new calendar, a
 /// class that opens no earlier than the sheets of its calendar, a closure of a day without a sheet, a sheet in its turn,
 /// and its withdrawal.
+#[tactic(auto, using(crate::proofs::OrderFacts::orderly_at_first, crate::proofs::OrderFacts::orderly_calendar, crate::proofs::OrderFacts::orderly_class, crate::proofs::OrderFacts::orderly_closure, crate::proofs::OrderFacts::orderly_sheet, crate::proofs::OrderFacts::orderly_withdrawal, crate::proofs::OrderFacts::orderly_correction))]
 pub fn books_stay_orderly()
     ensures empty { IsOrderly (record { calendars = []; classes = []; sheets = [] }) }
     ensures calendar { (t : Table) (added : Listing) → IsOrderly t

@@ -256,6 +256,7 @@ impl PriceBook {
         requires count { length self.old.table.sheets < 4294967295 }
         ensures number { result ≡ length self.old.table.sheets + 1 }
         ensures table { self.new.table ≡ with_published self.old.table calendar moment prices.now }
+        ensures spare { self.new.spare ≡ self.old.spare }
         ensures room { self.new ≡ published_book self.old calendar moment prices.now }
     {
         let number = self.sheets.len() as u32 + 1;
@@ -305,7 +306,8 @@ impl PriceBook {
         if self.price(None, sheet, class).is_none() {
             return Err(NoSheet);
         }
-        correcting::correct_sheets(&mut self.sheets, class, sheet, nav);
+        let alloc = *self.sheets.allocator();
+        correcting::correct_sheets(alloc, &mut self.sheets, class, sheet, nav);
         Ok(())
     }
 }

@@ -2,7 +2,7 @@
 ghost use Rattle.std.specs.Prelude.{◌≡◌, ◌≤◌, [], length, max, vec_capacity};
 
 use crate::sheet::Prices;
-use money_units::Nav;
+use money_units::{List, Nav};
 use std::mem;
 
 /// Moves the room out, filled with these prices, and leaves an empty one.
@@ -17,7 +17,7 @@ pub fn filled(room: &mut Vec<(u32, Nav)>, prices: &[(u32, Nav)]) -> Prices
     for price in prices {
         items.push_reserved(*price);
     }
-    Prices::from_items(items)
+    List::from_vec(items)
 }
 
 /// Keeps the memory of a list as room where it is more than there is, and answers how many prices there is room for.
@@ -30,7 +30,9 @@ pub fn given_back(room: &mut Vec<(u32, Nav)>, spare: usize, prices: Prices) -> u
 {
     let count = prices.len();
     if spare < count {
-        *room = prices.into_room();
+        let mut items = prices.into_vec();
+        items.clear();
+        *room = items;
         count
     } else {
         spare

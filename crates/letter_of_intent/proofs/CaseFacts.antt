@@ -8,7 +8,7 @@ use Rattle.letter_of_intent.specs.declared.letter.Letter.{Letter}
 use Rattle.letter_of_intent.specs.Letters.{IsLetter, new_letter, is_reached, has_expired}
 use Rattle.letter_of_intent.specs.Purchases.{Purchase, after, after_all, gross_total}
 use Rattle.letter_of_intent.specs.Cases.{Event, Bought, Priced, Fate, Stands, Reached, Expired, when_priced, happens, fate, purchases_of, is_past}
-use Rattle.letter_of_intent.proofs.LetterFacts.{bought-begun, stays-after}
+use Rattle.letter_of_intent.proofs.LetterFacts.{bought_begun, stays-after}
 
 -- what becomes of a fate
 abbrev from : Fate → List Event → Fate
@@ -35,32 +35,32 @@ stands-priced letter now es true h = let stays = expired-stays letter es in cc
 stands-priced letter now es false h = h
 
 -- and is the letter with the purchases noted
-pub stands-fate : (letter : Letter) (events : List Event) (now : Letter) → fate letter events ≡ Stands now
+pub stands_fate : (letter : Letter) (events : List Event) (now : Letter) → fate letter events ≡ Stands now
     → now ≡ after_all letter (purchases_of events)
-stands-fate letter [] now h = cc
-stands-fate letter (Bought p ∷ es) now h =
-    stands-fate (after letter p) es now (stands-bought (after letter p) now es (is_reached (after letter p)) h).1
-stands-fate letter (Priced day ∷ es) now h =
-    stands-fate letter es now (stands-priced letter now es (has_expired letter day) h)
+stands_fate letter [] now h = cc
+stands_fate letter (Bought p ∷ es) now h =
+    stands_fate (after letter p) es now (stands-bought (after letter p) now es (is_reached (after letter p)) h).1
+stands_fate letter (Priced day ∷ es) now h =
+    stands_fate letter es now (stands-priced letter now es (has_expired letter day) h)
 
-pub stands-begun : (amount day start : ℕ) (front : List Bracket) (events : List Event) (now : Letter)
+pub stands_begun : (amount day start : ℕ) (front : List Bracket) (events : List Event) (now : Letter)
     → fate (new_letter amount day start front) events ≡ Stands now → now.bought ≡ gross_total (purchases_of events)
-stands-begun amount day start front events now h =
-    ap (λ (letter : Letter). letter.bought) (stands-fate (new_letter amount day start front) events now h)
-    ∙ bought-begun amount day start front (purchases_of events)
+stands_begun amount day start front events now h =
+    ap (λ (letter : Letter). letter.bought) (stands_fate (new_letter amount day start front) events now h)
+    ∙ bought_begun amount day start front (purchases_of events)
 
 -- a purchase that doesn't reach the amount leaves it within its limits
 short-bought : (letter : Letter) (p : Purchase) → IsLetter letter → is_reached (after letter p) ≡ false → IsLetter (after letter p)
 short-bought letter p h short = stays-after letter p h (grind (arith, nat_tests))
 
-pub limits-fate : (letter : Letter) (events : List Event) (now : Letter) → IsLetter letter → fate letter events ≡ Stands now
+pub limits_fate : (letter : Letter) (events : List Event) (now : Letter) → IsLetter letter → fate letter events ≡ Stands now
     → IsLetter now
-limits-fate letter [] now within h = let same : letter ≡ now = cc in subst IsLetter same within
-limits-fate letter (Bought p ∷ es) now within h =
+limits_fate letter [] now within h = let same : letter ≡ now = cc in subst IsLetter same within
+limits_fate letter (Bought p ∷ es) now within h =
     let step = stands-bought (after letter p) now es (is_reached (after letter p)) h in
-    limits-fate (after letter p) es now (short-bought letter p within step.0) step.1
-limits-fate letter (Priced day ∷ es) now within h =
-    limits-fate letter es now within (stands-priced letter now es (has_expired letter day) h)
+    limits_fate (after letter p) es now (short-bought letter p within step.0) step.1
+limits_fate letter (Priced day ∷ es) now within h =
+    limits_fate letter es now within (stands-priced letter now es (has_expired letter day) h)
 
 -- it ends reached by a purchase that makes the amount
 reached-bought : (next ended : Letter) (es : List Event) (b : Bool) → is_reached next ≡ b
@@ -77,13 +77,13 @@ reached-priced : (letter ended : Letter) (es : List Event) (b : Bool) → from (
 reached-priced letter ended es true h = let stays = expired-stays letter es in cc
 reached-priced letter ended es false h = h
 
-pub reached-fate : (letter : Letter) (events : List Event) (ended : Letter) → fate letter events ≡ Reached ended
+pub reached_fate : (letter : Letter) (events : List Event) (ended : Letter) → fate letter events ≡ Reached ended
     → ended.amount ≤ ended.bought
-reached-fate letter [] ended h = cc
-reached-fate letter (Bought p ∷ es) ended h =
-    reached-bought (after letter p) ended es (is_reached (after letter p)) refl h (reached-fate (after letter p) es ended)
-reached-fate letter (Priced day ∷ es) ended h =
-    reached-fate letter es ended (reached-priced letter ended es (has_expired letter day) h)
+reached_fate letter [] ended h = cc
+reached_fate letter (Bought p ∷ es) ended h =
+    reached-bought (after letter p) ended es (is_reached (after letter p)) refl h (reached_fate (after letter p) es ended)
+reached_fate letter (Priced day ∷ es) ended h =
+    reached_fate letter es ended (reached-priced letter ended es (has_expired letter day) h)
 
 -- it ends by date at a sheet past its months, and short of its amount
 expired-bought : (next ended : Letter) (es : List Event) (b : Bool)
@@ -96,13 +96,13 @@ expired-priced : (letter ended : Letter) (es : List Event) (b rest : Bool) → f
 expired-priced letter ended es true rest h later = refl
 expired-priced letter ended es false rest h later = later h
 
-pub expired-fate : (letter : Letter) (events : List Event) (ended : Letter) → fate letter events ≡ Expired ended
+pub expired_fate : (letter : Letter) (events : List Event) (ended : Letter) → fate letter events ≡ Expired ended
     → list_any (is_past letter) events ≡ true
-expired-fate letter [] ended h = cc
-expired-fate letter (Bought p ∷ es) ended h =
-    expired-fate (after letter p) es ended (expired-bought (after letter p) ended es (is_reached (after letter p)) h).1
-expired-fate letter (Priced day ∷ es) ended h =
-    expired-priced letter ended es (has_expired letter day) (list_any (is_past letter) es) h (expired-fate letter es ended)
+expired_fate letter [] ended h = cc
+expired_fate letter (Bought p ∷ es) ended h =
+    expired_fate (after letter p) es ended (expired-bought (after letter p) ended es (is_reached (after letter p)) h).1
+expired_fate letter (Priced day ∷ es) ended h =
+    expired-priced letter ended es (has_expired letter day) (list_any (is_past letter) es) h (expired_fate letter es ended)
 
 short-priced : (letter ended : Letter) (es : List Event) (b : Bool) → IsLetter letter → from (when_priced letter b) es ≡ Expired ended
     → (fate letter es ≡ Expired ended → IsLetter ended) → IsLetter ended
@@ -112,32 +112,32 @@ short-priced letter ended es true within h later =
     subst IsLetter same within
 short-priced letter ended es false within h later = later h
 
-pub short-fate : (letter : Letter) (events : List Event) (ended : Letter) → IsLetter letter → fate letter events ≡ Expired ended
+pub short_fate : (letter : Letter) (events : List Event) (ended : Letter) → IsLetter letter → fate letter events ≡ Expired ended
     → IsLetter ended
-short-fate letter [] ended within h = cc
-short-fate letter (Bought p ∷ es) ended within h =
+short_fate letter [] ended within h = cc
+short_fate letter (Bought p ∷ es) ended within h =
     let step = expired-bought (after letter p) ended es (is_reached (after letter p)) h in
-    short-fate (after letter p) es ended (short-bought letter p within step.0) step.1
-short-fate letter (Priced day ∷ es) ended within h =
-    short-priced letter ended es (has_expired letter day) within h (short-fate letter es ended within)
+    short_fate (after letter p) es ended (short-bought letter p within step.0) step.1
+short_fate letter (Priced day ∷ es) ended within h =
+    short-priced letter ended es (has_expired letter day) within h (short_fate letter es ended within)
 
 -- without a sheet past its months the amount alone decides
 neither : (b rest : Bool) → (b || rest) ≡ false → (b ≡ false) × (rest ≡ false)
 neither true rest h = cc
 neither false rest h = (refl, h)
 
-pub stands-short : (letter : Letter) (events : List Event) → list_any (is_past letter) events ≡ false
+pub stands_short : (letter : Letter) (events : List Event) → list_any (is_past letter) events ≡ false
     → letter.bought + gross_total (purchases_of events) < letter.amount
     → fate letter events ≡ Stands (after_all letter (purchases_of events))
-stands-short letter [] none short = refl
-stands-short letter (Bought p ∷ es) none short =
+stands_short letter [] none short = refl
+stands_short letter (Bought p ∷ es) none short =
     let first : gross_total (p ∷ purchases_of es) ≡ p.gross + gross_total (purchases_of es) = sum_by-cons _ p (purchases_of es) in
     let below : letter.bought + p.gross < letter.amount = omega arith in
     let open_still : is_reached (after letter p) ≡ false = grind (arith, nat_tests) in
-    rw open_still (stands-short (after letter p) es none (omega arith))
-stands-short letter (Priced day ∷ es) none short =
+    rw open_still (stands_short (after letter p) es none (omega arith))
+stands_short letter (Priced day ∷ es) none short =
     let parts = neither (has_expired letter day) (list_any (is_past letter) es) none in
-    rw parts.0 (stands-short letter es parts.1 short)
+    rw parts.0 (stands_short letter es parts.1 short)
 
 reached-step : (next : Letter) (es : List Event) (b : Bool) → is_reached next ≡ b
     → (next.bought < next.amount → (ended : Letter) × (fate next es ≡ Reached ended))
@@ -145,14 +145,14 @@ reached-step : (next : Letter) (es : List Event) (b : Bool) → is_reached next 
 reached-step next es true e later = (next, reached-stays next es)
 reached-step next es false e later = later (grind (arith, nat_tests))
 
-pub reached-by : (letter : Letter) (events : List Event) → list_any (is_past letter) events ≡ false
+pub reached_by : (letter : Letter) (events : List Event) → list_any (is_past letter) events ≡ false
     → letter.bought < letter.amount → letter.amount ≤ letter.bought + gross_total (purchases_of events)
     → (ended : Letter) × (fate letter events ≡ Reached ended)
-reached-by letter [] none short reached = absurd (omega arith)
-reached-by letter (Bought p ∷ es) none short reached =
+reached_by letter [] none short reached = absurd (omega arith)
+reached_by letter (Bought p ∷ es) none short reached =
     let first : gross_total (p ∷ purchases_of es) ≡ p.gross + gross_total (purchases_of es) = sum_by-cons _ p (purchases_of es) in
     reached-step (after letter p) es (is_reached (after letter p)) refl
-    (λ below. reached-by (after letter p) es none below (omega arith))
-reached-by letter (Priced day ∷ es) none short reached =
+    (λ below. reached_by (after letter p) es none below (omega arith))
+reached_by letter (Priced day ∷ es) none short reached =
     let parts = neither (has_expired letter day) (list_any (is_past letter) es) none in
-    rw parts.0 (reached-by letter es parts.1 short reached)
+    rw parts.0 (reached_by letter es parts.1 short reached)

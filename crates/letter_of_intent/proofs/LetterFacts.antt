@@ -12,30 +12,30 @@ use Rattle.letter_of_intent.specs.Letters.{IsLetter, new_letter, rate_earned, lo
 use Rattle.letter_of_intent.specs.Purchases.{Purchase, after, after_all, gross_total, mils_total, held_total}
 
 -- one purchase after another
-pub bought-after_all : (letter : Letter) (purchases : List Purchase)
+pub bought_after_all : (letter : Letter) (purchases : List Purchase)
     → (after_all letter purchases).bought ≡ letter.bought + gross_total purchases
-bought-after_all letter [] = omega arith
-bought-after_all letter (p ∷ ps) =
+bought_after_all letter [] = omega arith
+bought_after_all letter (p ∷ ps) =
     let first : gross_total (p ∷ ps) ≡ p.gross + gross_total ps = sum_by-cons _ p ps in
     let others : (after_all letter (p ∷ ps)).bought ≡ (letter.bought + p.gross) + gross_total ps =
-    bought-after_all (after letter p) ps in
+    bought_after_all (after letter p) ps in
     omega arith
 
-pub bought-begun : (amount day start : ℕ) (front : List Bracket) (purchases : List Purchase)
+pub bought_begun : (amount day start : ℕ) (front : List Bracket) (purchases : List Purchase)
     → (after_all (new_letter amount day start front) purchases).bought ≡ gross_total purchases
-bought-begun amount day start front purchases =
+bought_begun amount day start front purchases =
     let since : (after_all (new_letter amount day start front) purchases).bought ≡ 0 + gross_total purchases =
-    bought-after_all (new_letter amount day start front) purchases in
+    bought_after_all (new_letter amount day start front) purchases in
     omega arith
 
-pub rest-after_all : (letter : Letter) (purchases : List Purchase) → (after_all letter purchases).rest ≤ letter.rest
-rest-after_all letter [] = omega arith
-rest-after_all letter (p ∷ ps) = omega (arith, rest-after_all (after letter p) ps)
+pub rest_after_all : (letter : Letter) (purchases : List Purchase) → (after_all letter purchases).rest ≤ letter.rest
+rest_after_all letter [] = omega arith
+rest_after_all letter (p ∷ ps) = omega (arith, rest_after_all (after letter p) ps)
 
-pub same-after_all : (letter : Letter) (purchases : List Purchase) → after_all letter purchases
+pub same_after_all : (letter : Letter) (purchases : List Purchase) → after_all letter purchases
     ≡ record letter { rest = (after_all letter purchases).rest; bought = (after_all letter purchases).bought }
-same-after_all letter [] = refl
-same-after_all letter (p ∷ ps) = same-after_all (after letter p) ps
+same_after_all letter [] = refl
+same_after_all letter (p ∷ ps) = same_after_all (after letter p) ps
 
 pub stays-after : (letter : Letter) (p : Purchase) → IsLetter letter → letter.bought + p.gross < letter.amount
     → IsLetter (after letter p)
@@ -48,17 +48,17 @@ stays-after letter p h short = record {
   short = short;
 }
 
-pub stays-after_all : (letter : Letter) (purchases : List Purchase) → IsLetter letter
+pub stays_after_all : (letter : Letter) (purchases : List Purchase) → IsLetter letter
     → letter.bought + gross_total purchases < letter.amount → IsLetter (after_all letter purchases)
-stays-after_all letter [] h short = h
-stays-after_all letter (p ∷ ps) h short =
+stays_after_all letter [] h short = h
+stays_after_all letter (p ∷ ps) h short =
     let first : gross_total (p ∷ ps) ≡ p.gross + gross_total ps = sum_by-cons _ p ps in
-    stays-after_all (after letter p) ps (stays-after letter p h (omega arith)) (omega arith)
+    stays_after_all (after letter p) ps (stays-after letter p h (omega arith)) (omega arith)
 
 -- the rate that the purchases have earned
-pub rate-ceiling : (front : List Bracket) (letter : Letter) → front_fault front ≡ None → letter.rate ≤ 850
+pub rate_ceiling : (front : List Bracket) (letter : Letter) → front_fault front ≡ None → letter.rate ≤ 850
     → rate_earned front letter ≤ 850
-rate-ceiling front letter lawful ceiling =
+rate_ceiling front letter lawful ceiling =
     omega (arith, bracket-ceiling front (letter.start + letter.bought) lawful)
 
 pub rate-reached : (front : List Bracket) (letter : Letter) → front_fault front ≡ None
@@ -83,8 +83,8 @@ nothing-to-pay due nav held some none =
     rw none (omega (arith, ceil-le 0 nav 0 some (omega arith)))
 
 -- the mils held over all purchases
-pub held-total : (letter : Letter) (purchases : List Purchase) → held_total letter purchases ≤ mils_total purchases
-held-total letter [] = omega arith
-held-total letter (p ∷ ps) =
+pub held_within : (letter : Letter) (purchases : List Purchase) → held_total letter purchases ≤ mils_total purchases
+held_within letter [] = omega arith
+held_within letter (p ∷ ps) =
     let first : mils_total (p ∷ ps) ≡ p.mils + mils_total ps = sum_by-cons _ p ps in
-    omega (arith, held-total (after letter p) ps)
+    omega (arith, held_within (after letter p) ps)

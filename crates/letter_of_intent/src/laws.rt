@@ -17,6 +17,7 @@ use money_units::{Cents, Mils, Nav};
 
 /// What a letter has bought is what the purchases under it paid together. It stays within its limits while that is less
 /// than its amount, and its amount, day, credit and rate never change.
+#[tactic(auto, using(crate::proofs::LetterFacts::bought_begun, crate::proofs::LetterFacts::bought_after_all, crate::proofs::LetterFacts::stays_after_all, crate::proofs::LetterFacts::same_after_all, crate::proofs::LetterFacts::held_within, crate::proofs::LetterFacts::rest_after_all))]
 pub fn a_letter_counts_its_purchases()
     ensures from_its_beginning { (amount day start : ℕ) (front : List Bracket)
         (purchases : List Purchase)
@@ -42,6 +43,7 @@ pub fn a_letter_counts_its_purchases()
 /// Over all purchases of its account and class and all sheets of its calendar, a letter that stands is the one that
 /// began with those purchases noted, within its limits. It ends reached only where they make its amount, and by date
 /// only short of it, at a sheet past its months.
+#[tactic(auto, using(crate::proofs::CaseFacts::stands_begun, crate::proofs::CaseFacts::stands_fate, crate::proofs::CaseFacts::limits_fate, crate::proofs::CaseFacts::reached_fate, crate::proofs::CaseFacts::expired_fate, crate::proofs::CaseFacts::short_fate))]
 pub fn what_becomes_of_a_letter()
     ensures bought { (amount day start : ℕ) (front : List Bracket) (events : List Event)
         (now : Letter)
@@ -68,6 +70,7 @@ pub fn what_becomes_of_a_letter()
 
 /// Without a sheet past its months a letter stands while its purchases make less than its amount, and is reached once
 /// they make it.
+#[tactic(auto, using(crate::proofs::CaseFacts::stands_short, crate::proofs::CaseFacts::reached_by))]
 pub fn a_letter_ends_by_its_amount()
     ensures stands { (letter : Letter) (events : List Event)
         → list_any (is_past letter) events ≡ false
@@ -126,6 +129,7 @@ pub fn what_is_due_is_paid_or_waived(rows: &[Bracket], letter: Letter, nav: Nav,
 
 /// The rate of a settlement is never below the letter's and, in a lawful table, never above the ceiling of a front-end
 /// load.
+#[tactic(auto, using(crate::proofs::LetterFacts::rate_ceiling))]
 pub fn the_rate_is_never_below_the_letters(rows: &[Bracket], letter: Letter)
     requires lawful { front_fault rows.now ≡ None }
     requires rate { letter.rate ≤ 850 }
