@@ -8,10 +8,10 @@ use Rattle.share_lots.specs.Values.{value_at}
 use Rattle.contingent_charge.specs.DeferredCharge.{NeverRises, Valued, with_values, base_of}
 use Rattle.contingent_charge.proofs.ChargeLemmas.{mils_of}
 
-pub valued-pieces : (nav before : ℕ) (pieces : List Piece) → map (λ (item : Valued). item.piece) (with_values nav before pieces) ≡ pieces
+pub valued_pieces : (nav before : ℕ) (pieces : List Piece) → map (λ (item : Valued). item.piece) (with_values nav before pieces) ≡ pieces
 unfolding with_values
-valued-pieces nav before [] = refl
-valued-pieces nav before (p ∷ ps) = ap (λ rest. p ∷ rest) (valued-pieces nav (before + p.mils) ps)
+valued_pieces nav before [] = refl
+valued_pieces nav before (p ∷ ps) = ap (λ rest. p ∷ rest) (valued_pieces nav (before + p.mils) ps)
 
 between : (nav a b c d : ℕ) → b ≡ d → a ≡ c → value_at nav b - value_at nav a ≡ value_at nav d - value_at nav c
 between nav a b c d e f = rw (e, f) refl
@@ -30,21 +30,21 @@ valued-at nav before (p ∷ ps) (suc i) d h =
     valued-at nav (before + p.mils) ps i d (omega arith)
     ∙ between nav (before + p.mils + sum_by mils_of (take i ps)) (before + p.mils + sum_by mils_of (take (suc i) ps)) (before + sum_by mils_of (take (suc i) (p ∷ ps))) (before + sum_by mils_of (take (suc (suc i)) (p ∷ ps))) (first-taken before p ps (suc i)) (first-taken before p ps i)
 
-pub valued-whole : (nav : ℕ) (pieces : List Piece) (i : ℕ) (d : Valued) → i < length pieces
+pub valued_whole : (nav : ℕ) (pieces : List Piece) (i : ℕ) (d : Valued) → i < length pieces
     → (get_or (with_values nav 0 pieces) i d).value ≡ value_at nav (sum_by mils_of (take (i + 1) pieces)) - value_at nav (sum_by mils_of (take i pieces))
-valued-whole nav pieces i d h =
+valued_whole nav pieces i d h =
     valued-at nav 0 pieces i d h
     ∙ between nav (0 + sum_by mils_of (take i pieces)) (0 + sum_by mils_of (take (suc i) pieces)) (sum_by mils_of (take i pieces)) (sum_by mils_of (take (i + 1) pieces)) (zero-add (sum_by mils_of (take (suc i) pieces)) ∙ ap (λ n. sum_by mils_of (take n pieces)) (sym (add-one i))) (zero-add (sum_by mils_of (take i pieces)))
 
-pub bases-charged : (items : List Valued) → sum_by base_of items ≡ sum_by (λ item. min item.piece.cost item.value) (filter (λ item. not item.piece.free) items)
-bases-charged [] = refl
-bases-charged (x ∷ xs) =
+pub bases_charged : (items : List Valued) → sum_by base_of items ≡ sum_by (λ item. min item.piece.cost item.value) (filter (λ item. not item.piece.free) items)
+bases_charged [] = refl
+bases_charged (x ∷ xs) =
     rw (sum_by-cons base_of x xs)
     (elim x.piece.free as (λ b. cond b 0 (min x.piece.cost x.value) + sum_by base_of xs ≡ sum_by (λ (item : Valued). min item.piece.cost item.value) (cond (not b) (x ∷ filter (λ (item : Valued). not item.piece.free) xs) (filter (λ (item : Valued). not item.piece.free) xs))) [
-      | true ↦ zero-add (sum_by base_of xs) ∙ bases-charged xs
+      | true ↦ zero-add (sum_by base_of xs) ∙ bases_charged xs
       | false ↦
           rw (sum_by-cons (λ (item : Valued). min item.piece.cost item.value) x (filter (λ (item : Valued). not item.piece.free) xs))
-          (ap (λ n. min x.piece.cost x.value + n) (bases-charged xs))
+          (ap (λ n. min x.piece.cost x.value + n) (bases_charged xs))
     ])
 
 -- a later row has no greater rate, and past the schedule there is none

@@ -15,6 +15,7 @@ pub fn pieces_make_the_value()
 {}
 
 /// Each piece has one value: what the mils to its end are worth together, less what those to its beginning are.
+#[tactic(auto, using(crate::proofs::LawLemmas::valued_pieces, crate::proofs::LawLemmas::valued_whole))]
 pub fn a_piece_is_valued_at_its_ends()
     ensures pieces { (nav : ℕ) (pieces : List Piece)
         → map (λ item. item.piece) (spec.with_values nav 0 pieces) ≡ pieces }
@@ -27,6 +28,7 @@ pub fn a_piece_is_valued_at_its_ends()
 
 /// The charge is taken on the lesser of cost and value of the pieces that aren't free: neither a gain is charged, nor what is
 /// lost of the cost.
+#[tactic(auto, using(crate::proofs::LawLemmas::bases_charged))]
 pub fn the_base_is_the_lesser_of_cost_and_value()
     ensures sum { (items : List Valued)
         → sum_by spec.base_of items

@@ -76,8 +76,8 @@ carried-whole from to pieces positive =
     ∙ nothing-more (mils_total (renewed_all from to pieces)) (mils_at from to 0) (mils_at-zero from to positive)
     ∙ renewed-total from to 0 pieces positive ∙ ap (mils_at from to) begun
 
-pub carried-cost : (from to : ℕ) (pieces : List Piece) → cost_total (carried_pieces from to pieces) ≤ cost_total pieces
-carried-cost from to pieces =
+pub carried_cost : (from to : ℕ) (pieces : List Piece) → cost_total (carried_pieces from to pieces) ≤ cost_total pieces
+carried_cost from to pieces =
     omega (arith, sum_by-filter-le cost has_mils (renewed_all from to pieces), cost-renewed from to 0 pieces)
 
 -- when all pieces are done
@@ -88,11 +88,11 @@ carried-all done pieces from to before i past told =
     sym (append-nil done) ∙ ap (λ (zs : List Piece). done ++ filter has_mils (renewed_behind from to before zs)) (sym (drop_all i pieces past)) ∙ told
 
 -- what is carried has mils
-pub All-has_mils : (pieces : List Piece) → All (λ piece. 1 ≤ piece.mils) (filter has_mils pieces)
-All-has_mils [] = λ k d short. absurd (omega arith)
-All-has_mils (x ∷ xs) = elim (leb_tells 1 x.mils) [
-  | inl (t, some) ↦ rw t (All-cons (λ (piece : Piece). 1 ≤ piece.mils) x (filter has_mils xs) some (All-has_mils xs))
-  | inr (t, _) ↦ rw t (All-has_mils xs)
+pub all_have_mils : (pieces : List Piece) → All (λ piece. 1 ≤ piece.mils) (filter has_mils pieces)
+all_have_mils [] = λ k d short. absurd (omega arith)
+all_have_mils (x ∷ xs) = elim (leb_tells 1 x.mils) [
+  | inl (t, some) ↦ rw t (All-cons (λ (piece : Piece). 1 ≤ piece.mils) x (filter has_mils xs) some (all_have_mils xs))
+  | inr (t, _) ↦ rw t (all_have_mils xs)
 ]
 
 -- the new mils of the piece that stands behind others
@@ -106,7 +106,7 @@ renewed-at from to n (x ∷ xs) piece behind =
     ∙ ap (λ m. Some (with_new_mils from to m piece)) (same ∙ ap (λ m. n + m) (sym (sum_by-cons mils x xs)))
 
 -- each piece keeps its lot number, date, cost and free mark
-pub renewed-keeps : (from to before : ℕ) (pieces : List Piece)
+pub renewed_keeps : (from to before : ℕ) (pieces : List Piece)
     → map without_mils (renewed_behind from to before pieces) ≡ map without_mils pieces
-renewed-keeps from to before [] = refl
-renewed-keeps from to before (x ∷ xs) = ap (λ ys. without_mils x ∷ ys) (renewed-keeps from to (before + x.mils) xs)
+renewed_keeps from to before [] = refl
+renewed_keeps from to before (x ∷ xs) = ap (λ ys. without_mils x ∷ ys) (renewed_keeps from to (before + x.mils) xs)

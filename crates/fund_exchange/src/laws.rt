@@ -18,6 +18,7 @@ pub fn new_mils_make_the_whole(pieces: &[Piece], from: Nav, to: Nav)
 
 /// Every piece keeps its lot number, its date, its cost and its free mark, and those that are carried are those of them
 /// that have new mils.
+#[tactic(auto, using(crate::proofs::ExchangeFacts::renewed_keeps, crate::proofs::ExchangeFacts::all_have_mils, crate::proofs::ExchangeFacts::carried_cost))]
 pub fn dates_costs_and_marks_are_kept(pieces: &[Piece], from: Nav, to: Nav)
     ensures kept { map without_mils (renewed_all from to pieces.now) ≡ map without_mils pieces.now }
     ensures carried { (transfer_of from to pieces.now).pieces

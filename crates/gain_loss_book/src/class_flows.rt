@@ -50,7 +50,8 @@ pub fn add_cash(
     requires inflow { (flows_of classes.old class).cash.inflow + flow.inflow < 2 ^ 128 }
     requires outflow { (flows_of classes.old class).cash.outflow + flow.outflow < 2 ^ 128 }
     ensures { OnOk result ((q : ℕ) → flows_of classes.new q
-        ≡ (if class == q then with_cash (flows_of classes.old q) flow else flows_of classes.old q)) }
+        ≡ (if class == q then with_cash (flows_of classes.old q) flow
+        else flows_of classes.old q)) }
 {
     if let Some(own) = classes.get_mut(&class) {
         own.cash = own.cash.and(flow);
@@ -73,7 +74,8 @@ pub fn add_mils(
     requires inflow { (flows_of classes.old class).mils.inflow + flow.inflow < 2 ^ 128 }
     requires outflow { (flows_of classes.old class).mils.outflow + flow.outflow < 2 ^ 128 }
     ensures { OnOk result ((q : ℕ) → flows_of classes.new q
-        ≡ (if class == q then with_mils (flows_of classes.old q) flow else flows_of classes.old q)) }
+        ≡ (if class == q then with_mils (flows_of classes.old q) flow
+        else flows_of classes.old q)) }
 {
     if let Some(own) = classes.get_mut(&class) {
         own.mils = own.mils.and(flow);

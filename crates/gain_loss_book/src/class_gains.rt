@@ -133,7 +133,10 @@ fn gains_of_classes(
     requires numbered { (q : ℕ) → changes_class (flows_of classes.now q) ≡ true → 1 ≤ q }
     ensures rising { IsStrictlySortedBy nat_cmp (keys classes.now) }
     ensures gains { IfOk result (λ gains. gains
-        ≡ filter_map (λ q. gain_of_flows q (flows_of classes.now q) (sheets_on_trial patch.now prices.now.table.sheets)) (keys classes.now)) }
+        ≡ filter_map
+        (λ q.
+        gain_of_flows q (flows_of classes.now q)
+        (sheets_on_trial patch.now prices.now.table.sheets)) (keys classes.now)) }
 {
     let mut gains = ClassGains::new(alloc);
     for class in classes.keys() {

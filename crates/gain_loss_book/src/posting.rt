@@ -67,9 +67,11 @@ fn move_cash(accounts: &mut Accounts, giver: Party, taker: Party, cents: u128)
     requires inflow { (all_flows accounts.old).inflow + cents < 2 ^ 128 }
     requires outflow { (all_flows accounts.old).outflow + cents < 2 ^ 128 }
     ensures flows { (q : AnyParty) → flow_in accounts.new q
-        ≡ with_flow (flow_in accounts.old q) (movements_flow (cash_movement giver taker cents ∷ []) q) }
+        ≡ with_flow (flow_in accounts.old q)
+        (movements_flow (cash_movement giver taker cents ∷ []) q) }
     ensures all { all_flows accounts.new
-        ≡ with_flow (all_flows accounts.old) (flow_of_movements (cash_movement giver taker cents ∷ [])) }
+        ≡ with_flow (all_flows accounts.old)
+        (flow_of_movements (cash_movement giver taker cents ∷ [])) }
     ensures room { room_in accounts.old ≤ room_in accounts.new + 2 }
 {
     accounts.add(
@@ -96,9 +98,11 @@ fn pay_loss(accounts: &mut Accounts, payer: Party, gain: &ClassGain)
     requires outflow { (all_flows accounts.old).outflow
         + cents_moved (loss_payment payer gain.now.class gain.now.cents) < 2 ^ 128 }
     ensures flows { (q : AnyParty) → flow_in accounts.new q
-        ≡ with_flow (flow_in accounts.old q) (movements_flow (loss_payment payer gain.now.class gain.now.cents) q) }
+        ≡ with_flow (flow_in accounts.old q)
+        (movements_flow (loss_payment payer gain.now.class gain.now.cents) q) }
     ensures all { all_flows accounts.new
-        ≡ with_flow (all_flows accounts.old) (flow_of_movements (loss_payment payer gain.now.class gain.now.cents)) }
+        ≡ with_flow (all_flows accounts.old)
+        (flow_of_movements (loss_payment payer gain.now.class gain.now.cents)) }
     ensures room { room_in accounts.old ≤ room_in accounts.new + 2 }
 {
     if gain.cents < 0 {
@@ -115,9 +119,11 @@ fn pay_losses(accounts: &mut Accounts, payer: Party, gains: &[ClassGain])
     requires outflow { (all_flows accounts.old).outflow
         + cents_moved (loss_payments (Some payer) gains.now) < 2 ^ 128 }
     ensures flows { (q : AnyParty) → flow_in accounts.new q
-        ≡ with_flow (flow_in accounts.old q) (movements_flow (loss_payments (Some payer) gains.now) q) }
+        ≡ with_flow (flow_in accounts.old q)
+        (movements_flow (loss_payments (Some payer) gains.now) q) }
     ensures all { all_flows accounts.new
-        ≡ with_flow (all_flows accounts.old) (flow_of_movements (loss_payments (Some payer) gains.now)) }
+        ≡ with_flow (all_flows accounts.old)
+        (flow_of_movements (loss_payments (Some payer) gains.now)) }
     ensures room { room_in accounts.old ≤ room_in accounts.new + 2 * length gains.now }
 {
     for gain in gains {
@@ -133,9 +139,11 @@ pub fn pay(accounts: &mut Accounts, correction: Option<&Correction>)
     requires outflow { (all_flows accounts.old).outflow
         + cents_moved (payments_by (option_copied correction)) < 2 ^ 128 }
     ensures flows { (q : AnyParty) → flow_in accounts.new q
-        ≡ with_flow (flow_in accounts.old q) (movements_flow (payments_by (option_copied correction.entry)) q) }
+        ≡ with_flow (flow_in accounts.old q)
+        (movements_flow (payments_by (option_copied correction.entry)) q) }
     ensures all { all_flows accounts.new
-        ≡ with_flow (all_flows accounts.old) (flow_of_movements (payments_by (option_copied correction.entry))) }
+        ≡ with_flow (all_flows accounts.old)
+        (flow_of_movements (payments_by (option_copied correction.entry))) }
     ensures room { room_in accounts.old
         ≤ room_in accounts.new + rows_of_correction (option_copied correction.entry) }
 {

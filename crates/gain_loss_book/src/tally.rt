@@ -98,7 +98,8 @@ fn add(rows: &mut BTreeMap<u32, Flow>, number: u32, flow: Flow) -> Result<(), No
     requires inflow { (sorted_flow rows.old number).inflow + flow.inflow < 2 ^ 128 }
     requires outflow { (sorted_flow rows.old number).outflow + flow.outflow < 2 ^ 128 }
     ensures { OnOk result ((q : ℕ) → sorted_flow rows.new q
-        ≡ (if number == q then with_flow (sorted_flow rows.old q) flow else sorted_flow rows.old q)) }
+        ≡ (if number == q then with_flow (sorted_flow rows.old q) flow
+        else sorted_flow rows.old q)) }
 {
     let own = rows.entry(number)?.or_insert(Flow::none());
     *own = own.and(flow);

@@ -77,7 +77,8 @@ impl Tally {
         requires within { IsWithin self.old (2 ^ 126) }
         requires few { length trades.now ≤ 2 ^ 60 }
         ensures cash { OnOk result ((q : AnyParty) → cash_tallied self.new q
-            ≡ with_flow (cash_tallied self.old q) (reverse_flow (movements_flow (movements_of trades.now) q))) }
+            ≡ with_flow (cash_tallied self.old q)
+            (reverse_flow (movements_flow (movements_of trades.now) q))) }
         ensures mils { OnOk result ((q : ℕ) → mils_tallied self.new q
             ≡ with_flow (mils_tallied self.old q) (reverse_flow (trades_mils trades.now q))) }
         ensures within { OnOk result ((most : ℕ) → IsWithin self.old most
@@ -94,7 +95,8 @@ impl Tally {
 fn bring_trade(tally: &mut Tally, trade: &Trade) -> Result<(), NoMemory>
     requires within { IsWithin tally.old (2 ^ 127) }
     ensures cash { OnOk result ((q : AnyParty) → cash_tallied tally.new q
-        ≡ with_flow (cash_tallied tally.old q) (movements_flow (movements_in trade.now.outcome trade.now) q)) }
+        ≡ with_flow (cash_tallied tally.old q)
+        (movements_flow (movements_in trade.now.outcome trade.now) q)) }
     ensures mils { OnOk result ((q : ℕ) → mils_tallied tally.new q
         ≡ with_flow (mils_tallied tally.old q) (mils_flow_of trade.now q)) }
     ensures within { OnOk result ((most : ℕ) → IsWithin tally.old most
@@ -108,7 +110,8 @@ fn bring_trade(tally: &mut Tally, trade: &Trade) -> Result<(), NoMemory>
 fn take_trade_back(tally: &mut Tally, trade: &Trade) -> Result<(), NoMemory>
     requires within { IsWithin tally.old (2 ^ 127) }
     ensures cash { OnOk result ((q : AnyParty) → cash_tallied tally.new q
-        ≡ with_flow (cash_tallied tally.old q) (reverse_flow (movements_flow (movements_in trade.now.outcome trade.now) q))) }
+        ≡ with_flow (cash_tallied tally.old q)
+        (reverse_flow (movements_flow (movements_in trade.now.outcome trade.now) q))) }
     ensures mils { OnOk result ((q : ℕ) → mils_tallied tally.new q
         ≡ with_flow (mils_tallied tally.old q) (reverse_flow (mils_flow_of trade.now q))) }
     ensures within { OnOk result ((most : ℕ) → IsWithin tally.old most

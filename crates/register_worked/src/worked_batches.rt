@@ -9,7 +9,8 @@ ghost use Rattle.register_worked.specs.WorkedRuns.{AnswersWithOrders, BatchAnswe
 pub fn batch_of_a_dealer()
     ensures { BatchAnswers (first_sheet ∷ []) 1719964800 (codes "d-broker00005") (
         quoted_record (
-        codes "1719950399" ∷ codes "buy" ∷ codes "103" ∷ codes "1" ∷ codes "14" ∷ codes "1000.00" ∷ []
+        codes "1719950399" ∷ codes "buy" ∷ codes "103"
+        ∷ codes "1" ∷ codes "14" ∷ codes "1000.00" ∷ []
         )
         ++ record_line (codes "1719950400,buy,103,2,14,1000.00")
         ++ record_line (codes "1719863999,buy,103,3,14,1000.00")

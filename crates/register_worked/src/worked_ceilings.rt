@@ -145,10 +145,13 @@ pub fn exchanges_up_to_the_ceiling()
         codes "STATEMENT 101 MARY DOE"
         ∷ codes "PERIOD 2024-07-11 2024-07-12"
         ∷ codes "2024-07-11 unfilled ref 3 class 12 ceiling"
-        ∷ codes "2024-07-11 exchange ref 4 class 12 shares 998459547.595 value 9984595.48 to class 14 shares 99.846"
-        ∷ codes "2024-07-12 exchange ref 5 class 14 shares 99.846 value 499.23 to class 13 shares 0.005"
+        ∷ (codes "2024-07-11 exchange ref 4 class 12 shares 998459547.595 value 9984595.48 "
+        ++ codes "to class 14 shares 99.846")
+        ∷ (codes "2024-07-12 exchange ref 5 class 14 shares 99.846 value 499.23 "
+        ++ codes "to class 13 shares 0.005")
         ∷ codes "HOLDINGS"
-        ∷ codes "class 13 INCOME-B shares 997828941.570 escrow 0.000 cost 5782913056494.00 nav 100000.00 value 99782894157000.00"
+        ∷ (codes "class 13 INCOME-B shares 997828941.570 escrow 0.000 "
+        ++ codes "cost 5782913056494.00 nav 100000.00 value 99782894157000.00")
         ∷ codes "END"
         ∷ [])
         ∷ []

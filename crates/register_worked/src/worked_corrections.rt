@@ -16,7 +16,8 @@ pub fn late_entry()
         ∷ codes "ok,sheet,2"
         ∷ codes "ok,fix,1,14:-500.00"
         ∷ codes "ok,show,103,14:1000.000:0.000:10000.00"
-        ∷ codes "ok,books,11:0.000:0.00 12:0.000:0.00 13:0.000:0.00 14:1000.000:10500.00,0.00,0.00,5:-500.00,-10000.00"
+        ∷ (codes "ok,books,11:0.000:0.00 12:0.000:0.00 13:0.000:0.00 14:1000.000:10500.00,"
+        ++ codes "0.00,0.00,5:-500.00,-10000.00")
         ∷ []
         ) }
 {}
@@ -33,7 +34,8 @@ pub fn loss_borne_by_the_fund()
         codes "ok,sheet,1"
         ∷ codes "ok,sheet,2"
         ∷ codes "ok,fix,1,14:-500.00"
-        ∷ codes "ok,books,11:0.000:0.00 12:0.000:0.00 13:0.000:0.00 14:1000.000:10000.00,0.00,0.00,5:0.00,-10000.00"
+        ∷ (codes "ok,books,11:0.000:0.00 12:0.000:0.00 13:0.000:0.00 14:1000.000:10000.00,"
+        ++ codes "0.00,0.00,5:0.00,-10000.00")
         ∷ []
         ) }
 {}
@@ -75,7 +77,8 @@ pub fn price_correction()
         ∷ codes "ok,sheet,1"
         ∷ codes "ok,fix,1,14:50.00"
         ∷ codes "ok,show,101,14:95.238:0.000:1000.00"
-        ∷ codes "ok,books,11:0.000:0.00 12:0.000:0.00 13:0.000:0.00 14:95.238:1000.00,0.00,0.00,5:0.00,-1000.00"
+        ∷ (codes "ok,books,11:0.000:0.00 12:0.000:0.00 13:0.000:0.00 14:95.238:1000.00,"
+        ++ codes "0.00,0.00,5:0.00,-1000.00")
         ∷ []
         ) }
 {}
@@ -98,7 +101,8 @@ pub fn repeated_correction()
         ∷ codes "ok,fix,2,14:500.00"
         ∷ codes "ok,fix,1,14:-500.00"
         ∷ codes "no,4"
-        ∷ codes "ok,books,11:0.000:0.00 12:0.000:0.00 13:0.000:0.00 14:0.000:500.00,0.00,0.00,5:-500.00,0.00"
+        ∷ (codes "ok,books,11:0.000:0.00 12:0.000:0.00 13:0.000:0.00 14:0.000:500.00,"
+        ++ codes "0.00,0.00,5:-500.00,0.00")
         ∷ []
         ) }
 {}
@@ -234,7 +238,8 @@ pub fn replacement_into_a_later_sheet()
         codes "STATEMENT 101 MARY DOE"
         ∷ codes "PERIOD 2024-07-01 2024-07-31"
         ∷ codes "2024-07-02 buy ref 1 class 12 gross 1000.00 price 12.50 shares 80.000 charge 0.00"
-        ∷ codes "2024-07-03 sell ref 2 class 12 shares 10.000 nav 12.60 value 126.00 charge 6.25 paid 119.75"
+        ∷ (codes "2024-07-03 sell ref 2 class 12 shares 10.000 "
+        ++ codes "nav 12.60 value 126.00 charge 6.25 paid 119.75")
         ∷ codes "HOLDINGS"
         ∷ codes "class 12 GROWTH-B shares 70.000 escrow 0.000 cost 875.00 nav 12.60 value 882.00"
         ∷ codes "END"

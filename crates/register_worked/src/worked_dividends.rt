@@ -160,12 +160,14 @@ pub fn dividend_on_held_shares()
         codes "STATEMENT 101 MARY DOE"
         ∷ codes "PERIOD 2024-07-01 2024-07-31"
         ∷ codes "2024-07-01 letter ref 1 class 11 amount 100000.00"
-        ∷ codes "2024-07-01 buy ref 2 class 11 gross 2500.00 price 20.73 shares 120.598 charge 88.04"
+        ∷ (codes "2024-07-01 buy ref 2 class 11 gross 2500.00 "
+        ++ codes "price 20.73 shares 120.598 charge 88.04")
         ∷ codes "2024-07-02 dividend class 11 amount 48.24 nav 19.60 shares 2.461"
         ∷ codes "2024-07-03 elect ref 3 class 11 cash"
         ∷ codes "2024-07-05 dividend class 11 amount 49.22 cash"
         ∷ codes "HOLDINGS"
-        ∷ codes "class 11 GROWTH-A shares 123.059 escrow 120.598 cost 2548.24 nav 19.30 value 2375.04"
+        ∷ (codes "class 11 GROWTH-A shares 123.059 escrow 120.598 "
+        ++ codes "cost 2548.24 nav 19.30 value 2375.04")
         ∷ codes "END"
         ∷ [])
         ∷ (codes "ok,books,11:245.769:4719.00 12:0.000:0.00 13:0.000:0.00 "
@@ -267,7 +269,8 @@ pub fn election_before_the_first_purchase()
         codes "STATEMENT 101 MARY DOE"
         ∷ codes "PERIOD 2024-07-03 2024-07-31"
         ∷ codes "2024-07-03 dividend class 12 amount 10.00 cash"
-        ∷ codes "2024-07-03 sell ref 3 class 12 shares 100.000 nav 10.00 value 1000.00 charge 50.00 paid 950.00"
+        ∷ (codes "2024-07-03 sell ref 3 class 12 shares 100.000 "
+        ++ codes "nav 10.00 value 1000.00 charge 50.00 paid 950.00")
         ∷ codes "2024-07-05 buy ref 4 class 12 gross 500.00 price 10.00 shares 50.000 charge 0.00"
         ∷ codes "2024-07-08 dividend class 12 amount 5.00 cash"
         ∷ codes "HOLDINGS"

@@ -71,7 +71,8 @@ pub fn letter_ends_by_date()
         ∷ codes "PERIOD 2025-08-01 2025-08-31"
         ∷ codes "2025-08-04 letter ended class 11 due 125.00 shares 11.364 paid 125.00 waived 0.00"
         ∷ codes "HOLDINGS"
-        ∷ codes "class 11 GROWTH-A shares 943.746 escrow 0.000 cost 9881.02 nav 11.00 value 10381.21"
+        ∷ (codes "class 11 GROWTH-A shares 943.746 escrow 0.000 "
+        ++ codes "cost 9881.02 nav 11.00 value 10381.21")
         ∷ codes "END"
         ∷ [])
         ∷ []
@@ -151,10 +152,12 @@ pub fn letter_that_begins_with_credit()
         codes "STATEMENT 101 MARY DOE"
         ∷ codes "PERIOD 2024-07-01 2025-08-31"
         ∷ codes "2024-07-02 letter ref 1 class 11 amount 90000.00"
-        ∷ codes "2024-07-02 buy ref 2 class 11 gross 10000.00 price 20.94 shares 477.555 charge 448.90"
+        ∷ (codes "2024-07-02 buy ref 2 class 11 gross 10000.00 "
+        ++ codes "price 20.94 shares 477.555 charge 448.90")
         ∷ codes "2025-08-04 letter ended class 11 due 50.00 shares 2.263 paid 50.00 waived 0.00"
         ∷ codes "HOLDINGS"
-        ∷ codes "class 11 GROWTH-A shares 475.292 escrow 0.000 cost 9952.61 nav 22.10 value 10503.95"
+        ∷ (codes "class 11 GROWTH-A shares 475.292 escrow 0.000 "
+        ++ codes "cost 9952.61 nav 22.10 value 10503.95")
         ∷ codes "END"
         ∷ [])
         ∷ codes "ok,books,11:475.292:9501.10 12:2000.000:20000.00,498.90,0.00,,-30000.00"
@@ -207,12 +210,15 @@ pub fn letter_reached()
         codes "STATEMENT 101 MARY DOE"
         ∷ codes "PERIOD 2024-07-01 2024-07-31"
         ∷ codes "2024-07-01 letter ref 1 class 11 amount 50000.00"
-        ∷ codes "2024-07-01 buy ref 2 class 11 gross 30000.00 price 20.94 shares 1432.665 charge 1346.70"
+        ∷ (codes "2024-07-01 buy ref 2 class 11 gross 30000.00 "
+        ++ codes "price 20.94 shares 1432.665 charge 1346.70")
         ∷ codes "2024-07-02 unfilled ref 3 class 11 letter"
-        ∷ codes "2024-07-02 buy ref 4 class 11 gross 19949.99 price 21.47 shares 929.203 charge 901.33"
+        ∷ (codes "2024-07-02 buy ref 4 class 11 gross 19949.99 "
+        ++ codes "price 21.47 shares 929.203 charge 901.33")
         ∷ codes "2024-07-03 buy ref 5 class 11 gross 50.01 price 21.99 shares 2.274 charge 2.26"
         ∷ codes "2024-07-03 letter reached class 11"
-        ∷ codes "2024-07-05 sell ref 6 class 11 shares 2364.142 nav 21.00 value 49646.98 charge 0.00 paid 49646.98"
+        ∷ (codes "2024-07-05 sell ref 6 class 11 shares 2364.142 "
+        ++ codes "nav 21.00 value 49646.98 charge 0.00 paid 49646.98")
         ∷ codes "2024-07-05 letter ref 7 class 11 amount 100000.00"
         ∷ codes "HOLDINGS"
         ∷ codes "END"
@@ -275,7 +281,8 @@ pub fn waived_shortfall()
         ∷ statement_of (codes "101") (
         codes "STATEMENT 101 MARY DOE"
         ∷ codes "PERIOD 2025-08-01 2025-08-31"
-        ∷ codes "2025-08-04 letter ended class 11 due 575.00 shares 1000.000 paid 500.00 waived 75.00"
+        ∷ (codes "2025-08-04 letter ended class 11 due 575.00 "
+        ++ codes "shares 1000.000 paid 500.00 waived 75.00")
         ∷ codes "HOLDINGS"
         ∷ codes "END"
         ∷ [])

@@ -73,9 +73,11 @@ pub fn classes_and_dealers_up_to_the_limit()
 /// There are 100,000 households, and none more.
 pub fn households_up_to_the_limit()
     ensures households { too_many
-        (situation_behind_many (EventKind.Household some_household) 100000) (Request.Household some_household)
+        (situation_behind_many (EventKind.Household some_household) 100000)
+        (Request.Household some_household)
         ≡ Some (Refusal.TooMany 100000) }
     ensures household_room { too_many
-        (situation_behind_many (EventKind.Household some_household) 99999) (Request.Household some_household)
+        (situation_behind_many (EventKind.Household some_household) 99999)
+        (Request.Household some_household)
         ≡ None }
 {}

@@ -8,7 +8,8 @@ ghost use Rattle.register_worked.specs.WorkedMembers.{AskTheSame, asks_for, lead
 /// Members in any order ask what the record of a script asks; a missing one has its place, and another name is place 0.
 pub fn members_of_a_purchase()
     ensures same { asked_by_members (codes "buy") (
-        member (codes "gross") (codes "10000.00") ∷ member (codes "account") (codes "101") ∷ member (codes "ref") (codes "1") ∷ member (codes "class") (codes "11") ∷ []
+        member (codes "gross") (codes "10000.00") ∷ member (codes "account") (codes "101")
+        ∷ member (codes "ref") (codes "1") ∷ member (codes "class") (codes "11") ∷ []
         )
         ≡ asked_by (codes "buy") (codes "101" ∷ codes "1" ∷ codes "11" ∷ codes "10000.00" ∷ []) }
     ensures missing { asked_by_members (codes "buy")
@@ -22,14 +23,18 @@ pub fn members_of_a_purchase()
 /// Where a correction's order verb is missing, other members are passed over and the verb has its place.
 pub fn members_of_an_entry()
     ensures same { asked_by_members (codes "enter") (
-        member (codes "fix") (codes "1") ∷ member (codes "bearer") (codes "fund") ∷ member (codes "receipt") (codes "1719838800") ∷ member (codes "verb") (codes "sellall")
-        ∷ member (codes "account") (codes "101") ∷ member (codes "ref") (codes "1") ∷ member (codes "class") (codes "11") ∷ []
+        member (codes "fix") (codes "1") ∷ member (codes "bearer") (codes "fund")
+        ∷ member (codes "receipt") (codes "1719838800") ∷ member (codes "verb") (codes "sellall")
+        ∷ member (codes "account") (codes "101") ∷ member (codes "ref") (codes "1")
+        ∷ member (codes "class") (codes "11") ∷ []
         )
         ≡ asked_by (codes "enter") (
-        codes "1" ∷ codes "fund" ∷ codes "1719838800" ∷ codes "sellall" ∷ codes "101" ∷ codes "1" ∷ codes "11" ∷ []
+        codes "1" ∷ codes "fund" ∷ codes "1719838800" ∷ codes "sellall"
+        ∷ codes "101" ∷ codes "1" ∷ codes "11" ∷ []
         ) }
     ensures missing { asked_by_members (codes "enter") (
-        member (codes "fix") (codes "1") ∷ member (codes "bearer") (codes "fund") ∷ member (codes "receipt") (codes "1719838800") ∷ member (codes "colour") (codes "red") ∷ []
+        member (codes "fix") (codes "1") ∷ member (codes "bearer") (codes "fund")
+        ∷ member (codes "receipt") (codes "1719838800") ∷ member (codes "colour") (codes "red") ∷ []
         )
         ≡ Err 4 }
 {}

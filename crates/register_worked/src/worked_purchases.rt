@@ -1,5 +1,5 @@
 //! Worked scripts of purchases, as laws: the checker computes the lines from the bytes of the script.
-ghost use Rattle.std.specs.Prelude.{[], ◌∷◌, codes};
+ghost use Rattle.std.specs.Prelude.{[], ◌∷◌, ◌++◌, codes};
 ghost use Rattle.register_worked.specs.WorkedRuns.{Answers, first_sheet, statement_of};
 
 /// A purchase of $10,000.00 at a net asset value of $10.00 and a load of 5.75 percent, its outcome and its position.
@@ -32,9 +32,11 @@ pub fn first_statement()
         ∷ statement_of (codes "101") (
         codes "STATEMENT 101 MARY DOE"
         ∷ codes "PERIOD 2024-07-01 2024-07-31"
-        ∷ codes "2024-07-01 buy ref 1 class 11 gross 10000.00 price 10.61 shares 942.507 charge 574.93"
+        ∷ (codes "2024-07-01 buy ref 1 class 11 gross 10000.00 "
+        ++ codes "price 10.61 shares 942.507 charge 574.93")
         ∷ codes "HOLDINGS"
-        ∷ codes "class 11 GROWTH-A shares 942.507 escrow 0.000 cost 10000.00 nav 10.00 value 9425.07"
+        ∷ (codes "class 11 GROWTH-A shares 942.507 escrow 0.000 "
+        ++ codes "cost 10000.00 nav 10.00 value 9425.07")
         ∷ codes "END"
         ∷ [])
         ∷ []
@@ -100,7 +102,8 @@ pub fn accumulation()
 pub fn small_order()
     ensures { Answers (
         codes "1719838800,op-desk000001,buy,101,1,14,0.01"
-        ∷ codes "1719867600,op-desk000001,sheet,1,1719864000,11:10.00 12:10.00 13:20.00 14:100000.00"
+        ∷ (codes "1719867600,op-desk000001,sheet,1,1719864000,"
+        ++ codes "11:10.00 12:10.00 13:20.00 14:100000.00")
         ∷ codes "1719867700,op-desk000001,trace,101,1"
         ∷ codes "1719867700,op-desk000001,show,101"
         ∷ []

@@ -186,9 +186,11 @@ pub fn redemption_by_amount()
         ∷ statement_of (codes "101") (
         codes "STATEMENT 101 MARY DOE"
         ∷ codes "PERIOD 2024-07-02 2024-07-02"
-        ∷ codes "2024-07-02 sell ref 3 class 13 shares 6.250 nav 16.00 value 100.00 charge 4.69 paid 95.31"
+        ∷ (codes "2024-07-02 sell ref 3 class 13 shares 6.250 "
+        ++ codes "nav 16.00 value 100.00 charge 4.69 paid 95.31")
         ∷ codes "2024-07-02 unfilled ref 4 class 14 small"
-        ∷ codes "2024-07-02 sell ref 5 class 14 shares 0.001 nav 25.00 value 0.03 charge 0.00 paid 0.03"
+        ∷ (codes "2024-07-02 sell ref 5 class 14 shares 0.001 "
+        ++ codes "nav 25.00 value 0.03 charge 0.00 paid 0.03")
         ∷ codes "2024-07-02 unfilled ref 6 class 13 short"
         ∷ codes "HOLDINGS"
         ∷ codes "class 13 INCOME-B shares 60.417 escrow 0.000 cost 906.25 nav 16.00 value 966.67"
@@ -246,7 +248,8 @@ pub fn sale_of_nothing()
         ∷ codes "PERIOD 2024-07-01 2024-07-31"
         ∷ codes "2024-07-01 unfilled ref 1 class 12 short"
         ∷ codes "2024-07-01 buy ref 2 class 12 gross 1000.00 price 10.00 shares 100.000 charge 0.00"
-        ∷ codes "2024-07-02 sell ref 3 class 12 shares 100.000 nav 10.00 value 1000.00 charge 50.00 paid 950.00"
+        ∷ (codes "2024-07-02 sell ref 3 class 12 shares 100.000 "
+        ++ codes "nav 10.00 value 1000.00 charge 50.00 paid 950.00")
         ∷ codes "2024-07-02 unfilled ref 4 class 12 short"
         ∷ codes "2024-07-02 unfilled ref 5 class 12 short"
         ∷ codes "2024-07-02 unfilled ref 6 class 12 short"

@@ -1,5 +1,5 @@
 //! Worked scripts of statements and traces.
-ghost use Rattle.std.specs.Prelude.{[], ◌∷◌, codes};
+ghost use Rattle.std.specs.Prelude.{[], ◌∷◌, ◌++◌, codes};
 ghost use Rattle.register_worked.specs.WorkedRuns.{AnswersInJuly, AnswersOver, statement_of};
 
 /// A statement tells the trades of its account alone, of a household with two that traded, on sheets dated within the
@@ -39,8 +39,10 @@ pub fn statement_of_one_account()
         codes "STATEMENT 101 MARY DOE"
         ∷ codes "PERIOD 2024-07-01 2024-07-31"
         ∷ codes "2024-07-01 buy ref 1 class 12 gross 1000.00 price 10.00 shares 100.000 charge 0.00"
-        ∷ codes "2024-07-02 sell ref 2 class 12 shares 40.000 nav 11.00 value 440.00 charge 20.00 paid 420.00"
-        ∷ codes "2024-07-03 exchange ref 3 class 12 shares 10.000 value 90.00 to class 13 shares 6.000"
+        ∷ (codes "2024-07-02 sell ref 2 class 12 shares 40.000 "
+        ++ codes "nav 11.00 value 440.00 charge 20.00 paid 420.00")
+        ∷ (codes "2024-07-03 exchange ref 3 class 12 shares 10.000 value 90.00 "
+        ++ codes "to class 13 shares 6.000")
         ∷ codes "HOLDINGS"
         ∷ codes "class 12 GROWTH-B shares 50.000 escrow 0.000 cost 500.00 nav 9.00 value 450.00"
         ∷ codes "class 13 INCOME-B shares 6.000 escrow 0.000 cost 100.00 nav 15.00 value 90.00"
@@ -51,8 +53,10 @@ pub fn statement_of_one_account()
         ∷ codes "PERIOD 2024-07-01 2024-07-31"
         ∷ codes "2024-07-01 buy ref 1 class 12 gross 500.00 price 10.00 shares 50.000 charge 0.00"
         ∷ codes "2024-07-01 buy ref 2 class 14 gross 250.00 price 50.00 shares 5.000 charge 0.00"
-        ∷ codes "2024-07-02 sell ref 3 class 12 shares 9.091 nav 11.00 value 100.00 charge 4.55 paid 95.45"
-        ∷ codes "2024-07-03 sell ref 4 class 14 shares 5.000 nav 51.00 value 255.00 charge 0.00 paid 255.00"
+        ∷ (codes "2024-07-02 sell ref 3 class 12 shares 9.091 "
+        ++ codes "nav 11.00 value 100.00 charge 4.55 paid 95.45")
+        ∷ (codes "2024-07-03 sell ref 4 class 14 shares 5.000 "
+        ++ codes "nav 51.00 value 255.00 charge 0.00 paid 255.00")
         ∷ codes "HOLDINGS"
         ∷ codes "class 12 GROWTH-B shares 40.909 escrow 0.000 cost 409.09 nav 9.00 value 368.18"
         ∷ codes "END"
@@ -60,7 +64,8 @@ pub fn statement_of_one_account()
         ∷ statement_of (codes "101") (
         codes "STATEMENT 101 MARY DOE"
         ∷ codes "PERIOD 2024-07-02 2024-07-02"
-        ∷ codes "2024-07-02 sell ref 2 class 12 shares 40.000 nav 11.00 value 440.00 charge 20.00 paid 420.00"
+        ∷ (codes "2024-07-02 sell ref 2 class 12 shares 40.000 "
+        ++ codes "nav 11.00 value 440.00 charge 20.00 paid 420.00")
         ∷ codes "HOLDINGS"
         ∷ codes "class 12 GROWTH-B shares 50.000 escrow 0.000 cost 500.00 nav 9.00 value 450.00"
         ∷ codes "class 13 INCOME-B shares 6.000 escrow 0.000 cost 100.00 nav 15.00 value 90.00"
@@ -69,7 +74,8 @@ pub fn statement_of_one_account()
         ∷ statement_of (codes "102") (
         codes "STATEMENT 102 MARY DOE IRA"
         ∷ codes "PERIOD 2024-07-03 2024-07-31"
-        ∷ codes "2024-07-03 sell ref 4 class 14 shares 5.000 nav 51.00 value 255.00 charge 0.00 paid 255.00"
+        ∷ (codes "2024-07-03 sell ref 4 class 14 shares 5.000 "
+        ++ codes "nav 51.00 value 255.00 charge 0.00 paid 255.00")
         ∷ codes "HOLDINGS"
         ∷ codes "class 12 GROWTH-B shares 40.909 escrow 0.000 cost 409.09 nav 9.00 value 368.18"
         ∷ codes "END"

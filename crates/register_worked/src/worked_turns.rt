@@ -1,5 +1,5 @@
 //! Worked scripts of the order of execution on one sheet.
-ghost use Rattle.std.specs.Prelude.{[], ◌∷◌, codes};
+ghost use Rattle.std.specs.Prelude.{[], ◌∷◌, ◌++◌, codes};
 ghost use Rattle.register_worked.specs.WorkedRuns.{AnswersAlone, AnswersInJuly, calendar_of_days, class_11, class_12, statement_of};
 
 /// At equal receipts the order whose first event is earlier in the journal goes first, whatever its account or reference;
@@ -47,11 +47,15 @@ pub fn equal_receipts()
         codes "STATEMENT 103 OMAR ROE"
         ∷ codes "PERIOD 2024-07-01 2024-07-31"
         ∷ codes "2024-07-01 buy ref 1 class 14 gross 1000.00 price 10.00 shares 100.000 charge 0.00"
-        ∷ codes "2024-07-02 sell ref 6 class 14 shares 0.001 nav 10.00 value 0.01 charge 0.00 paid 0.01"
-        ∷ codes "2024-07-02 sell ref 2 class 14 shares 60.000 nav 10.00 value 600.00 charge 0.00 paid 600.00"
+        ∷ (codes "2024-07-02 sell ref 6 class 14 shares 0.001 "
+        ++ codes "nav 10.00 value 0.01 charge 0.00 paid 0.01")
+        ∷ (codes "2024-07-02 sell ref 2 class 14 shares 60.000 "
+        ++ codes "nav 10.00 value 600.00 charge 0.00 paid 600.00")
         ∷ codes "2024-07-02 buy ref 3 class 14 gross 500.00 price 10.00 shares 50.000 charge 0.00"
-        ∷ codes "2024-07-02 sell ref 4 class 14 shares 80.000 nav 10.00 value 800.00 charge 0.00 paid 800.00"
-        ∷ codes "2024-07-02 sell ref 5 class 14 shares 9.999 nav 10.00 value 99.99 charge 0.00 paid 99.99"
+        ∷ (codes "2024-07-02 sell ref 4 class 14 shares 80.000 "
+        ++ codes "nav 10.00 value 800.00 charge 0.00 paid 800.00")
+        ∷ (codes "2024-07-02 sell ref 5 class 14 shares 9.999 "
+        ++ codes "nav 10.00 value 99.99 charge 0.00 paid 99.99")
         ∷ codes "HOLDINGS"
         ∷ codes "END"
         ∷ [])
@@ -94,10 +98,13 @@ pub fn earlier_line_goes_first()
         codes "STATEMENT 103 OMAR ROE"
         ∷ codes "PERIOD 2024-07-01 2024-07-31"
         ∷ codes "2024-07-01 buy ref 1 class 14 gross 1000.00 price 10.00 shares 100.000 charge 0.00"
-        ∷ codes "2024-07-02 sell ref 3 class 14 shares 30.000 nav 10.20 value 306.00 charge 0.00 paid 306.00"
+        ∷ (codes "2024-07-02 sell ref 3 class 14 shares 30.000 "
+        ++ codes "nav 10.20 value 306.00 charge 0.00 paid 306.00")
         ∷ codes "2024-07-02 unfilled ref 2 class 14 short"
-        ∷ codes "2024-07-03 sell ref 5 class 14 shares 25.000 nav 10.40 value 260.00 charge 0.00 paid 260.00"
-        ∷ codes "2024-07-03 sell ref 4 class 14 shares 45.000 nav 10.40 value 468.00 charge 0.00 paid 468.00"
+        ∷ (codes "2024-07-03 sell ref 5 class 14 shares 25.000 "
+        ++ codes "nav 10.40 value 260.00 charge 0.00 paid 260.00")
+        ∷ (codes "2024-07-03 sell ref 4 class 14 shares 45.000 "
+        ++ codes "nav 10.40 value 468.00 charge 0.00 paid 468.00")
         ∷ codes "HOLDINGS"
         ∷ codes "END"
         ∷ [])
@@ -160,7 +167,8 @@ pub fn dividend_letter_and_orders()
         ∷ codes "2025-08-04 letter ended class 11 due 90.00 shares 4.500 paid 90.00 waived 0.00"
         ∷ codes "2025-08-04 letter ref 3 class 11 amount 25000.00"
         ∷ codes "2025-08-04 buy ref 4 class 11 gross 500.00 price 21.05 shares 23.753 charge 24.94"
-        ∷ codes "2025-08-04 sell ref 5 class 11 shares 198.105 nav 20.00 value 3962.10 charge 0.00 paid 3962.10"
+        ∷ (codes "2025-08-04 sell ref 5 class 11 shares 198.105 "
+        ++ codes "nav 20.00 value 3962.10 charge 0.00 paid 3962.10")
         ∷ codes "HOLDINGS"
         ∷ codes "class 11 GROWTH-A shares 23.753 escrow 23.753 cost 500.00 nav 20.00 value 475.06"
         ∷ codes "END"

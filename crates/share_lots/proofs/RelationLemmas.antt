@@ -1,10 +1,11 @@
--- The amounts of a taking from lots by rank are the only ones that the relation allows.
-use Rattle.std.proofs.Common.{◌≡◌, ◌⊎◌, ℕ, zero, suc, ◌-◌, ◌<◌, ◌≤◌, true, false, min, List, [], ◌∷◌, length, get_or, sum, sum_by, refl, sym, ap, ◌∙◌, inl, inr, arith}
+-- The amounts of a taking from lots by rank are the only ones that the relation allows, and its pieces and its rest are
+-- theirs.
+use Rattle.std.proofs.Common.{◌≡◌, ◌⊎◌, ℕ, zero, suc, ◌-◌, ◌<◌, ◌≤◌, true, false, min, List, [], ◌∷◌, ◌++◌, length, get_or, sum, sum_by, refl, sym, ap, ◌∙◌, inl, inr, arith}
 use Rattle.std.proofs.lemmas.Bool.{cases_lt}
 use Rattle.std.proofs.lemmas.List.Sums.{sum_by-cons}
 use Rattle.share_lots.specs.declared.lot.Lot.{Lot}
-use Rattle.share_lots.specs.Lots.{AreRanked, ranks_before}
-use Rattle.share_lots.specs.Taking.{IsTaking, amounts}
+use Rattle.share_lots.specs.Lots.{Holding, AreRanked, ranks_before}
+use Rattle.share_lots.specs.Taking.{IsTaking, amounts, pieces_of, pieces, pieces_given, lot_less, lots_less, lots_kept, after_taking, holding_kept}
 use Rattle.share_lots.proofs.LotLemmas.{AllPairs-tail}
 use Rattle.share_lots.proofs.OrderLemmas.{ranks-back, ranks-itself}
 
@@ -51,8 +52,8 @@ stands_before lots i j d ranked low short first = elim (cases_lt i j) [
     not_first ge (inl lt) = ranks-back (get_or lots j d) (get_or lots i d) (ranked j i d lt low)
     not_first ge (inr le) = ranks-itself (get_or lots i d) (get_or lots j d) (let same : i ≡ j = omega arith in ap (λ k. get_or lots k d) same)
 
-pub amounts-taking : (asked : ℕ) (lots : List Lot) → AreRanked lots → asked ≤ sum_by (λ l. l.loose) lots → IsTaking asked lots (amounts asked lots)
-amounts-taking asked lots ranked h = record {
+pub amounts_taking : (asked : ℕ) (lots : List Lot) → AreRanked lots → asked ≤ sum_by (λ l. l.loose) lots → IsTaking asked lots (amounts asked lots)
+amounts_taking asked lots ranked h = record {
   one_each = length-amounts asked lots;
   whole = sum-amounts asked lots h;
   within = within-amounts asked lots;
@@ -101,3 +102,21 @@ only_amounts asked (x ∷ xs) (g ∷ gs) ranked is =
       in_rank = λ i j d low short before some. is.in_rank (suc i) (suc j) d (omega arith) (omega arith) before some;
     } in
     ap (λ n. n ∷ gs) first.0 ∙ ap (λ ns. min x.loose asked ∷ ns) (only_amounts (asked - x.loose) xs gs (AllPairs-tail (λ a b. ranks_before a b ≡ true) x xs ranked) rest)
+
+pieces_amounts : (asked : ℕ) (lots : List Lot) → pieces asked lots ≡ pieces_given lots (amounts asked lots)
+unfolding pieces amounts
+pieces_amounts asked [] = refl
+pieces_amounts asked (x ∷ xs) = ap (λ ps. pieces_of x (min x.loose asked) ++ ps) (pieces_amounts (asked - x.loose) xs)
+
+kept_amounts : (asked : ℕ) (lots : List Lot) → lots_less asked lots ≡ lots_kept lots (amounts asked lots)
+unfolding lots_less amounts
+kept_amounts asked [] = refl
+kept_amounts asked (x ∷ xs) = ap (λ ls. lot_less x (min x.loose asked) ∷ ls) (kept_amounts (asked - x.loose) xs)
+
+pub pieces_by_amounts : (asked : ℕ) (lots : List Lot) (given : List ℕ) → AreRanked lots → IsTaking asked lots given → pieces asked lots ≡ pieces_given lots given
+pieces_by_amounts asked lots given ranked is = pieces_amounts asked lots ∙ ap (pieces_given lots) (sym (only_amounts asked lots given ranked is))
+
+pub rest_by_amounts : (asked : ℕ) (h : Holding) (given : List ℕ) → AreRanked h.lots → IsTaking asked h.lots given → after_taking h asked ≡ holding_kept h given
+rest_by_amounts asked h given ranked is =
+    let same : lots_less asked h.lots ≡ lots_kept h.lots given = kept_amounts asked h.lots ∙ ap (lots_kept h.lots) (sym (only_amounts asked h.lots given ranked is)) in
+    rw same refl

@@ -1,5 +1,5 @@
 -- What a redemption takes of the lots: a lot gives nothing unless every lot of lower rank has given all its loose mils.
-use Rattle.std.specs.Prelude.{ℕ, Option, Some, None, ◌+◌, ◌-◌, ◌*◌, ◌<◌, ◌≤◌, ◌≡◌, Bool, true, nat_lt, min, if◌then◌else◌, List, [], ◌∷◌, length, filter, sum, ◌++◌, slice_index, sum_by, map}
+use Rattle.std.specs.Prelude.{ℕ, Option, Some, None, ◌+◌, ◌-◌, ◌*◌, ◌<◌, ◌≤◌, ◌≡◌, Bool, true, nat_lt, min, if◌then◌else◌, List, [], ◌∷◌, length, filter, sum, ◌++◌, slice_index, sum_by, map, flat_map, zip}
 use Rattle.std.specs.List.{slice_index_or}
 use Rattle.money_units.specs.Rounding.{half}
 use Rattle.share_lots.specs.declared.lot.Lot.{Lot}
@@ -53,6 +53,18 @@ pub record IsTaking (asked : ℕ) (lots : List Lot) (given : List ℕ) : Type 0 
   pub in_rank : (i j : ℕ) (d : Lot) → i < length lots → j < length lots
       → ranks_before (slice_index_or lots i d) (slice_index_or lots j d) ≡ true → 0 < slice_index given j
       → slice_index given i ≡ (slice_index_or lots i d).loose
+
+-- the pieces of lots that give these amounts, one for each lot that gives any
+abbrev pub pieces_given : List Lot → List ℕ → List Piece
+pieces_given lots given = flat_map (λ pair. pieces_of pair.0 pair.1) (zip lots given)
+
+-- what each keeps
+abbrev pub lots_kept : List Lot → List ℕ → List Lot
+lots_kept lots given = map (λ pair. lot_less pair.0 pair.1) (zip lots given)
+
+-- the position whose lots have given these amounts
+abbrev pub holding_kept : Holding → List ℕ → Holding
+holding_kept h given = record { lots = filter has_mils (lots_kept h.lots given); next_lot = h.next_lot }
 
 -- the held mils of another lot, where it comes before this one by date and number
 abbrev pub held_if_before : Lot → Lot → ℕ

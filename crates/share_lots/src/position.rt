@@ -259,6 +259,8 @@ impl Position {
 
     /// Takes loose mils by rank, and answers a piece for each lot that gives any.
     pub fn take(&mut self, alloc: Global, mils: Mils) -> Result<Pieces, TakeFault>
+        ensures relation { OnOk result
+            (taking.IsTaking mils self.old.lots (taking.amounts mils self.old.lots)) }
         ensures taken { IfOk result (λ pieces. pieces ≡ taking.pieces mils self.old.lots) }
         ensures rest { OnOk result (self.new ≡ taking.after_taking self.old mils) }
         ensures enough { OnOk result (mils ≤ spec.loose_total self.old) }

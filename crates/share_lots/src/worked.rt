@@ -20,20 +20,32 @@ pub fn free_shares_go_first()
         ∷ record { lot = 1; day = 19905; mils = 45000; cost = 45000; free = false } ∷ [] }
     ensures rest { after_taking
         (record {
-          lots = record { number = 2; day = 19950; loose = 5000; held = 0; cost = 5000; free = true }
-              ∷ record {
-                number = 1;
-                day = 19905;
-                loose = 100000;
-                held = 0;
-                cost = 100000;
-                free = false;
-              } ∷ [];
+          lots = record {
+            number = 2;
+            day = 19950;
+            loose = 5000;
+            held = 0;
+            cost = 5000;
+            free = true;
+          } ∷ record {
+            number = 1;
+            day = 19905;
+            loose = 100000;
+            held = 0;
+            cost = 100000;
+            free = false;
+          } ∷ [];
           next_lot = 3;
         }) 50000
         ≡ record {
-          lots = record { number = 1; day = 19905; loose = 55000; held = 0; cost = 55000; free = false }
-              ∷ [];
+          lots = record {
+            number = 1;
+            day = 19905;
+            loose = 55000;
+            held = 0;
+            cost = 55000;
+            free = false;
+          } ∷ [];
           next_lot = 3;
         } }
 {}

@@ -1,12 +1,12 @@
 -- What is carried is the definition's, and so are its sums.
 use Rattle.fund_exchange.specs.Exchange.{renewed_all}
-use Rattle.fund_exchange.proofs.ExchangeFacts.{carried-all, carried-whole, carried-cost, All-has_mils}
+use Rattle.fund_exchange.proofs.ExchangeFacts.{carried-all, carried-whole, carried_cost, all_have_mils}
 use Rattle.fund_exchange.proofs.renewing.carried_pieces.Goals as goal
 
 pub returns-clause-with_mils : goal.returns-clause-with_mils
 returns-clause-with_mils c =
     rw (carried-all c.loop-piece.carried c.args.pieces.now c.args.from c.args.to c.loop-piece.before c.loop-piece.piece-index c.loop-piece-test.false c.loop-piece.invariant.told)
-    (All-has_mils (renewed_all c.args.from c.args.to c.args.pieces.now))
+    (all_have_mils (renewed_all c.args.from c.args.to c.args.pieces.now))
 
 pub returns-clause-mils : goal.returns-clause-mils
 returns-clause-mils c =
@@ -16,4 +16,4 @@ returns-clause-mils c =
 pub returns-clause-cost : goal.returns-clause-cost
 returns-clause-cost c =
     rw (carried-all c.loop-piece.carried c.args.pieces.now c.args.from c.args.to c.loop-piece.before c.loop-piece.piece-index c.loop-piece-test.false c.loop-piece.invariant.told)
-    (carried-cost c.args.from c.args.to c.args.pieces.now)
+    (carried_cost c.args.from c.args.to c.args.pieces.now)

@@ -8,6 +8,7 @@ use Rattle.share_lots.specs.Lots.{IsLot, loose_total}
 use Rattle.share_lots.specs.Taking.{has_mils, lots_less}
 use Rattle.share_lots.proofs.KeptLemmas.{mils-taken, pieces-whole, taking-keeps_mils, taking-keeps_cost}
 use Rattle.share_lots.proofs.LotLemmas.{All-IsLot, IsHolding-taking, sum-mils}
+use Rattle.share_lots.proofs.RelationLemmas.{amounts_taking}
 use Rattle.share_lots.proofs.RowLemmas.{held-taken}
 use Rattle.share_lots.proofs.position.Position.take.Goals as goal
 
@@ -46,6 +47,13 @@ returns-clause-enough c =
     let loose : c.self.inside.mils - c.self.inside.held ≡ sum_by (λ (l : Lot). l.loose) items = omega (arith, c.self.invariant.mils_sum, c.self.invariant.held_sum, sum-mils items) in
     let enough : c.mils.inside.0 ≤ sum_by (λ (l : Lot). l.loose) items = omega (arith, c.if-loose-mils.false, loose) in
     omega (arith, enough, c.mils.view_is, ap loose_total c.self.view_is)
+
+pub returns-clause-relation : goal.returns-clause-relation
+returns-clause-relation c =
+    let items = lots_in c.self.inside.lots in
+    let loose : c.self.inside.mils - c.self.inside.held ≡ sum_by (λ (l : Lot). l.loose) items = omega (arith, c.self.invariant.mils_sum, c.self.invariant.held_sum, sum-mils items) in
+    let enough : c.mils.inside.0 ≤ sum_by (λ (l : Lot). l.loose) items = omega (arith, c.if-loose-mils.false, loose) in
+    rw (← c.self.view_is, ← c.mils.view_is) (amounts_taking c.mils.inside.0 items c.self.invariant.holding.ranked enough)
 
 pub returns-clause-whole : goal.returns-clause-whole
 returns-clause-whole c =
