@@ -4,7 +4,8 @@ use Rattle.std.specs.Prelude.{bytes_eq, codes, nat_le, option_and_then, ◌&&◌
 use Rattle.std.proofs.lemmas.Bool.{and_parts, leb-true, true≢false}
 use Rattle.money_units.specs.Texts.{number}
 use Rattle.agent_cli.specs.Ends.{IsInRange}
-use Rattle.command_words.specs.Commands.{Apply, Command, Load, Serve, apply, apply_of, apply_options, command_named, command_of, load, load_of, load_options, number_within, operator_key, path, serve, serve_of, serve_options, within}
+use Rattle.agent_events.specs.Fields.{operator_key}
+use Rattle.command_words.specs.Commands.{Apply, Command, Load, Serve, apply, apply_of, apply_options, command_named, command_of, load, load_of, load_options, number_within, path, serve, serve_of, serve_options, within}
 use Rattle.command_words.specs.Options.{Text, values_of}
 use Rattle.command_words.specs.Views.{command_view}
 use Rattle.command_words.specs.declared.command.Command.{Command as CommandRead}

@@ -7,7 +7,7 @@ use Rattle.script_answers.specs.Runs.{AreAnswered, CountsEnds, EndsAs, IsCutShor
 use Rattle.script_answers.proofs.RunFacts.{none-answered}
 use Rattle.script_answers.specs.declared.answering.AnswerFault.{AnswerFault}
 use Rattle.script_answers.specs.declared.answering.AnswerFault.TheVariants.{Keeper, NoMemory, Write}
-use Rattle.agent_events.specs.Items.{ScriptItem}
+use Rattle.agent_events.specs.declared.item.ScriptItem.{ScriptItem}
 use Rattle.agent_cli.specs.declared.applying.TheConstants.{MAX_SCRIPT}
 use Rattle.agent_edge.specs.Counts.{Rose}
 use Rattle.agent_edge.specs.declared.sinks.SinkFault.{SinkFault}

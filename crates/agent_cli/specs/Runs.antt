@@ -8,7 +8,7 @@ use Rattle.connection_service.specs.InTurn.{AreServed, DoorAt}
 use Rattle.script_answers.specs.declared.answering.AnswerFault.{AnswerFault}
 use Rattle.script_answers.specs.declared.answering.AnswerFault.TheVariants.{Keeper, NoMemory, Write}
 use Rattle.script_answers.specs.Runs.{AreAnswered, IsCutShort, OfFront, run_over}
-use Rattle.agent_events.specs.Items.{ScriptItem}
+use Rattle.agent_events.specs.declared.item.ScriptItem.{ScriptItem}
 use Rattle.agent_keeper.specs.Content.{Content}
 use Rattle.register_desk.specs.Rows.{TellsRowsOf, rows_of}
 use Rattle.register_machine.specs.journal.Journals.{Journal}

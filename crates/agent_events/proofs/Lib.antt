@@ -1,0 +1,2 @@
+-- the text of a zone is a text
+pub mod ZoneTexts

@@ -158,21 +158,30 @@ holidays text = option_and_then if_holidays (each read_day (list_items text))
 abbrev pub is_key_byte : ℕ → Bool
 is_key_byte byte = (nat_le 97 byte && nat_le byte 122) || (nat_le 48 byte && nat_le byte 57)
 
--- the key of a household: `h-`, then 8 to 56 of a to z and 0 to 9
+-- a key: the mark of who holds it, then 8 to 56 of a to z and 0 to 9
+abbrev pub is_marked_key : List ℕ → List ℕ → Bool
+is_marked_key mark key =
+    begins mark key
+    && (nat_le (length mark + 8) (length key)
+    && (nat_le (length key) (length mark + 56) && list_all is_key_byte (drop (length mark) key)))
+
 abbrev pub is_household_key : List ℕ → Bool
-is_household_key key =
-    begins (codes "h-") key && (nat_le 10 (length key) && (nat_le (length key) 58 && list_all is_key_byte (drop 2 key)))
+is_household_key key = is_marked_key (codes "h-") key
 
 abbrev pub household_key : List ℕ → Option (List ℕ)
 household_key text = if is_household_key text then Some text else None
 
--- the key of a dealer: `d-`, then the same
 abbrev pub is_dealer_key : List ℕ → Bool
-is_dealer_key key =
-    begins (codes "d-") key && (nat_le 10 (length key) && (nat_le (length key) 58 && list_all is_key_byte (drop 2 key)))
+is_dealer_key key = is_marked_key (codes "d-") key
 
 abbrev pub dealer_key : List ℕ → Option (List ℕ)
 dealer_key text = if is_dealer_key text then Some text else None
+
+abbrev pub is_operator_key : List ℕ → Bool
+is_operator_key key = is_marked_key (codes "op-") key
+
+abbrev pub operator_key : List ℕ → Option (List ℕ)
+operator_key text = if is_operator_key text then Some text else None
 
 -- seconds of a dealer's window, a day at most
 abbrev pub window : List ℕ → Option ℕ

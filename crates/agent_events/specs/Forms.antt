@@ -1,6 +1,6 @@
 -- The forms of the verbs: what the fields of a verb ask, or the place of the first field that isn't in its form, from 1.
 -- Place 0 is an unknown verb or a wrong number of fields.
-use Rattle.std.specs.Prelude.{ℕ, ◌-◌, Bool, ◌&&◌, nat_le, ◌==◌, if◌then◌else◌, List, [], ◌∷◌, length, slice_index_or, Option, Some, None, Result, Ok, Err}
+use Rattle.std.specs.Prelude.{ℕ, ◌-◌, Bool, ◌&&◌, nat_le, ◌==◌, if◌then◌else◌, List, [], length, slice_index_or, Option, Some, None, Result, Ok, Err}
 use Rattle.std.specs.List.{list_all}
 use Rattle.class_terms.specs.declared.lists.Bracket.{Bracket}
 use Rattle.agent_events.specs.declared.request.ClassForm.{ClassForm}

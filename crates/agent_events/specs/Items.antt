@@ -3,6 +3,7 @@ use Rattle.std.specs.Prelude.{ℕ, List, map, length, drop, if◌then◌else◌,
 use Rattle.agent_events.specs.Fields.{moment}
 use Rattle.agent_events.specs.Forms.{field, is_key_text, of_length}
 use Rattle.agent_events.specs.OrderForms.{enter_asked, line_asked, order_count, order_or_unknown, replace_asked, with_order}
+use Rattle.agent_events.specs.declared.item.ScriptItem.{ScriptItem}
 use Rattle.agent_events.specs.VerbForms.{Asked, account_asked, books_asked, calendar_asked, cancel_asked, class_asked, close_asked, dealer_asked, dividend_asked, fixprice_asked, fixrate_asked, household_asked, sheet_asked, show_asked, statement_asked, trace_asked, void_asked}
 
 -- what a verb asks by its fields
@@ -30,10 +31,6 @@ asked_by verb fields =
     else order_or_unknown (order_count verb) verb fields
 
 -- an item of a script: a moment, a key and what is asked; a record without these is bad
-pub data ScriptItem : Type 0 where
-  Bad : ScriptItem
-  Good : (now : ℕ) (key : List ℕ) (asked : Asked) → ScriptItem
-
 abbrev pub script_item_at : Option ℕ → List ℕ → Asked → ScriptItem
 script_item_at None key asked = ScriptItem.Bad
 script_item_at (Some now) key asked = if is_key_text key then ScriptItem.Good now key asked else ScriptItem.Bad

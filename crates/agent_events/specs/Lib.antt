@@ -5,5 +5,6 @@ pub mod Contents
 pub mod VerbForms
 pub mod OrderForms
 pub mod Items
+pub mod Calendars
 pub mod AnswerTexts
 pub mod JsonForms

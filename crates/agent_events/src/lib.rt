@@ -5,7 +5,9 @@
 //! print replies are proved to follow them.
 #![tactic(auto)]
 
+mod calendars;
 mod checkpoint;
+mod dates;
 mod event;
 mod fields;
 mod item;
@@ -21,12 +23,13 @@ mod trade;
 mod verdict;
 
 pub use crate::checkpoint::{LetterRow, LotRow, LotRows, PositionRow, PositionRows, StateRow};
+pub use crate::dates::day_digits;
 pub use crate::event::{Event, EventKind, Placed, Source};
 pub use crate::fields::{
     Amount, CorrectedRate, DividendRate, Identifier, Minimum, Quantity, Reference, TimeOfDay,
     Window,
 };
-pub use crate::item::{Asked, KeyText};
+pub use crate::item::{Asked, KeyText, ScriptItem};
 pub use crate::lists::{Days, FrontBrackets, Holidays, RisingPrices, SheetPrices};
 pub use crate::order::{Bearer, Body, Order, OrderRow, Party, Standing};
 pub use crate::reply::{BooksReply, OrderReply, OrderState, Refusal, Reply, TraceReply};
@@ -40,7 +43,7 @@ pub use crate::request::{
     StatementForm, TraceForm, VoidForm,
 };
 pub use crate::rows::{AccountRow, RateRow, Rates};
-pub use crate::texts::{DealerKey, HouseholdKey, Name, ZoneText};
+pub use crate::texts::{DealerKey, HouseholdKey, Name, ZoneText, is_operator_key};
 pub use crate::totals::{CashChange, Changes, ClassMils, MilsChange, PartyCash, Totals};
 pub use crate::trade::{Outcome, Trade, TradeKind, Trades, Why};
 pub use crate::verdict::{Caller, Verdict};

@@ -1,7 +1,7 @@
 //! Texts of the trade that are kept as they were given: names, zones and keys, each in its form.
 ghost use Rattle.std.specs.Prelude.{◌≡◌, ◌≤◌, ◌-◌, ◌==◌, ◌&&◌, not, true, length, slice_index};
 ghost use Rattle.std.specs.List.{list_all};
-ghost use Rattle.agent_events.specs.Fields.{is_printable, is_key_byte, is_label, label, is_zone_text, zone, is_household_key, household_key, is_dealer_key, dealer_key};
+ghost use Rattle.agent_events.specs.Fields.{is_printable, is_key_byte, is_label, label, is_zone_text, zone, is_marked_key, is_household_key, household_key, is_dealer_key, dealer_key, is_operator_key};
 
 use class_terms::Label;
 use money_units::{Bytes, all_visible, begins};
@@ -80,6 +80,16 @@ impl ZoneText {
         ensures form { is_zone_text result.now ≡ true }
     {
         self.text.as_slice()
+    }
+
+    /// The bytes as a text, which they are: each is ASCII.
+    pub fn as_str(&self) -> &str
+        ensures { result.now ≡ self.now }
+    {
+        match str::from_utf8(self.as_slice()) {
+            Ok(text) => text,
+            Err(_) => unreachable!(),
+        }
     }
 }
 
@@ -207,14 +217,31 @@ fn all_key_bytes(text: &[u8]) -> bool
     text.iter().all(|byte| is_key_byte(*byte))
 }
 
+// A mark, then 8 to 56 small letters and digits.
+fn is_marked_key(mark: &[u8], key: &[u8]) -> bool
+    ensures { result ≡ is_marked_key mark.now key.now }
+{
+    begins(mark, key)
+        && mark.len() + 8 <= key.len()
+        && key.len() <= mark.len() + 56
+        && all_key_bytes(&key[mark.len()..])
+}
+
 fn is_household_key(key: &[u8]) -> bool
     ensures { result ≡ is_household_key key.now }
 {
-    begins(b"h-", key) && 10 <= key.len() && key.len() <= 58 && all_key_bytes(&key[2..])
+    is_marked_key(b"h-", key)
 }
 
 fn is_dealer_key(key: &[u8]) -> bool
     ensures { result ≡ is_dealer_key key.now }
 {
-    begins(b"d-", key) && 10 <= key.len() && key.len() <= 58 && all_key_bytes(&key[2..])
+    is_marked_key(b"d-", key)
+}
+
+/// Whether this is a key of an operator: `op-`, then 8 to 56 of a to z and 0 to 9.
+pub fn is_operator_key(key: &[u8]) -> bool
+    ensures { result ≡ is_operator_key key.now }
+{
+    is_marked_key(b"op-", key)
 }

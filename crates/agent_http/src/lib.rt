@@ -3,8 +3,8 @@
 
 mod script;
 
-pub use agent_events::KeyText;
+pub use agent_events::{KeyText, ScriptItem};
 pub use csv_rows::{Fields, append_line, records_of};
 pub use http_replies::{batch_bytes, fault_bytes, reply_bytes, reply_line};
 pub use http_stream::HttpFault;
-pub use script::{ScriptItem, ScriptItems};
+pub use script::ScriptItems;

@@ -1,29 +1,15 @@
 //! The items of a script.
-ghost use Rattle.std.specs.Prelude.{◌≡◌, drop, map, option_map, slice_get, IfOk, OnOk, Result};
+ghost use Rattle.std.specs.Prelude.{◌≡◌, drop, map, slice_get, IfOk, OnOk, Result};
 ghost use Rattle.csv.specs.Reading.{records, default_config, strip_bom};
 ghost use Rattle.agent_events.specs.Forms.{is_key_text};
 ghost use Rattle.agent_events.specs.Items.{asked_by, script_item};
-ghost use Rattle.agent_http.specs.Seen.{item_seen};
 
-use agent_events::{Asked, KeyText};
+use agent_events::{Asked, KeyText, ScriptItem};
 use csv_rows::{Fields, Records, slices_of};
-use money_units::{Moment, NoMemory, all_visible};
+use money_units::{NoMemory, all_visible};
 use request_fields::{FormFault, asked_by, moment_of};
 use std::alloc::Global;
 use std::marker::Model;
-
-/// An item of a script, whichever verb it asks.
-#[derive(Debug, Drop)]
-pub enum ScriptItem {
-    /// A record that has no moment, key and verb, or whose moment or key isn't in its form.
-    Bad,
-    Good {
-        moment: Moment,
-        key: KeyText,
-        /// What is asked, or the place of the first field that isn't in its form.
-        asked: Asked,
-    },
-}
 
 /// The items of a script that are still to come, which contracts see as the list of them: each record of the text is a moment, a
 /// key, a verb and the verb's fields. A record of fewer fields, or whose moment or key isn't in its form, is a bad item. No more
@@ -35,7 +21,8 @@ pub struct ScriptItems<'a> {
 
 impl<'a> Model for ScriptItems<'a> {
     ghost use Rattle.std.specs.Prelude.{List, map};
-    ghost use Rattle.agent_events.specs.Items.{ScriptItem, script_item};
+    ghost use Rattle.agent_events.specs.Items.{script_item};
+    ghost use Rattle.agent_events.specs.declared.item.ScriptItem.{ScriptItem};
 
     ghost Value = { List ScriptItem };
 
@@ -54,7 +41,7 @@ impl<'a> ScriptItems<'a> {
 
     /// The next item, or `None` exactly where none is to come. After `NoMemory` it may be passed over.
     pub fn next(&mut self, alloc: Global) -> Result<Option<ScriptItem>, NoMemory>
-        ensures next { IfOk result (λ item. option_map item_seen item ≡ slice_get self.old 0) }
+        ensures next { IfOk result (λ item. item ≡ slice_get self.old 0) }
         ensures rest { OnOk result (self.new ≡ drop 1 self.old) }
     {
         match self.records.next(alloc)? {
@@ -65,7 +52,7 @@ impl<'a> ScriptItems<'a> {
 }
 
 fn item_of(alloc: Global, row: &Fields) -> Result<ScriptItem, NoMemory>
-    ensures { IfOk result (λ item. item_seen item ≡ script_item row.now) }
+    ensures { IfOk result (λ item. item ≡ script_item row.now) }
 {
     let texts = slices_of(alloc, row.texts())?;
     if texts.len() < 3 {

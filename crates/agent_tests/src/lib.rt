@@ -2,6 +2,8 @@
 #![tactic(auto)]
 
 #[cfg(test)]
+mod calendars;
+#[cfg(test)]
 mod copies;
 #[cfg(test)]
 mod rows_of_events;

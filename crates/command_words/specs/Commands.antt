@@ -1,7 +1,6 @@
 -- The commands: which options each has, what the value of each has to be, and what command the words give.
-use Rattle.std.specs.Prelude.{ℕ, nat_le, Bool, ◌&&◌, ◌||◌, ◌==◌, if◌then◌else◌, List, [], ◌∷◌, length, drop, Option, Some, None, option_and_then, codes, bytes_eq}
-use Rattle.std.specs.List.{list_all}
-use Rattle.money_units.specs.ByteTexts.{begins}
+use Rattle.std.specs.Prelude.{ℕ, nat_le, ◌&&◌, ◌==◌, if◌then◌else◌, List, [], ◌∷◌, length, Option, Some, None, option_and_then, codes, bytes_eq}
+use Rattle.agent_events.specs.Fields.{operator_key}
 use Rattle.money_units.specs.Texts.{number}
 use Rattle.command_words.specs.Options.{Text, values_of}
 
@@ -39,17 +38,6 @@ serve_options = codes "store" ∷ codes "port" ∷ codes "key" ∷ codes "connec
 -- the path of a store isn't empty
 abbrev pub path : Text → Option Text
 path text = if length text == 0 then None else Some text
-
--- a key of an operator: `op-`, then 8 to 56 of a to z and 0 to 9
-abbrev pub is_key_byte : ℕ → Bool
-is_key_byte byte = (nat_le 48 byte && nat_le byte 57) || (nat_le 97 byte && nat_le byte 122)
-
-abbrev pub is_operator_key : Text → Bool
-is_operator_key key = begins (codes "op-") key
-    && (nat_le 11 (length key) && (nat_le (length key) 59 && list_all is_key_byte (drop 3 key)))
-
-abbrev pub operator_key : Text → Option Text
-operator_key text = if is_operator_key text then Some text else None
 
 -- a number in its one form, from `least` to `most`
 abbrev pub within : ℕ → ℕ → ℕ → Option ℕ

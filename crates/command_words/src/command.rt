@@ -1,15 +1,16 @@
 //! The commands, and what the value of each option has to be.
-ghost use Rattle.std.specs.Prelude.{◌≡◌, ◌&&◌, map, drop, option_map, option_and_then, bytes_eq, codes, IfOk};
-ghost use Rattle.std.specs.List.{list_all};
+ghost use Rattle.std.specs.Prelude.{◌≡◌, map, option_map, option_and_then, codes, IfOk};
 ghost use Rattle.std.specs.String.{string_bytes};
+ghost use Rattle.agent_events.specs.Fields.{operator_key};
 ghost use Rattle.clap.specs.Words.{first_value, found_of};
 ghost use Rattle.command_words.specs.Options.{values_of};
 ghost use Rattle.command_words.specs.Commands as spec;
 ghost use Rattle.command_words.specs.Views.{command_view};
 
 use crate::options::values_in;
+use agent_events::is_operator_key;
 use clap::ArgMatches;
-use money_units::{NoMemory, begins, read_number, same_bytes};
+use money_units::{NoMemory, read_number, same_bytes};
 use std::alloc::Global;
 
 /// A command with its options, as the words of the command line give it.
@@ -50,24 +51,6 @@ static LOAD: [&str; 3] = ["number", "households", "days"];
 
 static SERVE: [&str; 4] = ["store", "port", "key", "connections"];
 
-fn is_key_byte(byte: u8) -> bool
-    ensures { result ≡ spec.is_key_byte byte }
-{
-    (48 <= byte && byte <= 57) || (97 <= byte && byte <= 122)
-}
-
-fn all_key_bytes(text: &[u8]) -> bool
-    ensures { result ≡ list_all spec.is_key_byte text.now }
-{
-    text.iter().all(|byte| is_key_byte(*byte))
-}
-
-fn is_operator_key(key: &[u8]) -> bool
-    ensures { result ≡ spec.is_operator_key key.now }
-{
-    begins(b"op-", key) && 11 <= key.len() && key.len() <= 59 && all_key_bytes(&key[3..])
-}
-
 // The path of a store in the option `store`.
 fn path_in<'a>(given: &ArgMatches<'a>) -> Option<&'a str>
     ensures { option_map (λ text. text.now) result
@@ -80,7 +63,7 @@ fn path_in<'a>(given: &ArgMatches<'a>) -> Option<&'a str>
 // The operator's key in the option `key`.
 fn key_in<'a>(given: &ArgMatches<'a>) -> Option<&'a [u8]>
     ensures { option_map (λ text. text.now) result
-        ≡ option_and_then spec.operator_key (first_value (found_of given.now) (codes "key")) }
+        ≡ option_and_then operator_key (first_value (found_of given.now) (codes "key")) }
 {
     let key = given.get_str("key")?.as_bytes();
     if is_operator_key(key) {

@@ -5,6 +5,7 @@ use Rattle.std.specs.Result.{is_ok}
 use Rattle.std.specs.List.{list_all}
 use Rattle.std.proofs.lemmas.Bool.{and_parts, true≢false}
 use Rattle.std.proofs.lemmas.Bool.Decides.{leb_tells}
+use Rattle.agent_events.specs.Calendars.{calendar_checked, calendar_terms}
 use Rattle.fund_calendar.specs.declared.pricing_day.PricingDay.{PricingDay}
 use Rattle.fund_calendar.specs.Refusals.{RefusedAs}
 use Rattle.fund_calendar.specs.declared.calendar.CalendarFault.{CalendarFault}
@@ -12,7 +13,7 @@ use Rattle.fund_calendar.specs.Dates.{date_of, date_in_year, year_of, day_number
 use Rattle.fund_calendar.specs.PricingDays.{CalendarRefusal, CalendarTerms, Listing, new_calendar, days_on, first_above, first_not_rising, pricing_dates, days_from}
 use Rattle.fund_calendar.specs.ZoneRules.{instant, is_daylight, weekday_in_month}
 use Rattle.fund_calendar.specs.ZoneText.{read_zone}
-use Rattle.register_machine.specs.pricing.PublishedTable.{calendar_checked, calendar_terms, listing_by}
+use Rattle.register_machine.specs.pricing.PublishedTable.{listing_by}
 use Rattle.load_requests.specs.Opening.{load_calendar, load_listing}
 use Rattle.load_requests.specs.Days.{pricing_moment}
 

@@ -1,9 +1,9 @@
 //! The requests of the opening.
 ghost use Rattle.std.specs.Prelude.{◌≡◌, ◌≤◌, ◌+◌, ◌/◌, IfOk};
+ghost use Rattle.agent_events.specs.Calendars.{calendar_checked};
 ghost use Rattle.money_units.specs.Texts.{last_digit};
 ghost use Rattle.fund_calendar.specs.declared.calendar.CalendarFault.TheVariants as fault_of;
 ghost use Rattle.fund_calendar.specs.Refusals.{RefusedAs};
-ghost use Rattle.register_machine.specs.pricing.PublishedTable.{calendar_checked};
 ghost use Rattle.load_requests.specs.Opening as spec;
 ghost use Rattle.load_requests.specs.Requests as spec_requests;
 

@@ -3,6 +3,7 @@ use Rattle.std.proofs.Common.{AllPairs, Bool, Contains, Err, List, None, Ok, Opt
 use Rattle.std.proofs.lemmas.Bool.{and_parts, eqb-true}
 use Rattle.std.specs.List.{list_any}
 use Rattle.std.specs.Prelude.{not, option_and_then}
+use Rattle.agent_events.specs.Calendars.{calendar_checked}
 use Rattle.agent_events.specs.Events.{Event, request_of}
 use Rattle.agent_events.specs.declared.event.EventKind.{EventKind}
 use Rattle.agent_events.specs.declared.reply.Refusal.{Refusal}
@@ -37,7 +38,7 @@ use Rattle.register_machine.specs.journal.Choices.{first_some}
 use Rattle.register_machine.specs.journal.Journals.{Journal, with_event}
 use Rattle.register_machine.specs.journal.Kinds.{class_numbered, classes_of}
 use Rattle.register_machine.specs.journal.Lawful.{IsLawful}
-use Rattle.register_machine.specs.pricing.PublishedTable.{calendar_checked, listing_by, table_of}
+use Rattle.register_machine.specs.pricing.PublishedTable.{listing_by, table_of}
 use Rattle.register_machine.specs.rules.InOrder.{Rule, broken_rule, first_rules}
 use Rattle.register_machine.specs.rules.NamedThings.{lists_at}
 use Rattle.register_machine.specs.rules.Situations.{no_right}

@@ -1,5 +1,6 @@
 -- What an event changes in the price book: the calendar that it brings, the room that it takes, and what it asks of the table.
 use Rattle.std.specs.Prelude.{None, Ok, Option, Some, is_some, length, true, ℕ, ◌<◌, ◌≡◌, ◌≤◌}
+use Rattle.agent_events.specs.Calendars.{calendar_checked}
 use Rattle.agent_events.specs.declared.event.EventKind.{EventKind}
 use Rattle.agent_events.specs.declared.request.FixPriceForm.{FixPriceForm}
 use Rattle.agent_events.specs.declared.request.SheetForm.{SheetForm}
@@ -8,7 +9,7 @@ use Rattle.forward_price.specs.Turns.{expected_of, wrong_class}
 use Rattle.fund_calendar.specs.PricingDays.{Listing}
 use Rattle.journal_tables.specs.TablesOfJournals.{patch_by, patch_on}
 use Rattle.register_laws.specs.OneEventMore.{with_price_fixed}
-use Rattle.register_machine.specs.pricing.PublishedTable.{calendar_checked, listing_of}
+use Rattle.register_machine.specs.pricing.PublishedTable.{listing_of}
 
 -- the pricing days of a calendar that an event brings
 abbrev pub listing_brought : EventKind → Option Listing

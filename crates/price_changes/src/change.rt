@@ -1,8 +1,9 @@
 //! What an event needs before it changes the price book: the days of a calendar, and room.
 ghost use Rattle.std.specs.Prelude.{◌≡◌, ◌≤◌, Ok, Some, IfOk, OnOk, length};
+ghost use Rattle.agent_events.specs.Calendars.{calendar_checked};
 ghost use Rattle.fund_calendar.specs.PricingDays.{Listing};
 ghost use Rattle.price_changes.specs.Changes.{HasGoodCalendar, HasRoomFor, listing_brought};
-ghost use Rattle.register_machine.specs.pricing.PublishedTable.{calendar_checked, listing_of};
+ghost use Rattle.register_machine.specs.pricing.PublishedTable.{listing_of};
 
 use agent_events::{CalendarForm, EventKind, SheetForm};
 use forward_price::PriceBook;
@@ -64,30 +65,12 @@ fn calendar_brought(alloc: Global, kind: &EventKind) -> Result<Option<Calendar>,
     }
 }
 
-fn zone_text(form: &CalendarForm) -> &str
-    ensures { result.now ≡ form.now.zone }
-{
-    match str::from_utf8(form.zone.as_slice()) {
-        Ok(text) => text,
-        Err(_) => unreachable!(),
-    }
-}
-
 // The calendar of a form that can be listed.
 fn listed(alloc: Global, form: &CalendarForm) -> Result<Calendar, NoMemory>
     requires { calendar_checked form.now ≡ Ok (listing_of form.now) }
     ensures { IfOk result (λ calendar. calendar ≡ listing_of form.now) }
 {
-    let made = Calendar::new(
-        alloc,
-        form.calendar.number(),
-        zone_text(form),
-        form.minute.minutes(),
-        form.first,
-        form.last,
-        form.holidays.as_slice(),
-    );
-    match made {
+    match form.listed(alloc) {
         Ok(calendar) => Ok(calendar),
         Err(CalendarFault::NoMemory) => Err(NoMemory),
         Err(CalendarFault::BadZone) => unreachable!(),

@@ -6,7 +6,8 @@ use Rattle.std.specs.List.{list_all}
 use Rattle.agent_events.specs.Events.{fits_row, order_request, request_of}
 use Rattle.agent_events.specs.Fields.{moment}
 use Rattle.agent_events.specs.Forms.{field, is_key_text}
-use Rattle.agent_events.specs.Items.{ScriptItem, asked_by, script_item, script_item_at}
+use Rattle.agent_events.specs.Items.{asked_by, script_item, script_item_at}
+use Rattle.agent_events.specs.declared.item.ScriptItem.{ScriptItem}
 use Rattle.agent_events.specs.VerbForms.{Asked}
 use Rattle.agent_events.specs.declared.event.EventKind.{EventKind}
 use Rattle.agent_events.specs.declared.event.Source.{Source}

@@ -3,7 +3,7 @@ use Rattle.std.proofs.Common.{Bool, Err, List, Ok, [], ap, append-nil, cond, fal
 use Rattle.std.proofs.lemmas.Bool.{ltb-false}
 use Rattle.std.proofs.lemmas.List.Sums.{fold-append}
 use Rattle.agent_events.specs.Events.{Event}
-use Rattle.agent_events.specs.Items.{ScriptItem}
+use Rattle.agent_events.specs.declared.item.ScriptItem.{ScriptItem}
 use Rattle.agent_events.specs.VerbForms.{Asked}
 use Rattle.agent_events.specs.declared.reply.Refusal.{Refusal}
 use Rattle.agent_events.specs.declared.request.Request.{Request}

@@ -3,7 +3,7 @@ use Rattle.std.proofs.Common.{Bool, List, None, Option, Some, [], ap, append-nil
 use Rattle.std.proofs.lemmas.Bool.{eq-eqb, eqb-true, not-false, true≢false}
 use Rattle.std.specs.Option.{option_map_or, option_or}
 use Rattle.agent_events.specs.Events.{Event, event_of, order_request, request_of}
-use Rattle.agent_events.specs.Items.{ScriptItem}
+use Rattle.agent_events.specs.declared.item.ScriptItem.{ScriptItem}
 use Rattle.agent_events.specs.declared.event.EventKind.{EventKind}
 use Rattle.agent_events.specs.declared.event.Source.{Source}
 use Rattle.agent_events.specs.declared.order.Bearer.{Bearer}

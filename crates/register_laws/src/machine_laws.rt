@@ -3,7 +3,7 @@ ghost use Rattle.std.specs.Prelude.{ℕ, Bool, List, All};
 ghost use Rattle.agent_events.specs.declared.reply.Refusal.{Refusal};
 ghost use Rattle.agent_events.specs.declared.request.Request.{Request};
 ghost use Rattle.agent_events.specs.Events.{Event};
-ghost use Rattle.agent_events.specs.Items.{ScriptItem};
+ghost use Rattle.agent_events.specs.declared.item.ScriptItem.{ScriptItem};
 ghost use Rattle.register_machine.specs.journal.Lawful.{IsLawful};
 ghost use Rattle.register_machine.specs.pricing.CorrectedBook.{Book};
 ghost use Rattle.register_machine.specs.replay.Replay.{priced_orders};

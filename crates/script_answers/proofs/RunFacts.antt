@@ -5,7 +5,7 @@ use Rattle.std.specs.Result.{IsErrAnd, is_err}
 use Rattle.std.specs.Io.KnownBytes.{Appends}
 use Rattle.std.proofs.KnownBytes.{Appends-trans}
 use Rattle.script_answers.specs.Runs.{AreAnswered, CutsShort, IsCutShort, OfFront, answer_behind, line_behind, run_at, run_over}
-use Rattle.agent_events.specs.Items.{ScriptItem}
+use Rattle.agent_events.specs.declared.item.ScriptItem.{ScriptItem}
 use Rattle.agent_keeper.specs.Content.{Content}
 use Rattle.agent_events.specs.declared.reply.Refusal.{Refusal}
 use Rattle.agent_events.specs.VerbForms.{Asked}

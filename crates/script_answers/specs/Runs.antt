@@ -1,12 +1,10 @@
 -- A run of the register machine over the items of a script from a journal on, and what is answered and kept where it ends.
-use Rattle.std.specs.Prelude.{Err, List, Ok, Option, Result, Some, [], length, map, slice_get, take, ℕ, ◌++◌, ◌∷◌, ◌≡◌, ◌≤◌}
+use Rattle.std.specs.Prelude.{Err, List, Ok, Option, Result, Some, [], length, slice_get, take, ℕ, ◌++◌, ◌∷◌, ◌≡◌, ◌≤◌}
 use Rattle.std.specs.Io.KnownBytes.{Appends}
 use Rattle.script_answers.specs.declared.answering.AnswerFault.{AnswerFault}
 use Rattle.script_answers.specs.declared.answering.AnswerFault.TheVariants.{Keeper, NoMemory, Write}
 use Rattle.agent_edge.specs.Counts.{Rose}
-use Rattle.agent_events.specs.Items.{ScriptItem}
-use Rattle.agent_http.specs.Seen.{item_seen}
-use Rattle.agent_http.specs.declared.script.ScriptItem.{ScriptItem as ItemRead}
+use Rattle.agent_events.specs.declared.item.ScriptItem.{ScriptItem}
 use Rattle.agent_keeper.specs.Calls.{Rose as KeeperRose}
 use Rattle.agent_keeper.specs.Content.{Content}
 use Rattle.register_desk.specs.Rows.{TellsRowsOf}
@@ -14,10 +12,6 @@ use Rattle.register_machine.specs.journal.Journals.{Journal}
 use Rattle.register_machine.specs.pricing.PublishedTable.{table_of}
 use Rattle.register_machine.specs.run.Answers.{Answer}
 use Rattle.register_machine.specs.run.Scripts.{Run, item_answer, reply_line, run_from}
-
--- the items of a script as they were read
-abbrev pub items_seen : List ItemRead → List ScriptItem
-items_seen items = map item_seen items
 
 -- the run at a journal, before its first item
 abbrev pub run_at : Journal → Run

@@ -1,11 +1,10 @@
 //! The answers to a script: each item gets one line, behind what is kept.
-ghost use Rattle.std.specs.Prelude.{◌≡◌, ◌≤◌, ◌++◌, Err, ℕ, drop, nat_lt, option_map, slice_get, IfOk, IsTrue, OnErr, OnOk};
+ghost use Rattle.std.specs.Prelude.{◌≡◌, ◌≤◌, ◌++◌, Err, ℕ, drop, nat_lt, slice_get, IfOk, IsTrue, OnErr, OnOk};
 ghost use Rattle.script_answers.specs.Runs.{CountsEnds, EndsAs, answer_behind};
 ghost use Rattle.script_answers.specs.declared.answering.AnswerFault.{AnswerFault as Fault};
 ghost use Rattle.script_answers.specs.declared.answering.AnswerFault.TheVariants as fault;
-ghost use Rattle.agent_events.specs.Items.{ScriptItem as ItemSeen};
+ghost use Rattle.agent_events.specs.declared.item.ScriptItem.{ScriptItem as Item};
 ghost use Rattle.agent_events.specs.declared.reply.Reply.{Reply as Said};
-ghost use Rattle.agent_http.specs.Seen.{item_seen};
 ghost use Rattle.agent_keeper.specs.Calls.{Counts};
 ghost use Rattle.register_desk.specs.desk_answers.Answered.{IsCaller, events_of};
 ghost use Rattle.register_desk.specs.Rows.{TellsRowsOf};
@@ -111,10 +110,10 @@ fn answer_at<K: Keeper, L: StepLedger>(
     requires told { TellsRowsOf (K.tells keeper.old) desk.old.book.journal }
     ensures line { IfOk result (λ line. line.items
         ≡ run.reply_line (answer_behind operator.now desk.old.book.journal
-        (ItemSeen.Good moment key.now asked.now)).reply) }
+        (Item.Good moment key.now asked.now)).reply) }
     ensures journal { OnOk result (desk.new.book.journal ≡ desk.old.book.journal
         ++ (answer_behind operator.now desk.old.book.journal
-        (ItemSeen.Good moment key.now asked.now)).events) }
+        (Item.Good moment key.now asked.now)).events) }
     ensures err { OnErr result (desk.new.book.journal ≡ desk.old.book.journal) }
     ensures told { TellsRowsOf (K.tells keeper.new) desk.new.book.journal }
     ensures attached { IsTrue (K.is_attached keeper.new) }
@@ -146,11 +145,10 @@ fn answer_item<K: Keeper, L: StepLedger>(
     requires attached { IsTrue (K.is_attached keeper.old) }
     requires told { TellsRowsOf (K.tells keeper.old) desk.old.book.journal }
     ensures line { IfOk result (λ line. line.items
-        ≡ run.reply_line (answer_behind operator.now desk.old.book.journal
-        (item_seen item.now)).reply) }
+        ≡ run.reply_line (answer_behind operator.now desk.old.book.journal item.now).reply) }
     ensures journal { OnOk result (desk.new.book.journal
         ≡ desk.old.book.journal ++
-        (answer_behind operator.now desk.old.book.journal (item_seen item.now)).events) }
+        (answer_behind operator.now desk.old.book.journal item.now).events) }
     ensures err { OnErr result (desk.new.book.journal ≡ desk.old.book.journal) }
     ensures told { TellsRowsOf (K.tells keeper.new) desk.new.book.journal }
     ensures attached { IsTrue (K.is_attached keeper.new) }
@@ -189,11 +187,10 @@ fn answer_read<K: Keeper, L: StepLedger>(
     requires attached { IsTrue (K.is_attached keeper.old) }
     requires told { TellsRowsOf (K.tells keeper.old) desk.old.book.journal }
     ensures line { IfOk result (λ line. line.items
-        ≡ run.reply_line
-        (answer_behind operator.now desk.old.book.journal (item_seen item)).reply) }
+        ≡ run.reply_line (answer_behind operator.now desk.old.book.journal item).reply) }
     ensures journal { OnOk result (desk.new.book.journal
         ≡ desk.old.book.journal ++
-        (answer_behind operator.now desk.old.book.journal (item_seen item)).events) }
+        (answer_behind operator.now desk.old.book.journal item).events) }
     ensures err { OnErr result (desk.new.book.journal ≡ desk.old.book.journal) }
     ensures told { TellsRowsOf (K.tells keeper.new) desk.new.book.journal }
     ensures attached { IsTrue (K.is_attached keeper.new) }
@@ -207,7 +204,7 @@ fn answer_read<K: Keeper, L: StepLedger>(
 
 // The next item of a script.
 fn next_item(alloc: Global, items: &mut ScriptItems) -> Result<Option<ScriptItem>, AnswerFault>
-    ensures next { IfOk result (λ item. option_map item_seen item ≡ slice_get items.old 0) }
+    ensures next { IfOk result (λ item. item ≡ slice_get items.old 0) }
     ensures rest { OnOk result (items.new ≡ drop 1 items.old) }
     ensures fault { (why : Fault) → result ≡ Err why → why ≡ fault.NoMemory }
 {

@@ -1,5 +1,6 @@
 -- Refusal 2, behind the form: a calendar's zone, dates and moments, and the loads of a class.
 use Rattle.std.specs.Prelude.{Err, None, Ok, Option, Result, Some, map}
+use Rattle.agent_events.specs.Calendars.{calendar_checked}
 use Rattle.agent_events.specs.declared.reply.Refusal.{Refusal}
 use Rattle.agent_events.specs.declared.request.ClassForm.{ClassForm}
 use Rattle.agent_events.specs.declared.request.Request.{Request}
@@ -7,7 +8,6 @@ use Rattle.class_terms.specs.Checking.{term_fault}
 use Rattle.class_terms.specs.declared.faults.TermFault.{TermFault}
 use Rattle.class_terms.specs.declared.form.TermsForm.{TermsForm}
 use Rattle.fund_calendar.specs.PricingDays.{CalendarRefusal, Listing}
-use Rattle.register_machine.specs.pricing.PublishedTable.{calendar_checked}
 use Rattle.register_machine.specs.rules.Situations.{Situation}
 use Rattle.class_terms.specs.declared.faults.TermFault.TheVariants as fault
 

@@ -2,7 +2,8 @@
 -- line in turn. The moments of the items are their own, and none may be smaller than the journal's last.
 use Rattle.std.specs.Prelude.{Err, List, Ok, Result, [], ℕ, ◌++◌, flat_map, fold, if◌then◌else◌, map, nat_lt}
 use Rattle.agent_events.specs.AnswerTexts.{answer_texts}
-use Rattle.agent_events.specs.Items.{ScriptItem, batch_lines, script_item}
+use Rattle.agent_events.specs.Items.{batch_lines, script_item}
+use Rattle.agent_events.specs.declared.item.ScriptItem.{ScriptItem}
 use Rattle.agent_events.specs.declared.reply.Refusal.{Refusal}
 use Rattle.agent_events.specs.declared.reply.Reply.{Reply}
 use Rattle.csv.specs.Reading.{default_config, records, strip_bom}

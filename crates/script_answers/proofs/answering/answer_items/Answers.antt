@@ -1,6 +1,5 @@
-use Rattle.std.proofs.Common.{Err, [], ap, append-nil, option_map, subst, sym, ◌∙◌, ◌≡◌}
+use Rattle.std.proofs.Common.{Err, [], ap, append-nil, subst, sym, ◌∙◌, ◌≡◌}
 use Rattle.std.specs.Result.{is_err}
-use Rattle.agent_http.specs.Seen.{item_seen}
 use Rattle.register_desk.specs.Rows.{TellsRowsOf}
 use Rattle.script_answers.proofs.RunFacts.{SoFar, err-is, grows-on, next-cut, ok-not-err, on-err-of, on-ok-of, so-far-answered, so-far-next, so-far-none}
 use Rattle.script_answers.specs.Runs.{EndsAs}
@@ -21,10 +20,10 @@ loop-item-init g c = record {
 pub returns-then-is_err-clause-ends : goal.returns-then-is_err-clause-ends
 returns-then-is_err-clause-ends g c =
     let failed = sym c.is_err.ensures.value ∙ c.if-is_err.true in
-    next-cut c.args.operator.now c.args.desk.now.book.journal c.args.items.now c.loop-item.items (item_seen c.in-Some.item)
+    next-cut c.args.operator.now c.args.desk.now.book.journal c.args.items.now c.loop-item.items c.in-Some.item
     c.loop-item.desk.book.journal c.answer_read.new.desk.book.journal c.deref.result.now (g.K.Keeper.tells c.answer_read.new.keeper)
     (g.O.Sink.contents c.args.out.now) (g.O.Sink.contents c.loop-item.out) (g.O.Sink.contents c.write_whole.new.out)
-    c.loop-item.invariant.so_far (sym c.in_ok-item.ensures.next ∙ ap (option_map item_seen) c.in-Some.is) c.in-Ok.ensures.journal
+    c.loop-item.invariant.so_far (sym c.in_ok-item.ensures.next ∙ c.in-Some.is) c.in-Ok.ensures.journal
     (c.deref.ensures.value ∙ c.in-Ok.ensures.line) c.in-Ok.ensures.told
     (on-err-of c.write_whole.result failed c.write_whole.ensures.front)
 
@@ -60,9 +59,9 @@ loop-item-preserved g c =
     record {
       so_far = subst (λ left. SoFar c.args.operator.now opened c.args.items.now left c.answer_read.new.desk.book.journal (g.O.Sink.contents c.args.out.now) (g.O.Sink.contents c.write_whole.new.out))
           (sym c.in_ok-item.ensures.rest)
-          (so-far-next c.args.operator.now opened c.args.items.now c.loop-item.items (item_seen c.in-Some.item) journal c.answer_read.new.desk.book.journal c.deref.result.now
+          (so-far-next c.args.operator.now opened c.args.items.now c.loop-item.items c.in-Some.item journal c.answer_read.new.desk.book.journal c.deref.result.now
           (g.O.Sink.contents c.args.out.now) (g.O.Sink.contents c.loop-item.out) (g.O.Sink.contents c.write_whole.new.out)
-          c.loop-item.invariant.so_far (sym c.in_ok-item.ensures.next ∙ ap (option_map item_seen) c.in-Some.is) c.in-Ok.ensures.journal
+          c.loop-item.invariant.so_far (sym c.in_ok-item.ensures.next ∙ c.in-Some.is) c.in-Ok.ensures.journal
           (c.deref.ensures.value ∙ c.in-Ok.ensures.line) (on-ok-of c.write_whole.result wrote c.write_whole.ensures.all));
       told = c.in-Ok.ensures.told;
       attached = c.in-Ok.ensures.attached;

@@ -1,2 +1,0 @@
--- what an item of a script is in the definitions
-pub mod Seen
