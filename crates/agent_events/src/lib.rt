@@ -5,6 +5,7 @@
 //! print replies are proved to follow them.
 #![tactic(auto)]
 
+mod calendars;
 mod checkpoint;
 mod event;
 mod fields;
@@ -20,6 +21,7 @@ mod totals;
 mod trade;
 mod verdict;
 
+pub use crate::calendars::{calendar_of, day_digits};
 pub use crate::checkpoint::{LetterRow, LotRow, LotRows, PositionRow, PositionRows, StateRow};
 pub use crate::event::{Event, EventKind, Placed, Source};
 pub use crate::fields::{

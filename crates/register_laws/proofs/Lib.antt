@@ -77,4 +77,3 @@ pub mod HouseholdsIsolated
 pub mod BrokenByParts
 pub mod SheetsClimb
 pub mod Unreached
-pub mod ZoneTexts
