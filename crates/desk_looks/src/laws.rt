@@ -28,14 +28,12 @@ pub fn parts_trace_what_all_trades_trace()
 
 /// Every household's part of a lawful journal's day is as the looks want it: its positions stand by account and class, its
 /// trades never fall by sheet, and each of its orders that stands has its trade on the sheet of its next price.
-#[tactic(auto, using(crate::proofs::FitForLooks::fit_for_looks))]
 pub fn parts_of_lawful_journals_are_fit_for_looks()
     ensures { (journal : Journal) (household : ℕ) → LawfulIsFitForLooks journal household }
 {}
 
 /// The classes of a lawful journal come by rising number, and each in which an account of a household has a position is one of
 /// them: so they are what a look at the account goes over.
-#[tactic(auto, using(crate::proofs::ClassesListed::lists_holdings))]
 pub fn classes_of_lawful_journals_list_holdings()
     ensures { (journal : Journal) (household : ℕ) → LawfulListsHoldings journal household }
 {}
