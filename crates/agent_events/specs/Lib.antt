@@ -1,7 +1,6 @@
 pub mod Fields
 pub mod Forms
 pub mod Events
-pub mod Calendars
 pub mod Contents
 pub mod VerbForms
 pub mod OrderForms

@@ -5,7 +5,6 @@
 //! print replies are proved to follow them.
 #![tactic(auto)]
 
-mod calendars;
 mod checkpoint;
 mod event;
 mod fields;
@@ -21,7 +20,6 @@ mod totals;
 mod trade;
 mod verdict;
 
-pub use crate::calendars::{calendar_of, day_digits};
 pub use crate::checkpoint::{LetterRow, LotRow, LotRows, PositionRow, PositionRows, StateRow};
 pub use crate::event::{Event, EventKind, Placed, Source};
 pub use crate::fields::{

@@ -81,16 +81,6 @@ impl ZoneText {
     {
         self.text.as_slice()
     }
-
-    /// The text, which is ASCII.
-    pub fn as_str(&self) -> &str
-        ensures { result.now ≡ self.now }
-    {
-        match str::from_utf8(self.as_slice()) {
-            Ok(text) => text,
-            Err(_) => unreachable!(),
-        }
-    }
 }
 
 /// The key of a household: `h-`, then 8 to 56 of a to z and 0 to 9.

@@ -1,10 +1,9 @@
 //! Words of a line: each call appends a space and a word, or the name of a field and its value as two words.
 ghost use Rattle.std.specs.Prelude.{◌≡◌, ◌++◌, ◌∷◌, [], OnOk};
-ghost use Rattle.money_units.specs.Texts.{money_text, number_text, shares_text};
+ghost use Rattle.money_units.specs.Texts.{last_digit, money_text, number_text, shares_text};
 ghost use Rattle.agent_events.specs.AnswerTexts.{day_text};
 ghost use Rattle.holder_statements.specs.Words.{with_words};
 
-use agent_events::day_digits;
 use fund_calendar::Day;
 use money_units::{NoMemory, print_cents, print_mils, print_number};
 
@@ -72,4 +71,31 @@ pub(crate) fn end_line(out: &mut Vec<u8>) -> Result<(), NoMemory>
 {
     out.push(b'\n')?;
     Ok(())
+}
+
+fn digit(number: u16) -> u8
+    ensures { result ≡ last_digit number }
+{
+    b'0' + (number % 10) as u8
+}
+
+// A date `YYYY-MM-DD`.
+fn day_digits(day: &Day) -> [u8; 10]
+    ensures { result ≡ day_text day.now }
+{
+    let year = day.year();
+    let month = day.month() as u16;
+    let date = day.day() as u16;
+    [
+        digit(year / 1000),
+        digit(year / 100),
+        digit(year / 10),
+        digit(year),
+        b'-',
+        digit(month / 10),
+        digit(month),
+        b'-',
+        digit(date / 10),
+        digit(date),
+    ]
 }

@@ -4,12 +4,11 @@ ghost use Rattle.money_units.specs.Texts.{money_text, number_text, shares_text};
 ghost use Rattle.agent_events.specs.AnswerTexts.{answer_texts, books_texts, day_text, order_texts, refusal_values, ok_answer, state_text, trace_texts};
 
 use crate::reply_texts::{
-    class_books_of, dealer_books_of, gains_of, money_of, number_of, positions_of, shares_of,
-    signed_of,
+    class_books_of, day_digits, dealer_books_of, gains_of, money_of, number_of, positions_of,
+    shares_of, signed_of,
 };
 use agent_events::{
     BooksReply, CancelForm, CloseForm, OrderReply, OrderState, Refusal, Reply, TraceReply,
-    day_digits,
 };
 use csv_rows::{Fields, push_field};
 use money_units::NoMemory;

@@ -1,10 +1,11 @@
 //! The texts of which replies are made: numbers, money, shares, dates and lists.
 ghost use Rattle.std.specs.Prelude.{◌≡◌, map, IfOk};
-ghost use Rattle.money_units.specs.Texts.{money_text, number_text, shares_text, signed_text};
-ghost use Rattle.agent_events.specs.AnswerTexts.{class_books_text, dealer_books_text, gain_text, list_text, position_text};
+ghost use Rattle.money_units.specs.Texts.{last_digit, money_text, number_text, shares_text, signed_text};
+ghost use Rattle.agent_events.specs.AnswerTexts.{class_books_text, day_text, dealer_books_text, gain_text, list_text, position_text};
 
 use agent_events::{ClassBooks, ClassGain, DealerBooks, PositionText};
 use csv_rows::Fields;
+use fund_calendar::Day;
 use money_units::{Bytes, NoMemory, print_cents, print_mils, print_number, print_signed};
 use std::alloc::Global;
 
@@ -38,6 +39,33 @@ pub(crate) fn signed_of(alloc: Global, cents: i128) -> Result<Vec<u8>, NoMemory>
     let mut text = Vec::new(alloc);
     print_signed(cents, &mut text)?;
     Ok(text)
+}
+
+fn digit(number: u16) -> u8
+    ensures { result ≡ last_digit number }
+{
+    b'0' + (number % 10) as u8
+}
+
+// A date `YYYY-MM-DD`.
+pub(crate) fn day_digits(day: &Day) -> [u8; 10]
+    ensures { result ≡ day_text day.now }
+{
+    let year = day.year();
+    let month = day.month() as u16;
+    let date = day.day() as u16;
+    [
+        digit(year / 1000),
+        digit(year / 100),
+        digit(year / 10),
+        digit(year),
+        b'-',
+        digit(month / 10),
+        digit(month),
+        b'-',
+        digit(date / 10),
+        digit(date),
+    ]
 }
 
 // ---- lists, their items with one space between them

@@ -12,8 +12,7 @@ use Rattle.fund_calendar.specs.Dates.{date_of, date_in_year, year_of, day_number
 use Rattle.fund_calendar.specs.PricingDays.{CalendarRefusal, CalendarTerms, Listing, new_calendar, days_on, first_above, first_not_rising, pricing_dates, days_from}
 use Rattle.fund_calendar.specs.ZoneRules.{instant, is_daylight, weekday_in_month}
 use Rattle.fund_calendar.specs.ZoneText.{read_zone}
-use Rattle.agent_events.specs.Calendars.{calendar_terms}
-use Rattle.register_machine.specs.pricing.PublishedTable.{calendar_checked, listing_by}
+use Rattle.register_machine.specs.pricing.PublishedTable.{calendar_checked, calendar_terms, listing_by}
 use Rattle.load_requests.specs.Opening.{load_calendar, load_listing}
 use Rattle.load_requests.specs.Days.{pricing_moment}
 

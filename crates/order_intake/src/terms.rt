@@ -5,18 +5,37 @@ ghost use Rattle.register_machine.specs.pricing.PublishedTable.{calendar_checked
 ghost use Rattle.register_machine.specs.rules.Situations.{Situation};
 ghost use Rattle.register_machine.specs.rules.Terms.{bad_terms, calendar_place};
 
-use agent_events::{CalendarForm, ClassForm, Refusal, Request, calendar_of};
+use agent_events::{CalendarForm, ClassForm, Refusal, Request};
 use class_terms::{TermFault, Terms, TermsForm, check};
 use event_copies::Copied;
-use fund_calendar::CalendarFault;
+use fund_calendar::{Calendar, CalendarFault};
 use money_units::{Cents, List, NoMemory};
 use std::alloc::Global;
+
+/// The text of a calendar's zone.
+fn zone_text(form: &CalendarForm) -> &str
+    ensures { result.now ≡ form.now.zone }
+{
+    match str::from_utf8(form.zone.as_slice()) {
+        Ok(text) => text,
+        Err(_) => unreachable!(),
+    }
+}
 
 /// The place of what makes no calendar.
 fn calendar_place(alloc: Global, form: &CalendarForm) -> Result<Option<Refusal>, NoMemory>
     ensures { IfOk result (λ place. place ≡ calendar_place (calendar_checked form.now)) }
 {
-    match calendar_of(alloc, form) {
+    let made = Calendar::new(
+        alloc,
+        form.calendar.number(),
+        zone_text(form),
+        form.minute.minutes(),
+        form.first,
+        form.last,
+        form.holidays.as_slice(),
+    );
+    match made {
         Ok(_) => Ok(None),
         Err(CalendarFault::BadZone) => Ok(Some(Refusal::BadForm(2))),
         Err(CalendarFault::BadSpan) => Ok(Some(Refusal::BadForm(5))),

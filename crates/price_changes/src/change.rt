@@ -4,7 +4,7 @@ ghost use Rattle.fund_calendar.specs.PricingDays.{Listing};
 ghost use Rattle.price_changes.specs.Changes.{HasGoodCalendar, HasRoomFor, listing_brought};
 ghost use Rattle.register_machine.specs.pricing.PublishedTable.{calendar_checked, listing_of};
 
-use agent_events::{CalendarForm, EventKind, SheetForm, calendar_of};
+use agent_events::{CalendarForm, EventKind, SheetForm};
 use forward_price::PriceBook;
 use fund_calendar::{Calendar, CalendarFault};
 use money_units::NoMemory;
@@ -64,12 +64,30 @@ fn calendar_brought(alloc: Global, kind: &EventKind) -> Result<Option<Calendar>,
     }
 }
 
+fn zone_text(form: &CalendarForm) -> &str
+    ensures { result.now ≡ form.now.zone }
+{
+    match str::from_utf8(form.zone.as_slice()) {
+        Ok(text) => text,
+        Err(_) => unreachable!(),
+    }
+}
+
 // The calendar of a form that can be listed.
 fn listed(alloc: Global, form: &CalendarForm) -> Result<Calendar, NoMemory>
     requires { calendar_checked form.now ≡ Ok (listing_of form.now) }
     ensures { IfOk result (λ calendar. calendar ≡ listing_of form.now) }
 {
-    match calendar_of(alloc, form) {
+    let made = Calendar::new(
+        alloc,
+        form.calendar.number(),
+        zone_text(form),
+        form.minute.minutes(),
+        form.first,
+        form.last,
+        form.holidays.as_slice(),
+    );
+    match made {
         Ok(calendar) => Ok(calendar),
         Err(CalendarFault::NoMemory) => Err(NoMemory),
         Err(CalendarFault::BadZone) => unreachable!(),

@@ -77,3 +77,4 @@ pub mod HouseholdsIsolated
 pub mod BrokenByParts
 pub mod SheetsClimb
 pub mod Unreached
+pub mod ZoneTexts

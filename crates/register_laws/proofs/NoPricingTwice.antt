@@ -7,7 +7,6 @@ use Rattle.std.proofs.lemmas.List.Elements.{filter_map-append}
 use Rattle.std.proofs.lemmas.List.Folds.{list_any-append}
 use Rattle.std.specs.List.{cons_option, list_any}
 use Rattle.std.specs.Option.{option_map_or}
-use Rattle.agent_events.specs.Calendars.{calendar_terms}
 use Rattle.agent_events.specs.Events.{Event, request_of}
 use Rattle.agent_events.specs.Fields.{pair}
 use Rattle.agent_events.specs.declared.event.EventKind.{EventKind}
@@ -38,7 +37,7 @@ use Rattle.register_machine.specs.journal.Journals.{Journal}
 use Rattle.register_machine.specs.journal.Kinds.{calendar_in, calendars_of, closure_in, closures_of, each_in, price_fix_in, sheet_in}
 use Rattle.register_machine.specs.journal.Lawful.{IsLawful}
 use Rattle.register_machine.specs.pricing.CorrectedPrices.{sheet_as_corrected}
-use Rattle.register_machine.specs.pricing.PublishedTable.{empty_table, listing_by, listing_of, table_after, table_behind, table_by, table_of}
+use Rattle.register_machine.specs.pricing.PublishedTable.{calendar_terms, empty_table, listing_by, listing_of, table_after, table_behind, table_by, table_of}
 use Rattle.agent_events.specs.declared.verdict.Caller.{Caller}
 use Rattle.register_machine.specs.rules.InOrder.{Rule, broken_rule}
 use Rattle.register_machine.specs.rules.NamedThings.{has_calendar, has_day, none_such, things_named}

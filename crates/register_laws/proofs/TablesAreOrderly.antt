@@ -10,7 +10,6 @@ use Rattle.std.proofs.lemmas.List.Sums.{count_by-le-length, length-filter, sum_b
 use Rattle.std.specs.List.{list_any}
 use Rattle.std.specs.Option.{option_map_or}
 use Rattle.std.specs.Prelude.{AllPairs}
-use Rattle.agent_events.specs.Calendars.{calendar_terms}
 use Rattle.agent_events.specs.declared.event.EventKind.{EventKind}
 use Rattle.agent_events.specs.Events.{Event, request_of}
 use Rattle.agent_events.specs.declared.order.OrderRow.{OrderRow}
@@ -52,7 +51,7 @@ use Rattle.register_machine.specs.journal.Kinds.{class_in, class_numbered, class
 use Rattle.register_machine.specs.journal.Lawful.{IsLawful}
 use Rattle.register_machine.specs.pricing.CorrectedPrices.{price_as_corrected, sheet_as_corrected, table_as_corrected}
 use Rattle.register_machine.specs.pricing.OrderClasses.{classes_in}
-use Rattle.register_machine.specs.pricing.PublishedTable.{empty_table, listing_by, listing_of, table_behind, table_by, table_of}
+use Rattle.register_machine.specs.pricing.PublishedTable.{calendar_terms, empty_table, listing_by, listing_of, table_behind, table_by, table_of}
 use Rattle.agent_events.specs.declared.verdict.Caller.{Caller}
 use Rattle.register_machine.specs.rules.InOrder.{Rule, broken_rule}
 use Rattle.register_machine.specs.rules.Sheets.{incomplete, out_of_turn, too_soon}

@@ -3,7 +3,6 @@ use Rattle.std.proofs.Common.{All, Bool, Err, List, None, Option, Some, [], arit
 use Rattle.std.specs.Option.{option_map_or}
 use Rattle.std.proofs.lemmas.Bool.{leb-true}
 use Rattle.std.proofs.lemmas.List.Elements.{All-cons, All-filter, All-nil}
-use Rattle.agent_events.specs.Calendars.{calendar_terms}
 use Rattle.agent_events.specs.declared.request.CalendarForm.{CalendarForm}
 use Rattle.forward_price.specs.PriceTables.{closed_in}
 use Rattle.fund_calendar.specs.PricingDays.{CalendarRefusal, CalendarTerms, Listing, calendar_by, days_on, days_or_fault, first_not_rising, instant_on, is_bad_span, last_moment, listing_numbered, new_calendar, priced_at, pricing_dates, rising, without_day}
@@ -12,7 +11,7 @@ use Rattle.fund_calendar.specs.ZoneText.{read_zone}
 use Rattle.fund_calendar.specs.declared.pricing_day.PricingDay.{PricingDay}
 use Rattle.fund_calendar.specs.declared.zone.Daylight.{Daylight}
 use Rattle.fund_calendar.specs.declared.zone.ZoneRule.{ZoneRule}
-use Rattle.register_machine.specs.pricing.PublishedTable.{listing_by, listing_of}
+use Rattle.register_machine.specs.pricing.PublishedTable.{calendar_terms, listing_by, listing_of}
 use Rattle.statement_laws.proofs.ZoneOffsets.{zone_bounded}
 
 pub record IsDayNear (e : PricingDay) : Type 0 where

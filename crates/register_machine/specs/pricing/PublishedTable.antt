@@ -1,15 +1,24 @@
 -- The pricing days with their closures, and the sheets as they were published. The net asset value is computed on each
 -- pricing day (17 CFR 270.22c-1(b)(1)), and a sheet has it for every class of its calendar.
 use Rattle.std.specs.Prelude.{Err, Ok, Result, [], ℕ, fold}
-use Rattle.agent_events.specs.Calendars.{calendar_terms}
 use Rattle.agent_events.specs.Events.{Event}
 use Rattle.agent_events.specs.declared.event.EventKind.{EventKind}
 use Rattle.agent_events.specs.declared.request.CalendarForm.{CalendarForm}
 use Rattle.forward_price.specs.PriceTables.{Table, with_calendar, with_class, with_published, without_day_of}
-use Rattle.fund_calendar.specs.PricingDays.{CalendarRefusal, Listing, new_calendar}
+use Rattle.fund_calendar.specs.PricingDays.{CalendarRefusal, CalendarTerms, Listing, new_calendar}
 use Rattle.register_machine.specs.journal.Journals.{Journal}
 
--- the pricing days of a calendar as it was sent
+-- the terms of a calendar, and its pricing days as it was sent
+abbrev pub calendar_terms : CalendarForm → CalendarTerms
+calendar_terms form = record {
+  number = form.calendar;
+  zone = form.zone;
+  minute = form.minute;
+  first = form.first;
+  last = form.last;
+  holidays = form.holidays;
+}
+
 abbrev pub calendar_checked : CalendarForm → Result Listing CalendarRefusal
 calendar_checked form = new_calendar (calendar_terms form)
 
