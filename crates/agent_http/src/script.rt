@@ -54,7 +54,7 @@ impl<'a> ScriptItems<'a> {
 fn item_of(alloc: Global, row: &Fields) -> Result<ScriptItem, NoMemory>
     ensures { IfOk result (λ item. item ≡ script_item row.now) }
 {
-    let texts = slices_of(alloc, row.texts())?;
+    let texts = slices_of(alloc, row.as_slice())?;
     if texts.len() < 3 {
         return Ok(ScriptItem::Bad);
     }

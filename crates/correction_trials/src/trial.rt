@@ -32,7 +32,7 @@ use agent_events::{
 };
 use checkpoint_replay::Change;
 use correction_effects::{BrokenTrade, FirstBroken, households_reached};
-use desk_books::{DeskBooks, LedgerChange};
+use desk_books::{DeskBooks, LedgerChange, sheets_published};
 use forward_price::{Patch, PriceBook};
 use household_fold::{Facts, Steps};
 use journal_tables::{patch_of, sheet_priced};
@@ -244,7 +244,7 @@ fn try_with<L: StepLedger>(
         accounts: books.tables.accounts(),
         rates,
         patch,
-        sheet: last_number(&books.prices)?,
+        sheet: sheets_published(&books.prices)?,
     };
     let households = reached(alloc, books, event)?;
     let reopened = reopen_all(alloc, books, event, &facts, &households, before, steps)?;
@@ -265,16 +265,6 @@ fn reached(alloc: Global, books: &DeskBooks, event: &Event) -> Result<Vec<u32>, 
 {
     let orders = books.book.orders();
     households_reached(alloc, orders, &books.orders, &books.classes, event.kind())
-}
-
-// The number of the last sheet, 0 where there is none.
-fn last_number(prices: &PriceBook) -> Result<u32, NoMemory>
-    ensures { IfOk result (λ number. number ≡ length prices.now.table.sheets) }
-{
-    match u32::try_from(prices.sheets().len()) {
-        Ok(number) => Ok(number),
-        Err(_) => Err(NoMemory),
-    }
 }
 
 // What the households that were reopened say.

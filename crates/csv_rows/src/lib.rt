@@ -6,4 +6,4 @@ mod rows;
 pub mod worked;
 
 pub use crate::records::Records;
-pub use crate::rows::{Fields, append_fields, append_line, records_of, slices_of};
+pub use crate::rows::{Fields, append_fields, append_line, push_field, records_of, slices_of};

@@ -3,24 +3,17 @@ ghost use Rattle.std.specs.Prelude.{◌≡◌, ◌≤◌, ◌+◌, count_by, len
 ghost use Rattle.std.specs.Option.{option_or};
 ghost use Rattle.std.specs.List.{list_any};
 ghost use Rattle.dealer_lines.specs.RulesBehind.{are_orders_full, below_minimum_of, buys_for, has_bought, has_name, is_for, is_journal_full, row_behind, rules_of_earlier};
-ghost use Rattle.register_machine.specs.journal.Choices.{first_some, when};
-ghost use Rattle.register_machine.specs.rules.Orders.{buys_class};
+ghost use Rattle.register_machine.specs.journal.Choices.{first_some};
 
 use agent_events::{Body, LineForm, Order, OrderRow, Placed, Refusal};
-use order_book::OrderBook;
+use order_book::{OrderBook, buys_class};
+use request_rules::{below_least, refused_when};
 
 /// The most orders and cancels of an account.
 const MAX_ORDERS: usize = 4_096;
 
 /// The most events of a journal.
 const MAX_EVENTS: u64 = 100_000_000;
-
-/// A refusal where a condition holds.
-pub(crate) fn refused_when(holds: bool, refusal: Refusal) -> Option<Refusal>
-    ensures { result ≡ when holds refusal }
-{
-    if holds { Some(refusal) } else { None }
-}
 
 fn has_name(order: &Order, placed: &Placed) -> bool
     ensures { result ≡ has_name order.now placed.now }
@@ -34,15 +27,6 @@ fn is_named(earlier: &[Placed], order: &Order) -> bool
     ensures { result ≡ list_any (has_name order.now) earlier.now }
 {
     earlier.iter().any(|placed| has_name(order, placed))
-}
-
-fn buys_class(class: u32, body: &Body) -> bool
-    ensures { result ≡ buys_class class body.now }
-{
-    match body {
-        Body::Buy { class: own, .. } => own.number() == class,
-        _ => false,
-    }
 }
 
 fn buys_for(account: u32, class: u32, placed: &Placed) -> bool
@@ -90,12 +74,8 @@ fn below_minimum(book: &OrderBook, earlier: &[Placed], line: &LineForm) -> Optio
     match line.order.body {
         Body::Buy { class, gross } => match book.class(class.number()) {
             Some(terms) => {
-                let least = if has_bought(book, earlier, line, class.number()) {
-                    terms.later_min
-                } else {
-                    terms.first_min
-                };
-                refused_when(gross.cents() < least.cents(), Refusal::BelowMinimum(least))
+                let is_bought = has_bought(book, earlier, line, class.number());
+                below_least(terms, is_bought, gross)
             }
             None => None,
         },

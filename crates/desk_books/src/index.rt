@@ -1,5 +1,5 @@
 //! What an event does to the index of orders: looked up before, and applied without memory.
-ghost use Rattle.std.specs.Prelude.{◌≡◌, ◌≤◌, Some, is_some, length, position, true};
+ghost use Rattle.std.specs.Prelude.{◌≡◌, ◌≤◌, IfOk, Some, is_some, length, position, true};
 ghost use Rattle.desk_books.specs.OrderChanges.{ChangesOrders, IsWithin, NamesItsOrder, last_number, owners_after, waiting_after};
 ghost use Rattle.register_machine.specs.journal.Kinds.{accounts_of, household_of};
 ghost use Rattle.register_machine.specs.pricing.CorrectedOrders.{is_named, order_named, orders_of};
@@ -7,6 +7,7 @@ ghost use Rattle.register_machine.specs.pricing.CorrectedOrders.{is_named, order
 use crate::change::OrderChange;
 use agent_events::EventKind;
 use forward_price::PriceBook;
+use money_units::NoMemory;
 use order_book::OrderBook;
 use standing_orders::HouseholdOrders;
 
@@ -33,8 +34,8 @@ pub(crate) fn order_change(book: &OrderBook, kind: &EventKind) -> OrderChange
     }
 }
 
-// The household of an account that stands.
-fn household_of(book: &OrderBook, account: u32) -> u32
+/// The household of an account that stands.
+pub fn household_of(book: &OrderBook, account: u32) -> u32
     requires { is_some (household_of (accounts_of book.now.journal) account) ≡ true }
     ensures { household_of (accounts_of book.now.journal) account ≡ Some result }
 {
@@ -63,6 +64,16 @@ fn last_number(prices: &PriceBook) -> u32
     match prices.sheets().last() {
         Some(sheet) => sheet.number,
         None => 0,
+    }
+}
+
+/// How many sheets are published, the number of the last one; more than a u32 counts have no memory.
+pub fn sheets_published(prices: &PriceBook) -> Result<u32, NoMemory>
+    ensures { IfOk result (λ number. number ≡ length prices.now.table.sheets) }
+{
+    match u32::try_from(prices.sheets().len()) {
+        Ok(number) => Ok(number),
+        Err(_) => Err(NoMemory),
     }
 }
 

@@ -11,4 +11,5 @@ mod preparing;
 
 pub use crate::books::DeskBooks;
 pub use crate::change::{EventChange, LedgerChange, OrderChange};
+pub use crate::index::{household_of, sheets_published};
 pub use crate::noting::note_order;

@@ -1,16 +1,16 @@
 //! Makes room for the orders of lines, and notes them.
-ghost use Rattle.std.specs.Prelude.{◌≡◌, ◌≤◌, ◌++◌, ◌-◌, ℕ, Some, is_some, length, true, OnOk};
+ghost use Rattle.std.specs.Prelude.{◌≡◌, ◌≤◌, ◌++◌, ◌-◌, ℕ, length, true, OnOk};
 ghost use Rattle.dealer_lines.specs.Lines.{line_event, line_events};
 ghost use Rattle.desk_books.specs.BooksOfJournals.{AreBooksOf, ShowTheSame};
 ghost use Rattle.desk_books.specs.NotedClasses.{IsOrderNoted};
 ghost use Rattle.desk_lines.specs.ReadyLines.{AreLinesNoted, AreReadyToNote};
 ghost use Rattle.register_machine.specs.journal.Journals.{with_event};
-ghost use Rattle.register_machine.specs.journal.Kinds.{accounts_of, household_of};
+ghost use Rattle.register_machine.specs.journal.Kinds.{accounts_of};
 ghost use Rattle.register_machine.specs.journal.Lawful.{IsLawful};
 ghost use Rattle.standing_orders.specs.ClassHouseholds.{is_listed};
 
 use agent_events::{Event, EventKind, Placed};
-use desk_books::{DeskBooks, note_order};
+use desk_books::{DeskBooks, household_of, note_order};
 use money_units::{Moment, NoMemory};
 use order_book::OrderBook;
 use standing_orders::ClassHouseholds;
@@ -52,17 +52,6 @@ fn note_classes(
         note_order(alloc, classes, book, &line.order)?;
     }
     Ok(())
-}
-
-// The household of an account that stands.
-fn household_of(book: &OrderBook, account: u32) -> u32
-    requires { is_some (household_of (accounts_of book.now.journal) account) ≡ true }
-    ensures { household_of (accounts_of book.now.journal) account ≡ Some result }
-{
-    match book.account(account) {
-        Some(form) => form.household.number(),
-        None => unreachable!(),
-    }
 }
 
 // Notes the order of a line, which follows the journal; it moves no price, no table and no cash.

@@ -20,6 +20,7 @@ pub fn no_row_begins_another()
 {}
 
 /// An event holds no more bytes of texts and items of lists than its row has bytes: what a row claims it bears out.
+#[tactic(auto, using(crate::proofs::RowSizes::row_size))]
 pub fn events_are_within_their_rows()
     ensures { (event : Event) → content_size event.kind ≤ length (event_row event) }
 {}

@@ -9,7 +9,7 @@ mod facts;
 pub mod laws;
 mod letters;
 mod listed_prices;
-mod look_ups;
+pub mod look_ups;
 mod made_trades;
 mod orders;
 mod purchase;

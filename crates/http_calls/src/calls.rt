@@ -169,6 +169,6 @@ fn line_asks(alloc: Global, rows: &[Fields]) -> Result<BatchAsks, NoMemory>
 fn line_ask(alloc: Global, row: &Fields) -> Result<Asked, NoMemory>
     ensures { IfOk result (λ asks. asks ≡ batch_line row.now) }
 {
-    let texts = slices_of(alloc, row.texts())?;
+    let texts = slices_of(alloc, row.as_slice())?;
     asked(line_asked(&texts))
 }

@@ -10,19 +10,19 @@ use Rattle.serde_json.specs.Data.{Data, Members, member, no_members, put, string
 use Rattle.serde_json.specs.Written.{has_float, members_have_float}
 use Rattle.http_replies.specs.Bodies.{object_of, put_text}
 
-pub pairs-more : {X Y : Type 0} (f : X → List ℕ) (g : Y → List ℕ) (xs : List X) (ys : List Y) (i : ℕ) (x : X) (y : Y) → i < length xs → i < length ys
-    → zip (drop i (map f xs)) (drop i (map g ys)) ≡ (f (get_or xs i x), g (get_or ys i y)) ∷ zip (drop (i + 1) (map f xs)) (drop (i + 1) (map g ys))
-pairs-more f g xs ys i x y a b =
-    rw (drop-map f i xs, drop-map g i ys, drop-map f (i + 1) xs, drop-map g (i + 1) ys, drop_more xs i x a, drop_more ys i y b) refl
+pub pairs-more : {X : Type 0} (f : X → List ℕ) (xs : List X) (ys : List (List ℕ)) (i : ℕ) (x : X) (y : List ℕ) → i < length xs → i < length ys
+    → zip (drop i (map f xs)) (drop i ys) ≡ (f (get_or xs i x), get_or ys i y) ∷ zip (drop (i + 1) (map f xs)) (drop (i + 1) ys)
+pairs-more f xs ys i x y a b =
+    rw (drop-map f i xs, drop-map f (i + 1) xs, drop_more xs i x a, drop_more ys i y b) refl
 
 zip-none : {X Y : Type 0} (xs : List X) → zip {K = X} {X = Y} xs [] ≡ []
 zip-none [] = refl
 zip-none (x ∷ xs) = refl
 
-pub pairs-all : {X Y : Type 0} (f : X → List ℕ) (g : Y → List ℕ) (xs : List X) (ys : List Y) (i : ℕ) → (length xs ≤ i) ⊎ (length ys ≤ i)
-    → zip (drop i (map f xs)) (drop i (map g ys)) ≡ []
-pairs-all f g xs ys i (inl a) = rw (drop-map f i xs, drop_all i xs a) refl
-pairs-all f g xs ys i (inr b) = rw (drop-map g i ys, drop_all i ys b) (zip-none (drop i (map f xs)))
+pub pairs-all : {X : Type 0} (f : X → List ℕ) (xs : List X) (ys : List (List ℕ)) (i : ℕ) → (length xs ≤ i) ⊎ (length ys ≤ i)
+    → zip (drop i (map f xs)) (drop i ys) ≡ []
+pairs-all f xs ys i (inl a) = rw (drop-map f i xs, drop_all i xs a) refl
+pairs-all f xs ys i (inr b) = rw (drop_all i ys b) (zip-none (drop i (map f xs)))
 
 pub one-past : (m n i : ℕ) → min m n ≤ i → (m ≤ i) ⊎ (n ≤ i)
 one-past m n i le = elim (cases_lt i m) [ inl lt ↦ inr (omega arith) | inr ge ↦ inl ge ]
@@ -51,14 +51,14 @@ no-float-from members (pair ∷ pairs) none = no-float-from (put_text members pa
 pub no-float : (pairs : List (List ℕ × List ℕ)) → has_float (object_of pairs) ≡ false
 no-float pairs = no-float-from no_members pairs refl
 
-pub object-more : {X Y : Type 0} (f : X → List ℕ) (g : Y → List ℕ) (xs : List X) (ys : List Y) (i : ℕ) (x : X) (y : Y) (old new all : Members) (name text : List ℕ)
-    → i < length xs → i < length ys → name ≡ f (get_or xs i x) → text ≡ g (get_or ys i y) → new ≡ put_text old (name, text)
-    → fold put_text old (zip (drop i (map f xs)) (drop i (map g ys))) ≡ all
-    → fold put_text new (zip (drop (i + 1) (map f xs)) (drop (i + 1) (map g ys))) ≡ all
-object-more f g xs ys i x y old new all name text a b named worded puts so_far =
-    rw (puts, named, worded) (sym (ap (fold put_text old) (pairs-more f g xs ys i x y a b)) ∙ so_far)
+pub object-more : {X : Type 0} (f : X → List ℕ) (xs : List X) (ys : List (List ℕ)) (i : ℕ) (x : X) (y : List ℕ) (old new all : Members) (name text : List ℕ)
+    → i < length xs → i < length ys → name ≡ f (get_or xs i x) → text ≡ get_or ys i y → new ≡ put_text old (name, text)
+    → fold put_text old (zip (drop i (map f xs)) (drop i ys)) ≡ all
+    → fold put_text new (zip (drop (i + 1) (map f xs)) (drop (i + 1) ys)) ≡ all
+object-more f xs ys i x y old new all name text a b named worded puts so_far =
+    rw (puts, named, worded) (sym (ap (fold put_text old) (pairs-more f xs ys i x y a b)) ∙ so_far)
 
-pub object-all : {X Y : Type 0} (f : X → List ℕ) (g : Y → List ℕ) (xs : List X) (ys : List Y) (i : ℕ) (so_far all : Members) → min (length xs) (length ys) ≤ i
-    → fold put_text so_far (zip (drop i (map f xs)) (drop i (map g ys))) ≡ all → so_far ≡ all
-object-all f g xs ys i so_far all past are =
-    sym (ap (fold put_text so_far) (pairs-all f g xs ys i (one-past (length xs) (length ys) i past))) ∙ are
+pub object-all : {X : Type 0} (f : X → List ℕ) (xs : List X) (ys : List (List ℕ)) (i : ℕ) (so_far all : Members) → min (length xs) (length ys) ≤ i
+    → fold put_text so_far (zip (drop i (map f xs)) (drop i ys)) ≡ all → so_far ≡ all
+object-all f xs ys i so_far all past are =
+    sym (ap (fold put_text so_far) (pairs-all f xs ys i (one-past (length xs) (length ys) i past))) ∙ are

@@ -9,7 +9,7 @@ ghost use Rattle.http_replies.specs.Bodies as spec;
 use crate::names::names_of;
 use crate::reply_fields::reply_fields;
 use agent_events::Reply;
-use money_units::NoMemory;
+use money_units::{Bytes, NoMemory};
 use serde_json::{Map, Value};
 use std::alloc::Global;
 
@@ -18,12 +18,11 @@ pub(crate) fn json_body(alloc: Global, reply: &Reply) -> Result<String, NoMemory
     ensures { IfOk result (λ body. string_bytes body ≡ spec.json_body reply.now) }
 {
     let fields = reply_fields(alloc, reply)?;
-    object_text(alloc, names_of(reply), without_ok(fields.texts()))
+    object_text(alloc, names_of(reply), without_ok(fields.as_slice()))
 }
 
-fn without_ok(texts: &[Vec<u8>]) -> &[Vec<u8>]
-    ensures { map (λ text. text.items) result.now
-        ≡ spec.without_ok (map (λ text. text.items) texts.now) }
+fn without_ok(texts: &[Bytes]) -> &[Bytes]
+    ensures { result.now ≡ spec.without_ok texts.now }
 {
     match texts {
         [] => &[],
@@ -37,19 +36,17 @@ fn without_ok(texts: &[Vec<u8>]) -> &[Vec<u8>]
     }
 }
 
-fn object_text(alloc: Global, names: &[&str], texts: &[Vec<u8>]) -> Result<String, NoMemory>
+fn object_text(alloc: Global, names: &[&str], texts: &[Bytes]) -> Result<String, NoMemory>
     ensures { IfOk result (λ body. string_bytes body
-        ≡ compact_text (spec.object_of (zip (map (λ name. name.now) names.now)
-        (map (λ text. text.items) texts.now)))) }
+        ≡ compact_text (spec.object_of (zip (map (λ name. name.now) names.now) texts.now))) }
 {
     let value = object_value(alloc, names, texts)?;
     Ok(value.to_string(alloc)?)
 }
 
-fn object_value(alloc: Global, names: &[&str], texts: &[Vec<u8>]) -> Result<Value, NoMemory>
+fn object_value(alloc: Global, names: &[&str], texts: &[Bytes]) -> Result<Value, NoMemory>
     ensures { IfOk result (λ value. view value
-        ≡ spec.object_of (zip (map (λ name. name.now) names.now)
-        (map (λ text. text.items) texts.now))) }
+        ≡ spec.object_of (zip (map (λ name. name.now) names.now) texts.now)) }
 {
     Ok(Value::Object(members_of(alloc, names, texts)?))
 }
@@ -57,15 +54,14 @@ fn object_value(alloc: Global, names: &[&str], texts: &[Vec<u8>]) -> Result<Valu
 fn members_of(
     alloc: Global,
     names: &[&str],
-    texts: &[Vec<u8>],
+    texts: &[Bytes],
 ) -> Result<Map<String, Value>, NoMemory>
     ensures { IfOk result (λ members. members_view members.entries
-        ≡ fold spec.put_text no_members (zip (map (λ name. name.now) names.now)
-        (map (λ text. text.items) texts.now))) }
+        ≡ fold spec.put_text no_members (zip (map (λ name. name.now) names.now) texts.now)) }
 {
     let mut members = Map::new(alloc);
     for i in 0..names.len().min(texts.len()) {
-        put_text(alloc, &mut members, names[i], &texts[i])?;
+        put_text(alloc, &mut members, names[i], texts[i].as_slice())?;
     }
     Ok(members)
 }

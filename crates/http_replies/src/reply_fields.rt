@@ -11,7 +11,7 @@ use agent_events::{
     BooksReply, CancelForm, CloseForm, OrderReply, OrderState, Refusal, Reply, TraceReply,
     day_digits,
 };
-use csv_rows::Fields;
+use csv_rows::{Fields, push_field};
 use money_units::NoMemory;
 use std::alloc::Global;
 
@@ -141,9 +141,13 @@ fn push_order(alloc: Global, traced: &TraceReply, fields: &mut Fields) -> Result
         ++ number_text traced.now.account ∷ number_text traced.now.ref_no
         ∷ state_text traced.now.state ∷ []) }
 {
-    fields.push(alloc, &number_of(alloc, traced.account.number() as u64)?)?;
-    fields.push(alloc, &number_of(alloc, traced.ref_no.number())?)?;
-    fields.push(alloc, state_word(traced.state))
+    push_field(
+        alloc,
+        fields,
+        &number_of(alloc, traced.account.number() as u64)?,
+    )?;
+    push_field(alloc, fields, &number_of(alloc, traced.ref_no.number())?)?;
+    push_field(alloc, fields, state_word(traced.state))
 }
 
 // The receipt and the due moment.
@@ -152,8 +156,8 @@ fn push_moments(alloc: Global, traced: &TraceReply, fields: &mut Fields) -> Resu
         (fields.new
         ≡ fields.old ++ number_text traced.now.receipt ∷ number_text traced.now.due ∷ []) }
 {
-    fields.push(alloc, &number_of(alloc, traced.receipt.seconds())?)?;
-    fields.push(alloc, &number_of(alloc, traced.due.seconds())?)
+    push_field(alloc, fields, &number_of(alloc, traced.receipt.seconds())?)?;
+    push_field(alloc, fields, &number_of(alloc, traced.due.seconds())?)
 }
 
 // What was traded, and the loose mils of an order that is short.
@@ -163,19 +167,19 @@ fn push_trade(alloc: Global, traced: &TraceReply, fields: &mut Fields) -> Result
         ∷ money_text traced.now.cash ∷ money_text traced.now.charge ∷ shares_text traced.now.loose
         ∷ []) }
 {
-    fields.push(alloc, &money_of(alloc, traced.price.0 as u128)?)?;
-    fields.push(alloc, &shares_of(alloc, traced.mils.0 as u128)?)?;
-    fields.push(alloc, &money_of(alloc, traced.cash.0 as u128)?)?;
-    fields.push(alloc, &money_of(alloc, traced.charge.0 as u128)?)?;
-    fields.push(alloc, &shares_of(alloc, traced.loose.0 as u128)?)
+    push_field(alloc, fields, &money_of(alloc, traced.price.0 as u128)?)?;
+    push_field(alloc, fields, &shares_of(alloc, traced.mils.0 as u128)?)?;
+    push_field(alloc, fields, &money_of(alloc, traced.cash.0 as u128)?)?;
+    push_field(alloc, fields, &money_of(alloc, traced.charge.0 as u128)?)?;
+    push_field(alloc, fields, &shares_of(alloc, traced.loose.0 as u128)?)
 }
 
 fn trace_fields(alloc: Global, traced: &TraceReply) -> Result<Fields, NoMemory>
     ensures { IfOk result (λ fields. fields ≡ ok_answer (codes "trace") (trace_texts traced.now)) }
 {
     let mut fields = Fields::new(alloc);
-    fields.push(alloc, b"ok")?;
-    fields.push(alloc, b"trace")?;
+    push_field(alloc, &mut fields, b"ok")?;
+    push_field(alloc, &mut fields, b"trace")?;
     push_order(alloc, traced, &mut fields)?;
     push_moments(alloc, traced, &mut fields)?;
     push_trade(alloc, traced, &mut fields)?;
@@ -283,7 +287,7 @@ fn fields_of(alloc: Global, texts: &[&[u8]]) -> Result<Fields, NoMemory>
 {
     let mut fields = Fields::new(alloc);
     for text in texts {
-        fields.push(alloc, text)?;
+        push_field(alloc, &mut fields, text)?;
     }
     Ok(fields)
 }

@@ -5,7 +5,7 @@ ghost use Rattle.agent_events.specs.AnswerTexts.{class_books_text, dealer_books_
 
 use agent_events::{ClassBooks, ClassGain, DealerBooks, PositionText};
 use csv_rows::Fields;
-use money_units::{NoMemory, print_cents, print_mils, print_number, print_signed};
+use money_units::{Bytes, NoMemory, print_cents, print_mils, print_number, print_signed};
 use std::alloc::Global;
 
 pub(crate) fn number_of(alloc: Global, number: u64) -> Result<Vec<u8>, NoMemory>
@@ -46,7 +46,7 @@ fn spaced(alloc: Global, items: &Fields) -> Result<Vec<u8>, NoMemory>
     ensures { IfOk result (λ text. text.items ≡ list_text items.now) }
 {
     let mut text = Vec::new(alloc);
-    let texts = items.texts();
+    let texts = items.as_slice();
     for (i, item) in texts.iter().enumerate() {
         if i > 0 {
             text.push(b' ')?;
@@ -61,7 +61,7 @@ pub(crate) fn positions_of(alloc: Global, positions: &[PositionText]) -> Result<
 {
     let mut items = Fields::new(alloc);
     for position in positions {
-        items.push(alloc, &position_text(alloc, position)?)?;
+        items.push(Bytes::from_vec(position_text(alloc, position)?))?;
     }
     spaced(alloc, &items)
 }
@@ -86,7 +86,7 @@ pub(crate) fn gains_of(alloc: Global, gains: &[ClassGain]) -> Result<Vec<u8>, No
 {
     let mut items = Fields::new(alloc);
     for gain in gains {
-        items.push(alloc, &gain_text(alloc, gain)?)?;
+        items.push(Bytes::from_vec(gain_text(alloc, gain)?))?;
     }
     spaced(alloc, &items)
 }
@@ -107,7 +107,7 @@ pub(crate) fn class_books_of(alloc: Global, classes: &[ClassBooks]) -> Result<Ve
 {
     let mut items = Fields::new(alloc);
     for class in classes {
-        items.push(alloc, &class_books_text(alloc, class)?)?;
+        items.push(Bytes::from_vec(class_books_text(alloc, class)?))?;
     }
     spaced(alloc, &items)
 }
@@ -130,7 +130,7 @@ pub(crate) fn dealer_books_of(alloc: Global, dealers: &[DealerBooks]) -> Result<
 {
     let mut items = Fields::new(alloc);
     for dealer in dealers {
-        items.push(alloc, &dealer_books_text(alloc, dealer)?)?;
+        items.push(Bytes::from_vec(dealer_books_text(alloc, dealer)?))?;
     }
     spaced(alloc, &items)
 }

@@ -1,9 +1,7 @@
 //! What a head says: where its parts stand, read in one pass over its fields.
-ghost use Rattle.std.specs.Prelude.{◌≡◌, ◌+◌, ◌-◌, ◌^◌, ◌<◌, ◌≤◌, if◌then◌else◌, All, IsTrue, false, length, map};
-ghost use Rattle.std.specs.List.{fold, list_all};
-ghost use Rattle.std.specs.Char.{is_ascii_digit};
+ghost use Rattle.std.specs.Prelude.{◌≡◌, ◌+◌, ◌-◌, ◌^◌, ◌<◌, ◌≤◌, if◌then◌else◌, All, false, length, map};
+ghost use Rattle.std.specs.List.{fold};
 ghost use Rattle.std.specs.Str.{str_eq_ignore_ascii_case};
-ghost use Rattle.std.specs.Str.Parse.{digits_value};
 ghost use Rattle.httparse.specs.Spans.{IsHeaderWithin, header_bytes};
 ghost use Rattle.http_stream.specs.Heads as spec;
 ghost use Rattle.http_stream.specs.Reading.{FoundAs, IsNoName, IsTallyWithin, ParsesAs, AreFactsWithin, facts_of, facts_with, no_facts, length_said, only_span, JudgedAs};
@@ -11,7 +9,7 @@ ghost use Rattle.http_stream.specs.Reading.{FoundAs, IsNoName, IsTallyWithin, Pa
 use crate::fault::HttpFault;
 use httparse::Status;
 use httparse::spans::{EMPTY_HEADER_SPAN, HeaderSpan, RequestSpans, Span, parse_request};
-use money_units::same_bytes;
+use money_units::{is_digits, same_bytes, value_of_digits};
 
 /// Where the parts of a head stand, counted from the first byte of the item, and what it says of its body and its connection.
 #[derive(Clone, Copy, Debug, PartialEq, Eq)]
@@ -146,7 +144,7 @@ fn length_of(text: &[u8]) -> Result<Option<usize>, HttpFault>
     ensures { result ≡ spec.length_of text.now }
 {
     if is_length(text) {
-        within_limit(value_of_digits(text))
+        within_limit(value_of_digits(text) as usize)
     } else {
         Err(HttpFault::S400)
     }
@@ -166,24 +164,6 @@ fn is_length(text: &[u8]) -> bool
     ensures { result ≡ spec.is_length text.now }
 {
     is_digits(text) && (1 <= text.len() && text.len() <= 10)
-}
-
-fn is_digits(text: &[u8]) -> bool
-    ensures { result ≡ list_all is_ascii_digit text.now }
-{
-    text.iter().all(|byte| byte.is_ascii_digit())
-}
-
-fn value_of_digits(text: &[u8]) -> usize
-    requires digits { IsTrue (list_all is_ascii_digit text.now) }
-    requires few { length text.now ≤ 10 }
-    ensures { result ≡ digits_value 10 text.now }
-{
-    let mut value = 0;
-    for byte in text {
-        value = value * 10 + (*byte - b'0') as usize;
-    }
-    value
 }
 
 // One pass over the fields.

@@ -1,6 +1,6 @@
 //! Scripts and the records of a text, as they are read.
 use crate::telling::{Shown, told_asked};
-use agent_http::{Fields, ScriptItem, ScriptItems, append_line, records_of};
+use agent_http::{Fields, ScriptItem, ScriptItems, append_line, push_field, records_of};
 use money_units::NoMemory;
 use std::alloc::Global;
 use std::test::Fail;
@@ -10,11 +10,9 @@ use std::test::Fail;
 // Appends the fields of a record, with bars around and between them.
 fn append_fields(line: &mut Vec<u8>, fields: &Fields) -> Result<(), NoMemory> {
     line.push(b'|')?;
-    for place in 0..fields.len() {
-        if let Some(text) = fields.get(place) {
-            line.extend_from_slice(text)?;
-            line.push(b'|')?;
-        }
+    for text in fields.as_slice() {
+        line.extend_from_slice(text.as_slice())?;
+        line.push(b'|')?;
     }
     Ok(())
 }
@@ -100,18 +98,9 @@ fn a_line_is_appended_with_its_line_feed(rt: HostRuntime) -> Result<(), Fail> {
 // Two fields, of which the second is empty.
 fn pushed(alloc: Global) -> Result<Fields, NoMemory> {
     let mut fields = Fields::new(alloc);
-    fields.push(alloc, b"buy")?;
-    fields.push(alloc, b"")?;
+    push_field(alloc, &mut fields, b"buy")?;
+    push_field(alloc, &mut fields, b"")?;
     Ok(fields)
-}
-
-// How many fields they are, whether they are none, and whether there is a third.
-fn counts(fields: &Fields) -> (usize, bool, bool) {
-    (fields.len(), fields.is_empty(), fields.get(2).is_some())
-}
-
-fn counts_of_two(alloc: Global) -> Result<(usize, bool, bool), NoMemory> {
-    Ok(counts(&pushed(alloc)?))
 }
 
 fn shown_two(alloc: Global) -> Result<Vec<u8>, NoMemory> {
@@ -122,8 +111,8 @@ fn shown_two(alloc: Global) -> Result<Vec<u8>, NoMemory> {
 
 #[test]
 fn fields_are_those_that_were_pushed(rt: HostRuntime) -> Result<(), Fail> {
-    assert_eq!(rt; counts(&Fields::new(rt.alloc())), (0, true, false));
-    assert_eq!(rt; counts_of_two(rt.alloc())?, (2, false, false));
+    assert_eq!(rt; Fields::new(rt.alloc()).len(), 0);
+    assert_eq!(rt; pushed(rt.alloc())?.len(), 2);
     let line = shown_two(rt.alloc())?;
     assert_eq!(rt; line.as_slice(), b"|buy||".as_slice());
     Ok(())

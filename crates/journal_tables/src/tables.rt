@@ -8,14 +8,12 @@ ghost use Rattle.register_laws.specs.LawfulLimits.{has_good_loads};
 ghost use Rattle.journal_tables.specs.Tables.{IsInRange, brings_good_loads, no_tables, row_of_fix, tables_after, with_fixed_rate};
 
 use crate::change::TableChange;
-use crate::places::{
-    Accounts, account_numbered, put_account, put_dividend, put_fixed_rate, put_terms,
-    terms_numbered,
-};
+use crate::places::{Accounts, put_account, put_dividend, put_fixed_rate, put_terms};
 use crate::room::Room;
 use crate::rows::{row_of_account, row_of_dividend, row_of_fix, terms_of};
 use agent_events::{AccountForm, AccountRow, ClassForm, EventKind, FixRateForm, Rates};
 use class_terms::{Terms, TermsTable};
+use household_fold::look_ups::{account_numbered, terms_numbered};
 use money_units::{List, NoMemory};
 use std::alloc::Global;
 use std::marker::Model;

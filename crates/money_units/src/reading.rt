@@ -66,7 +66,8 @@ fn read_fixed(most: usize, places: usize, scale: u64, text: &[u8]) -> Option<u64
     Some(units * scale + part)
 }
 
-fn is_digits(text: &[u8]) -> bool
+/// Whether every byte is a decimal digit.
+pub fn is_digits(text: &[u8]) -> bool
     ensures { result ≡ list_all is_ascii_digit text.now }
 {
     text.iter().all(|byte| byte.is_ascii_digit())
@@ -89,7 +90,8 @@ fn is_fixed(most: usize, places: usize, text: &[u8]) -> bool
     is_whole(most, &text[..point]) && text[point] == b'.' && is_digits(&text[point + 1..])
 }
 
-fn value_of_digits(text: &[u8]) -> u64
+/// The number that at most 19 decimal digits spell.
+pub fn value_of_digits(text: &[u8]) -> u64
     requires digits { IsTrue (list_all is_ascii_digit text.now) }
     requires few { length text.now ≤ 19 }
     ensures { result ≡ digits_value 10 text.now }

@@ -22,4 +22,5 @@ mod trials;
 
 pub use crate::book::OrderBook;
 pub use crate::identity::Identity;
+pub use crate::purchases::buys_class;
 pub use crate::trials::{row_begun, row_on_trial};

@@ -45,7 +45,8 @@ fn is_ordered_before(row: &OrderRow, class: u32, other: &OrderRow) -> bool
         && buys_class(class, &other.order.body)
 }
 
-fn buys_class(class: u32, body: &Body) -> bool
+/// Whether the order is a purchase of this class.
+pub fn buys_class(class: u32, body: &Body) -> bool
     ensures { result ≡ buys_class class body.now }
 {
     match body {

@@ -6,7 +6,7 @@ ghost use Rattle.register_machine.specs.rules.Situations.{Situation};
 ghost use Rattle.register_machine.specs.rules.Terms.{bad_terms, calendar_place};
 
 use agent_events::{CalendarForm, ClassForm, Refusal, Request};
-use class_terms::{Bracket, Brackets, TermFault, Terms, TermsForm, check};
+use class_terms::{TermFault, Terms, TermsForm, check};
 use event_copies::Copied;
 use fund_calendar::CalendarFault;
 use money_units::{Cents, List, NoMemory};
@@ -23,17 +23,6 @@ fn calendar_place(alloc: Global, form: &CalendarForm) -> Result<Option<Refusal>,
         Err(CalendarFault::NotRising(_)) => Ok(Some(Refusal::BadForm(3))),
         Err(CalendarFault::NoMemory) => Err(NoMemory),
     }
-}
-
-/// The table of these rows.
-fn brackets_of(alloc: Global, rows: &[Bracket]) -> Result<Brackets, NoMemory>
-    ensures { IfOk result (λ copy. copy ≡ rows.now) }
-{
-    let mut copy = List::new(alloc);
-    for row in rows {
-        copy.push_copy(row)?;
-    }
-    Ok(copy)
 }
 
 /// The place of the loads that aren't good; a family that differs is passed over.
@@ -61,7 +50,7 @@ fn loads_place(alloc: Global, form: &ClassForm) -> Result<Option<Refusal>, NoMem
         counts: form.counts,
         first_min: Cents(form.first_min.cents()),
         later_min: Cents(form.later_min.cents()),
-        front: brackets_of(alloc, form.front.as_slice())?,
+        front: List::from_slice(alloc, form.front.as_slice())?,
         deferred: form.deferred.copy(alloc)?,
     };
     Ok(place_checked(&check(terms, &[])))

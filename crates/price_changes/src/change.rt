@@ -79,8 +79,8 @@ fn listed(alloc: Global, form: &CalendarForm) -> Result<Calendar, NoMemory>
     }
 }
 
-// How many prices a sheet has; a list that a u32 doesn't count has no memory.
-fn prices_in(form: &SheetForm) -> Result<u32, NoMemory>
+/// How many prices a sheet has; a list that a u32 doesn't count has no memory.
+pub fn prices_in(form: &SheetForm) -> Result<u32, NoMemory>
     ensures { IfOk result (λ count. count ≡ length form.now.prices) }
 {
     match u32::try_from(form.prices.as_slice().len()) {

@@ -6,4 +6,4 @@ mod change;
 pub mod laws;
 
 pub use crate::applying::apply;
-pub use crate::change::{PriceChange, prepare};
+pub use crate::change::{PriceChange, prepare, prices_in};

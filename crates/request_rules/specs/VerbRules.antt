@@ -1,13 +1,14 @@
 -- The rules behind the repeat that a request of each verb can break, in the order in which they are tried: the machine's list
 -- without those that say nothing of the verb.
 use Rattle.std.specs.List.{list_any}
-use Rattle.std.specs.Prelude.{Bool, List, None, Option, Some, [], ◌&&◌, find, if◌then◌else◌, length, not, option_map, ℕ, ◌==◌, ◌∷◌}
+use Rattle.std.specs.Prelude.{Bool, List, None, Option, Some, [], ◌&&◌, find, if◌then◌else◌, length, nat_lt, not, option_map, ℕ, ◌==◌, ◌∷◌}
 use Rattle.agent_events.specs.declared.reply.Refusal.{Refusal}
 use Rattle.agent_events.specs.declared.request.ClassForm.{ClassForm}
 use Rattle.agent_events.specs.declared.request.DividendForm.{DividendForm}
 use Rattle.agent_events.specs.declared.request.Request.{Request}
 use Rattle.class_terms.specs.Checking.{differs_in_family, lesser}
 use Rattle.class_terms.specs.declared.form.TermsForm.{TermsForm}
+use Rattle.register_machine.specs.journal.Choices.{when}
 use Rattle.register_machine.specs.pricing.CorrectedBook.{Book, due_at, front_of}
 use Rattle.register_machine.specs.pricing.DividendRates.{declares}
 use Rattle.register_machine.specs.rules.Identities.{ref_used}
@@ -22,6 +23,15 @@ use Rattle.register_machine.specs.rules.Terms.{terms_of}
 -- the refusal for the first of the fields that names something absent
 abbrev pub absent_among : List (ℕ × Bool) → Option Refusal
 absent_among fields = option_map (λ field. Refusal.NoSuch field.0) (find (λ field. not field.1) fields)
+
+-- the refusal of a purchase of this gross below its minimum: the later one of the class where the account has bought it before,
+-- else the first one
+abbrev pub least_gross : ClassForm → Bool → ℕ
+least_gross terms is_bought = if is_bought then terms.later_min else terms.first_min
+
+abbrev pub below_least : ClassForm → Bool → ℕ → Option Refusal
+below_least terms is_bought gross =
+    when (nat_lt gross (least_gross terms is_bought)) (Refusal.BelowMinimum (least_gross terms is_bought))
 
 -- the class has breakpoints
 abbrev pub has_breakpoints : Book → ℕ → Bool

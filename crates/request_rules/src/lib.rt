@@ -17,4 +17,6 @@ mod set_up;
 
 pub use crate::first_rule::{broken_rule, broken_rule_by, due_now, due_of_request};
 pub use crate::inquiry::Inquiry;
+pub use crate::orders::below_least;
 pub use crate::rights::no_right;
+pub use crate::rules::refused_when;

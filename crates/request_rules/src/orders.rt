@@ -1,7 +1,7 @@
 //! The rules on orders, dealers' lines and entered orders.
 ghost use Rattle.std.specs.Prelude.{◌≡◌, ◌≤◌, length, nat_lt};
 ghost use Rattle.agent_events.specs.declared.request.Request.{Request};
-ghost use Rattle.request_rules.specs.VerbRules.{absent_among, has_breakpoints, rules_of};
+ghost use Rattle.request_rules.specs.VerbRules.{absent_among, below_least, has_breakpoints, rules_of};
 ghost use Rattle.std.specs.Option.{option_copied};
 ghost use Rattle.register_machine.specs.journal.Choices.{first_some, when};
 ghost use Rattle.register_machine.specs.journal.Kinds.{class_numbered};
@@ -14,7 +14,9 @@ ghost use Rattle.register_machine.specs.rules.Orders.{below_minimum, calendar_en
 use crate::inquiry::Inquiry;
 use crate::limits::{journal_full, orders_full, reference_used};
 use crate::rules::{first_absent, first_broken, refused_when};
-use agent_events::{Body, Caller, ClassForm, Identifier, LineForm, Order, OrderRow, Refusal};
+use agent_events::{
+    Amount, Body, Caller, ClassForm, Identifier, LineForm, Order, OrderRow, Refusal,
+};
 use money_units::Moment;
 use register_machine::{class_of, target_of};
 
@@ -84,6 +86,19 @@ pub(crate) fn calendar_ended(inquiry: &Inquiry, row: &OrderRow) -> Option<Refusa
     calendar_ended_by(inquiry, row, &due_moment(inquiry, row))
 }
 
+/// The refusal of a purchase of this gross in cents below its minimum: the later one of the class's terms where the account has
+/// bought the class before, else the first one.
+pub fn below_least(terms: &ClassForm, is_bought: bool, gross: Amount) -> Option<Refusal>
+    ensures { result ≡ below_least terms.now is_bought gross }
+{
+    let least = if is_bought {
+        terms.later_min
+    } else {
+        terms.first_min
+    };
+    refused_when(gross.cents() < least.cents(), Refusal::BelowMinimum(least))
+}
+
 /// Refusal 6. The gross of a purchase is below its minimum: the later one behind another order to buy the class that stands,
 /// else the first one; `terms` are those of the order's class.
 fn below_minimum_by(inquiry: &Inquiry, row: &OrderRow, terms: Option<&ClassForm>) -> Option<Refusal>
@@ -93,14 +108,7 @@ fn below_minimum_by(inquiry: &Inquiry, row: &OrderRow, terms: Option<&ClassForm>
 {
     match row.order.body {
         Body::Buy { class, gross } => match terms {
-            Some(terms) => {
-                let least = if inquiry.has_bought(row, class) {
-                    terms.later_min
-                } else {
-                    terms.first_min
-                };
-                refused_when(gross.cents() < least.cents(), Refusal::BelowMinimum(least))
-            }
+            Some(terms) => below_least(terms, inquiry.has_bought(row, class), gross),
             None => None,
         },
         _ => None,

@@ -18,7 +18,7 @@ pub(crate) fn first_broken(rules: &[Option<Refusal>]) -> Option<Refusal>
 }
 
 /// A refusal where a condition holds.
-pub(crate) fn refused_when(holds: bool, refusal: Refusal) -> Option<Refusal>
+pub fn refused_when(holds: bool, refusal: Refusal) -> Option<Refusal>
     ensures { result ≡ when holds refusal }
 {
     if holds { Some(refusal) } else { None }

@@ -1,5 +1,5 @@
 //! The states of the households that a sheet moves are kept as they stand before it, now and then.
-ghost use Rattle.std.specs.Prelude.{◌≡◌, IfOk, length};
+ghost use Rattle.std.specs.Prelude.{◌≡◌, length};
 ghost use Rattle.desk_books.specs.BooksOfJournals.{AreBooksOf, ShowTheSame};
 ghost use Rattle.desk_books.specs.kept_of_journals.KeptOfBooks.{AreKeptOf};
 ghost use Rattle.desk_books.specs.ledger_of_journals.Ledgers.{IsLedgerOf};
@@ -7,8 +7,7 @@ ghost use Rattle.register_machine.specs.pricing.CorrectedBook.{Book};
 ghost use Rattle.desk_books.specs.waiting_laws.SettledOrders.{AllAreSettled, first_waiting};
 
 use checkpoint_replay::{HouseholdMove, Ledger};
-use desk_books::DeskBooks;
-use forward_price::PriceBook;
+use desk_books::{DeskBooks, sheets_published};
 use kept_states::{KeptState, KeptStates};
 use money_units::NoMemory;
 use standing_orders::HouseholdOrders;
@@ -27,7 +26,7 @@ pub(crate) fn keep_moved(
     ensures journal { books.new.book ≡ books.old.book }
     ensures ledger { books.new.ledger ≡ books.old.ledger }
 {
-    let sheet = last_number(&books.prices)?;
+    let sheet = sheets_published(&books.prices)?;
     let orders = first_waiting(&books.orders);
     keep_states(alloc, &mut books.kept, &books.ledger, sheet, orders, moves)
 }
@@ -39,16 +38,6 @@ fn first_waiting(orders: &HouseholdOrders) -> usize
     match orders.waiting().first() {
         Some(place) => *place,
         None => orders.owners().len(),
-    }
-}
-
-// The number of the last sheet, 0 where there is none.
-fn last_number(prices: &PriceBook) -> Result<u32, NoMemory>
-    ensures { IfOk result (λ number. number ≡ length prices.now.table.sheets) }
-{
-    match u32::try_from(prices.sheets().len()) {
-        Ok(number) => Ok(number),
-        Err(_) => Err(NoMemory),
     }
 }
 

@@ -18,6 +18,7 @@ use desk_books::{DeskBooks, LedgerChange};
 use forward_price::PriceBook;
 use household_fold::Steps;
 use money_units::NoMemory;
+use price_changes::prices_in;
 use std::alloc::Global;
 use std::sync::ledger::Ledger as StepLedger;
 
@@ -78,16 +79,6 @@ fn sheet_of(event: &Event) -> &SheetForm
     match event.kind() {
         EventKind::Sheet(form) => form,
         _ => unreachable!(),
-    }
-}
-
-// How many prices a sheet has; a list that a u32 doesn't count has no memory.
-fn prices_in(form: &SheetForm) -> Result<u32, NoMemory>
-    ensures { IfOk result (λ count. count ≡ length form.now.prices) }
-{
-    match u32::try_from(form.prices.as_slice().len()) {
-        Ok(count) => Ok(count),
-        Err(_) => Err(NoMemory),
     }
 }
 

@@ -19,4 +19,4 @@ loop-i-preserved c =
     let within : c.loop-i.i < length fields = search rules in
     let text = field-get fields c.loop-i.i c.unwrap.result.now (sym (rw c.unwrap.ensures at c.get.ensures.value)) in
     let more = take_more fields c.loop-i.i [] within in
-    let pushed = c.in_ok-push.ensures.ok in cc
+    let pushed = c.in_ok-push_field.ensures.ok in cc

@@ -2,4 +2,4 @@ use Rattle.std.proofs.Common.{◌≡◌, map, take}
 use Rattle.csv_rows.proofs.rows.slices_of.Given as goal
 
 abbrev pub invariant-loop-text : goal.invariant-loop-text
-invariant-loop-text l = map (λ text. text.now) l.slices.items ≡ map (λ text. text.items) (take l.text-index l.texts)
+invariant-loop-text l = map (λ text. text.now) l.slices.items ≡ take l.text-index l.texts

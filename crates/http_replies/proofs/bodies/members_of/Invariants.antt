@@ -8,5 +8,5 @@ use Rattle.http_replies.proofs.bodies.members_of.Given as goal
 
 abbrev pub invariant-loop-i : goal.invariant-loop-i
 invariant-loop-i l =
-    fold put_text (members_view l.members.entries) (zip (drop l.i (map (λ name. name.now) l.names)) (drop l.i (map (λ text. text.items) l.texts)))
-    ≡ fold put_text no_members (zip (map (λ name. name.now) l.names) (map (λ text. text.items) l.texts))
+    fold put_text (members_view l.members.entries) (zip (drop l.i (map (λ name. name.now) l.names)) (drop l.i l.texts))
+    ≡ fold put_text no_members (zip (map (λ name. name.now) l.names) l.texts)

@@ -10,4 +10,4 @@ returns c =
     let is = c.in_ok-value.ensures in
     let P : Data → Type 0 = λ d. has_float d ≡ false in
     rw is at (c.in_ok-to_string.ensures.text
-    (subst P (sym is) (no-float (zip (map (λ name. name.now) c.args.names.now) (map (λ text. text.items) c.args.texts.now)))))
+    (subst P (sym is) (no-float (zip (map (λ name. name.now) c.args.names.now) c.args.texts.now))))

@@ -1,6 +1,6 @@
-use Rattle.std.proofs.Common.{◌≡◌, map, take}
+use Rattle.std.proofs.Common.{◌≡◌, take}
 use Rattle.agent_events.specs.AnswerTexts.{list_text}
 use Rattle.http_replies.proofs.reply_texts.spaced.Given as goal
 
 abbrev pub invariant-loop-i : goal.invariant-loop-i
-invariant-loop-i l = l.text.items ≡ list_text (map (λ item. item.items) (take l.i l.texts))
+invariant-loop-i l = l.text.items ≡ list_text (take l.i l.texts)
