@@ -1,3 +1,4 @@
+-- The lemmas of this crate, file by file.
 pub mod Statuses
 pub mod RunFacts
 pub mod CommandBounds

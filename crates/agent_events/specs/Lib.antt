@@ -1,3 +1,4 @@
+-- The definitions of this crate, file by file.
 pub mod Fields
 pub mod Forms
 pub mod Events

@@ -1,3 +1,4 @@
+-- The lemmas of this crate, file by file.
 pub mod ShortStreams
 pub mod AnswerFacts
 pub mod BatchFacts

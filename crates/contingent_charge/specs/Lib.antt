@@ -1,1 +1,2 @@
+-- The definitions of this crate, file by file.
 pub mod DeferredCharge

@@ -1,3 +1,4 @@
+-- The lemmas of this crate, file by file.
 pub mod FilledNames
 pub mod FirstOfAll
 pub mod LeastTurn

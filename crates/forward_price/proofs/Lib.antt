@@ -1,3 +1,4 @@
+-- The lemmas of this crate, file by file.
 pub mod ChoiceFacts
 pub mod TurnFacts
 pub mod MapFacts

@@ -1,3 +1,4 @@
+-- The lemmas of this crate, file by file.
 pub mod DateLemmas
 pub mod JiffLemmas
 pub mod InstantLemmas

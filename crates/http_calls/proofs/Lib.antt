@@ -1,3 +1,4 @@
+-- The lemmas of this crate, file by file.
 pub mod FlatLaws
 pub mod FlatReads
 pub mod MemberLaws

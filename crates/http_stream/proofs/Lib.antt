@@ -1,3 +1,4 @@
+-- The lemmas of this crate, file by file.
 pub mod LineLaws
 pub mod ScanLaws
 pub mod FrontLaws

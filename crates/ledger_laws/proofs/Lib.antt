@@ -1,3 +1,4 @@
+-- The lemmas of this crate, file by file.
 pub mod StepsAlone
 pub mod StepsAsPart
 pub mod ReplaysAsPart

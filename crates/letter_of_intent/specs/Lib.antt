@@ -1,3 +1,4 @@
+-- The definitions of this crate, file by file.
 pub mod Letters
 pub mod Purchases
 pub mod Cases

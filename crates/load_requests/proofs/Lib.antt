@@ -1,3 +1,4 @@
+-- The lemmas of this crate, file by file.
 pub mod CalendarFacts
 pub mod CountFacts
 pub mod LoadOnLiterals

@@ -1,3 +1,4 @@
+-- The lemmas of this crate, file by file.
 pub mod NamesBegun
 pub mod LooksShown
 pub mod TracesCounted

@@ -1,3 +1,4 @@
+-- The lemmas of this crate, file by file.
 pub mod BookFound
 pub mod BookNoted
 pub mod BroughtFits

@@ -1,3 +1,4 @@
+-- The lemmas of this crate, file by file.
 pub mod Places
 pub mod Contents
 pub mod Once

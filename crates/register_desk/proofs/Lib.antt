@@ -1,3 +1,4 @@
+-- The lemmas of this crate, file by file.
 pub mod RowsOfJournals
 pub mod GoodRows
 pub mod RowByRow

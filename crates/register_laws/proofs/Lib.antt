@@ -1,3 +1,4 @@
+-- The lemmas of this crate, file by file.
 pub mod Choosing
 pub mod Tests
 pub mod Sums

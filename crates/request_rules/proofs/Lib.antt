@@ -1,3 +1,4 @@
+-- The lemmas of this crate, file by file.
 pub mod RulesByVerb
 pub mod LookUps
 pub mod Named

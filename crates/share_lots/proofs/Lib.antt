@@ -1,3 +1,4 @@
+-- The lemmas of this crate, file by file.
 pub mod OrderLemmas
 pub mod LotLemmas
 pub mod RankedLemmas

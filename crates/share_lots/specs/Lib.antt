@@ -1,3 +1,4 @@
+-- The definitions of this crate, file by file.
 pub mod Lots
 pub mod Tally
 pub mod Taking

@@ -1,3 +1,4 @@
+-- The definitions of this crate, file by file.
 pub mod Answers
 pub mod Commits
 pub mod Faults

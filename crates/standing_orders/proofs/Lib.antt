@@ -1,3 +1,4 @@
+-- The lemmas of this crate, file by file.
 pub mod GatheredRows
 pub mod InTurn
 pub mod IndexKept

@@ -1,3 +1,4 @@
+-- What holds at each turn of the loops of `main`.
 use Rattle.agent_cli.proofs.main.Given as goal
 
 abbrev pub ghosts-run_on : goal.ghosts-run_on

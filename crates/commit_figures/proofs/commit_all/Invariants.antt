@@ -1,3 +1,4 @@
+-- What holds at each turn of the loops of `commit_all`.
 use Rattle.std.proofs.Common.{IsTrue, length, ◌≡◌}
 use Rattle.agent_keeper.specs.Content.{Content}
 use Rattle.commit_figures.proofs.commit_all.Given as goal

@@ -1,3 +1,4 @@
+-- That `answered` keeps its contract.
 use Rattle.agent_cli.proofs.RunFacts.{counts-keeper, counts-write, ended-cut, ended-failed, ended-short, grown-by, never-done}
 use Rattle.agent_cli.specs.Runs.{sink_at}
 use Rattle.register_machine.specs.run.Scripts.{script_items}

@@ -1,3 +1,4 @@
+-- That `apply` keeps its contract.
 use Rattle.std.proofs.Common.{Err, ap, ◌∙◌}
 use Rattle.std.proofs.Common.{inr}
 use Rattle.agent_cli.proofs.RunFacts.{is-opened, same-grow, stopped}

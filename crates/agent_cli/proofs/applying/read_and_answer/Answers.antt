@@ -1,3 +1,4 @@
+-- That `read_and_answer` keeps its contract.
 use Rattle.std.proofs.Common.{List, Some, [], refl, subst, ℕ, ◌≡◌}
 use Rattle.agent_cli.proofs.RunFacts.{ended-at-once, ends-too-long, grown-nothing, over-any, over-whole}
 use Rattle.agent_cli.specs.Runs.{AreEndedSaying, sink_at, status_line}

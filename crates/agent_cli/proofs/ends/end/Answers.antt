@@ -1,3 +1,4 @@
+-- That `end` keeps its contract.
 use Rattle.agent_cli.proofs.RunFacts.{line-said}
 use Rattle.agent_cli.specs.Runs.{sink_at}
 use Rattle.agent_cli.proofs.ends.end.Goals as goal

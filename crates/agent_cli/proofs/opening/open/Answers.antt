@@ -1,3 +1,4 @@
+-- That `open` keeps its contract.
 use Rattle.agent_cli.proofs.RunFacts.{opened-speaks}
 use Rattle.agent_cli.proofs.opening.open.Goals as goal
 

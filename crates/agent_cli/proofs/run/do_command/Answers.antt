@@ -1,3 +1,4 @@
+-- That `do_command` keeps its contract.
 use Rattle.std.proofs.Common.{ap, refl, subst, sym}
 use Rattle.std.specs.Prelude.{Some}
 use Rattle.agent_cli.proofs.EndsOfLoads.{load-ends}

@@ -1,3 +1,4 @@
+-- That `run` keeps its contract.
 use Rattle.std.proofs.Common.{ap, map, refl, sym, ◌∙◌}
 use Rattle.std.specs.Prelude.{option_map}
 use Rattle.std.specs.String.{string_bytes}

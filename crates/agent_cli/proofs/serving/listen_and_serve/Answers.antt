@@ -1,3 +1,4 @@
+-- That `listen_and_serve` keeps its contract.
 use Rattle.std.proofs.lemmas.Result.{err_from_is_err_and}
 use Rattle.agent_cli.proofs.ServingFacts.{same-door, served-none}
 use Rattle.connection_service.specs.InTurn.{door_at}

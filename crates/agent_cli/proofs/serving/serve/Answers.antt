@@ -1,3 +1,4 @@
+-- That `serve` keeps its contract.
 use Rattle.std.proofs.Common.{Err, ap, ◌∙◌}
 use Rattle.agent_cli.proofs.RunFacts.{grow-lawfully, grown-lawful, is-opened, same-grow}
 use Rattle.agent_cli.proofs.serving.serve.Goals as goal

@@ -1,3 +1,4 @@
+-- That `serve_opened` keeps its contract.
 use Rattle.std.proofs.Common.{Ok}
 use Rattle.agent_cli.proofs.RunFacts.{grown-by}
 use Rattle.agent_cli.proofs.ServingFacts.{served-behind}

@@ -1,3 +1,4 @@
+-- What holds at each turn of the loops of `a_link_that_fails_is_status_0`.
 use Rattle.agent_cli.proofs.tests.a_link_that_fails_is_status_0.Given as goal
 
 abbrev pub ghosts-a_link_fails : goal.ghosts-a_link_fails

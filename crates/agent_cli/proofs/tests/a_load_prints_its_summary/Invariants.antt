@@ -1,3 +1,4 @@
+-- What holds at each turn of the loops of `a_load_prints_its_summary`.
 use Rattle.agent_cli.proofs.tests.a_load_prints_its_summary.Given as goal
 
 abbrev pub ghosts-loads : goal.ghosts-loads

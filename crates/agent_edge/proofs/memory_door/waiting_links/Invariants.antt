@@ -1,3 +1,4 @@
+-- What holds at each turn of the loops of `waiting_links`.
 use Rattle.std.proofs.Common.{◌≡◌, map}
 use Rattle.agent_edge.specs.MemoryDoors.{waiting}
 use Rattle.agent_edge.proofs.memory_door.waiting_links.Given as goal

@@ -1,3 +1,4 @@
+-- That `write_reply` keeps its contract.
 use Rattle.std.proofs.Common.{rules}
 use Rattle.std.proofs.lemmas.List.{take_rest}
 use Rattle.agent_edge.proofs.LinkLemmas.{writes-more}

@@ -1,3 +1,4 @@
+-- What holds at each turn of the loops of `write_reply`.
 use Rattle.std.proofs.Common.{length, ◌-◌, ◌≡◌, ◌≤◌, take, IsTrue, option_map}
 use Rattle.agent_edge.specs.Links.{after_write}
 use Rattle.agent_edge.proofs.replies.write_reply.Given as goal

@@ -1,3 +1,4 @@
+-- That `read_up_to` keeps its contract.
 use Rattle.std.proofs.Common.{◌++◌, take}
 use Rattle.std.proofs.KnownBytes.{Consumes-trans}
 use Rattle.agent_edge.proofs.whole.read_up_to.Goals as goal

@@ -1,3 +1,4 @@
+-- What holds at each turn of the loops of `read_up_to`.
 use Rattle.std.proofs.Common.{◌≡◌, ◌≤◌, ◌-◌, vec_len}
 use Rattle.std.specs.Io.KnownBytes.{Consumes}
 use Rattle.agent_edge.proofs.whole.read_up_to.Given as goal

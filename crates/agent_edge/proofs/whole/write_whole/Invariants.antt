@@ -1,3 +1,4 @@
+-- What holds at each turn of the loops of `write_whole`.
 use Rattle.std.proofs.Common.{length, ◌-◌, ◌≡◌, ◌≤◌, take}
 use Rattle.std.specs.Io.KnownBytes.{Appends}
 use Rattle.agent_edge.proofs.whole.write_whole.Given as goal

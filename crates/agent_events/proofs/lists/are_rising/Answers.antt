@@ -1,3 +1,4 @@
+-- That `are_rising` keeps its contract.
 use Rattle.std.proofs.Common.{◌≡◌, ℕ, ◌-◌, ◌≤◌, true, List, [], ◌∷◌, length, drop, refl, sym, ◌∙◌, arith, length-drop}
 use Rattle.agent_events.specs.Fields.{are_rising}
 use Rattle.agent_events.proofs.lists.are_rising.Goals as goal

@@ -1,3 +1,4 @@
+-- That `append_row` keeps its contract.
 use Rattle.std.proofs.Common.{◌≤◌, arith}
 use Rattle.agent_keeper.proofs.append.append_row.Goals as goal
 

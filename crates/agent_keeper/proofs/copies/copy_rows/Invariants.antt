@@ -1,3 +1,4 @@
+-- What holds at each turn of the loops of `copy_rows`.
 use Rattle.std.proofs.Common.{◌≡◌, take}
 use Rattle.agent_keeper.proofs.copies.copy_rows.Given as goal
 

@@ -1,3 +1,4 @@
+-- That `copy_checks` keeps its contract.
 use Rattle.std.proofs.Common.{◌≡◌, map, rules, refl, ◌∙◌}
 use Rattle.std.specs.Map.Iter.{deref_pair}
 use Rattle.std.proofs.lemmas.Map.Iter.{iter_end}

@@ -1,3 +1,4 @@
+-- What holds at each turn of the loops of `copy_checks`.
 use Rattle.std.proofs.Common.{◌≡◌, None, map}
 use Rattle.std.specs.HashMap.{get}
 use Rattle.std.specs.Map.{update_all}

@@ -1,3 +1,4 @@
+-- What holds at each turn of the loops of `last_put`.
 use Rattle.std.proofs.Common.{◌≡◌, take}
 use Rattle.std.specs.Option.{option_copied}
 use Rattle.agent_keeper.specs.Content.{after_puts}

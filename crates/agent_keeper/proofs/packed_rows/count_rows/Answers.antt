@@ -1,3 +1,4 @@
+-- That `count_rows` keeps its contract.
 use Rattle.std.proofs.Common.{sym}
 use Rattle.agent_keeper.proofs.PackedFacts.{rows-count}
 use Rattle.agent_keeper.proofs.packed_rows.count_rows.Goals as goal

@@ -1,3 +1,4 @@
+-- That `put_row` keeps its contract.
 use Rattle.std.proofs.Common.{◌++◌, ◌∷◌, [], length, ap, ◌∙◌}
 use Rattle.std.proofs.lemmas.List.{length-append}
 use Rattle.agent_keeper.specs.Packed.{rows_between}

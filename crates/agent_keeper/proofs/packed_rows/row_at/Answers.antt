@@ -1,3 +1,4 @@
+-- That `row_at` keeps its contract.
 use Rattle.std.proofs.Common.{◌≡◌, ◌≤◌, Bor, None, Option, Some, length, sym, ◌∙◌}
 use Rattle.std.specs.Option.{MatchOption, option_copied}
 use Rattle.std.proofs.lemmas.Option.{none-some, slice_get_past}

@@ -1,3 +1,4 @@
+-- That `row_before` keeps its contract.
 use Rattle.agent_keeper.proofs.PackedFacts.{row-there}
 use Rattle.agent_keeper.proofs.packed_rows.row_before.Goals as goal
 

@@ -1,3 +1,4 @@
+-- That `start_before` keeps its contract.
 use Rattle.std.proofs.Common.{length}
 use Rattle.agent_keeper.proofs.PackedFacts.{row-within}
 use Rattle.agent_keeper.proofs.packed_rows.start_before.Goals as goal

@@ -1,3 +1,4 @@
+-- That `start_of` keeps its contract.
 use Rattle.std.proofs.Common.{◌≡◌, suc, ◌-◌, ◌<◌, length, arith, sym, ap, ◌∙◌}
 use Rattle.agent_keeper.specs.Packed.{start_at}
 use Rattle.agent_keeper.proofs.PackedFacts.{start-is}

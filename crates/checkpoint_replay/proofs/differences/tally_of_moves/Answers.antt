@@ -1,3 +1,4 @@
+-- That `tally_of_moves` keeps its contract.
 use Rattle.checkpoint_replay.proofs.CommonFront.{net-cash_more, net-mils_more}
 use Rattle.gain_loss_book.specs.Tallies.{cash_tallied, mils_tallied}
 use Rattle.checkpoint_replay.proofs.differences.tally_of_moves.Goals as goal

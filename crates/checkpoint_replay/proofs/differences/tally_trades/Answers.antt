@@ -1,3 +1,4 @@
+-- That `tally_trades` keeps its contract.
 use Rattle.agent_events.specs.declared.trade.Trade.{Trade}
 use Rattle.checkpoint_replay.proofs.CommonFront.{net-behind_front}
 use Rattle.checkpoint_replay.proofs.FlowsOfMoves.{cash-additive, mils-additive}

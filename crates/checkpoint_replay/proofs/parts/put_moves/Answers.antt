@@ -1,3 +1,4 @@
+-- That `put_moves` keeps its contract.
 use Rattle.checkpoint_replay.proofs.PartFacts.{rooms-left}
 use Rattle.checkpoint_replay.specs.Moves.{AreApart, HasTradeRoom, day_if_moved, households_of}
 use Rattle.checkpoint_replay.specs.Parts.{part_in}

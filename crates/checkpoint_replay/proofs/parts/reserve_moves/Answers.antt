@@ -1,3 +1,4 @@
+-- That `reserve_moves` keeps its contract.
 use Rattle.checkpoint_replay.specs.Moves.{HasTradeRoom}
 use Rattle.std.proofs.Common.{All, arith, subst, take, ◌∙◌}
 use Rattle.std.proofs.lemmas.List.{take_all}

@@ -1,3 +1,4 @@
+-- That `add_share` keeps its contract.
 use Rattle.checkpoint_replay.proofs.ShareFacts.{share-step}
 use Rattle.gain_loss_book.specs.Flows.{flow_by, whole_flow, with_flow}
 use Rattle.gain_loss_book.specs.declared.flows.Flow.{Flow}

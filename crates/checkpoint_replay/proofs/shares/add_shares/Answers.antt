@@ -1,3 +1,4 @@
+-- That `add_shares` keeps its contract.
 use Rattle.checkpoint_replay.proofs.ShareFacts.{all-shares-step, share-fall-fits, share-rise-fits, shares-step}
 use Rattle.std.proofs.Common.{arith}
 use Rattle.checkpoint_replay.proofs.shares.add_shares.Goals as goal

@@ -1,3 +1,4 @@
+-- That `moves_of_sheet` keeps its contract.
 use Rattle.checkpoint_replay.proofs.MetNumbers.{met-covers, met-distinct}
 use Rattle.checkpoint_replay.proofs.SheetApart.{sheet-apart, sheet-own, sheet-reached}
 use Rattle.checkpoint_replay.proofs.SheetMoves.{sheet-moves}

@@ -1,3 +1,4 @@
+-- That `push_moves_of_parts` keeps its contract.
 use Rattle.checkpoint_replay.proofs.FoundParts.{day-found, number-found, step-on-day}
 use Rattle.checkpoint_replay.specs.Parts.{day_of}
 use Rattle.std.proofs.lemmas.Map.Iter.{hash_map_turn}

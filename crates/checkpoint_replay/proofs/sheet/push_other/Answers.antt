@@ -1,3 +1,4 @@
+-- That `push_other` keeps its contract.
 use Rattle.checkpoint_replay.proofs.FoundParts.{day-missing, step-on-day}
 use Rattle.checkpoint_replay.specs.Parts.{day_of}
 use Rattle.std.proofs.Common.{None, Option, Some, false, nat_eq, refl, sym, true≢false, ◌∙◌, ◌≡◌}

@@ -1,3 +1,4 @@
+-- What holds at each turn of the loops of `broken_rate`.
 use Rattle.std.proofs.Common.{◌≡◌, None, drop}
 use Rattle.class_terms.specs.Tables.{first_broken, breaks_schedule}
 use Rattle.class_terms.proofs.checking.broken_rate.Given as goal

@@ -1,3 +1,4 @@
+-- What holds at each turn of the loops of `family_fault`.
 use Rattle.std.proofs.Common.{◌≡◌, take}
 use Rattle.class_terms.specs.Checking.{family_fault}
 use Rattle.class_terms.proofs.checking.family_fault.Given as goal

@@ -1,3 +1,4 @@
+-- The proof of the law `deferred_rates_fall`.
 use Rattle.std.proofs.Common.{ℕ, ◌≤◌, None}
 use Rattle.class_terms.specs.Tables.{breaks_schedule}
 use Rattle.class_terms.proofs.TableFacts.{HasRates, rates-lawful, schedule-order, schedule-ceiling, each-follows, each-stands}

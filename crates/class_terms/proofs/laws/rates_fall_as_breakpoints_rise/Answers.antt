@@ -1,3 +1,4 @@
+-- The proof of the law `rates_fall_as_breakpoints_rise`.
 use Rattle.std.proofs.Common.{◌≤◌, None}
 use Rattle.class_terms.specs.declared.lists.Bracket.{Bracket}
 use Rattle.class_terms.specs.Tables.{breaks_table}

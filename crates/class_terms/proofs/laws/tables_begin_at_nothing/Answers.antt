@@ -1,3 +1,4 @@
+-- The proof of the law `tables_begin_at_nothing`.
 use Rattle.class_terms.proofs.TableFacts.{HasRows, rows-lawful, first-floor}
 use Rattle.class_terms.proofs.laws.tables_begin_at_nothing.Goals as goal
 

@@ -1,3 +1,4 @@
+-- That `serve_from` keeps its contract.
 use Rattle.std.proofs.Common.{rules, ◌≡◌, ◌∙◌, ap, map}
 use Rattle.std.specs.String.{string_bytes}
 use Rattle.command_words.specs.Commands.{serve_of, serve_options}

@@ -1,3 +1,4 @@
+-- That `command_with` keeps its contract.
 use Rattle.std.proofs.Common.{◌≡◌, ◌∙◌, ◌<◌, ◌+◌, ◌++◌, ℕ, List, [], ◌∷◌, Bor, map, take, length, zero, suc, get_or, ap, ap₂, refl, sym, arith}
 use Rattle.clap.specs.Words.{with_rule}
 use Rattle.command_words.specs.Options.{Text}

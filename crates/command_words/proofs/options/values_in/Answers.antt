@@ -1,3 +1,4 @@
+-- That `values_in` keeps its contract.
 use Rattle.std.proofs.Common.{◌≡◌, ◌∙◌, sym, true, map}
 use Rattle.std.specs.List.{list_all}
 use Rattle.std.specs.String.{string_bytes}

@@ -1,3 +1,4 @@
+-- That `answer_call` keeps its contract.
 use Rattle.std.proofs.Common.{ap, subst, true, ◌∙◌, ◌≡◌}
 use Rattle.connection_service.proofs.answering.answer_call.Goals as goal
 use Rattle.connection_service.specs.Answers.{batch_asks_lines}

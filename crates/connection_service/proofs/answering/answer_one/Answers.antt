@@ -1,3 +1,4 @@
+-- That `answer_one` keeps its contract.
 use Rattle.std.proofs.Common.{refl, subst, sym}
 use Rattle.agent_events.specs.VerbForms.{Asked}
 use Rattle.connection_service.proofs.answering.answer_one.Goals as goal

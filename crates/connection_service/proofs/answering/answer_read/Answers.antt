@@ -1,3 +1,4 @@
+-- That `answer_read` keeps its contract.
 use Rattle.std.proofs.Common.{ap, max, ◌∙◌}
 use Rattle.connection_service.proofs.AnswerFacts.{read-gets, reads-by}
 use Rattle.connection_service.proofs.answering.answer_read.Goals as goal

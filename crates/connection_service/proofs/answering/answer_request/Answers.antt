@@ -1,3 +1,4 @@
+-- That `answer_request` keeps its contract.
 use Rattle.std.proofs.Common.{Result, List, subst, sym, ℕ}
 use Rattle.connection_service.proofs.AnswerFacts.{gets-by, grown-by}
 use Rattle.connection_service.proofs.answering.answer_request.Goals as goal

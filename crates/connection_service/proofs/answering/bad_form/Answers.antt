@@ -1,3 +1,4 @@
+-- That `bad_form` keeps its contract.
 use Rattle.connection_service.proofs.AnswerFacts.{gets-bad_form}
 use Rattle.connection_service.proofs.answering.bad_form.Goals as goal
 

@@ -1,3 +1,4 @@
+-- That `answer_batch` keeps its contract.
 use Rattle.std.proofs.Common.{ap, max, ◌∙◌}
 use Rattle.connection_service.proofs.AnswerFacts.{read-gets, reads-by}
 use Rattle.connection_service.proofs.batches.answer_batch.Goals as goal

@@ -1,3 +1,4 @@
+-- That `answer_lines` keeps its contract.
 use Rattle.std.proofs.Common.{List, Result, subst, sym, ℕ}
 use Rattle.connection_service.proofs.AnswerFacts.{gets-by, grown-by}
 use Rattle.connection_service.proofs.batches.answer_lines.Goals as goal

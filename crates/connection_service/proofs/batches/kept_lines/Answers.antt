@@ -1,3 +1,4 @@
+-- That `kept_lines` keeps its contract.
 use Rattle.std.proofs.Common.{List, ap, sym, ◌∙◌}
 use Rattle.agent_events.specs.declared.reply.Reply.{Reply}
 use Rattle.connection_service.proofs.BatchFacts.{batch-bytes}

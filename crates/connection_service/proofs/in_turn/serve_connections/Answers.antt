@@ -1,3 +1,4 @@
+-- That `serve_connections` keeps its contract.
 use Rattle.std.proofs.Common.{[], append-nil, subst, sym, ◌∙◌}
 use Rattle.std.specs.Prelude.{Bool}
 use Rattle.connection_service.proofs.AnswerFacts.{goes-then, grown-then}

@@ -1,3 +1,4 @@
+-- The proof of the law `households_are_answered_from_their_views`.
 use Rattle.std.proofs.Common.{ap, max, subst}
 use Rattle.connection_service.proofs.laws.households_are_answered_from_their_views.Goals as goal
 use Rattle.connection_service.specs.Answers.{AnswersBy, Gets, IsAnswered, Said, said_once, said_to_request}

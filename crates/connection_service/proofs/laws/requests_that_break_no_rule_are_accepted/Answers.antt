@@ -1,3 +1,4 @@
+-- The proof of the law `requests_that_break_no_rule_are_accepted`.
 use Rattle.std.proofs.Common.{List, None, Option, Some, ap, append-nil, inl, inr, option_map, refl, subst, sym, ℕ, ◌++◌, ◌∙◌, ◌≡◌, ◌⊎◌}
 use Rattle.std.specs.Prelude.{Bool, false}
 use Rattle.agent_events.specs.declared.reply.Refusal.{Refusal}

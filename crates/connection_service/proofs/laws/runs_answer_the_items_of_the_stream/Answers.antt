@@ -1,3 +1,4 @@
+-- The proof of the law `runs_answer_the_items_of_the_stream`.
 use Rattle.std.proofs.Common.{List, [], ap, length, length-append, refl, sym, ℕ, ◌+◌, ◌++◌, ◌∙◌, ◌∷◌, ◌≡◌}
 use Rattle.http_calls.specs.Calls.{ends}
 use Rattle.http_stream.proofs.ItemLaws.{items-then}

@@ -1,3 +1,4 @@
+-- The proof of the law `runs_leave_journals_lawful`.
 use Rattle.connection_service.proofs.LawfulRuns.{run-lawful}
 use Rattle.connection_service.proofs.laws.runs_leave_journals_lawful.Goals as goal
 

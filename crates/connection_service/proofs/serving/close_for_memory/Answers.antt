@@ -1,3 +1,4 @@
+-- That `close_for_memory` keeps its contract.
 use Rattle.std.proofs.Common.{List, subst, sym, ℕ}
 use Rattle.connection_service.proofs.CountFacts.{counts-over}
 use Rattle.connection_service.proofs.serving.close_for_memory.Goals as goal

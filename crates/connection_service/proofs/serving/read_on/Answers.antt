@@ -1,3 +1,4 @@
+-- That `read_on` keeps its contract.
 use Rattle.std.proofs.Common.{arith, length, take, ◌<◌, ◌≤◌}
 use Rattle.std.proofs.lemmas.List.{length-take}
 use Rattle.connection_service.proofs.ServingFacts.{over-unread, serving-read, told-end, told-same}

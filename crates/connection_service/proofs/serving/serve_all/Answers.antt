@@ -1,3 +1,4 @@
+-- That `serve_all` keeps its contract.
 use Rattle.std.proofs.Common.{[], append-nil, subst, sym, ◌∙◌}
 use Rattle.connection_service.proofs.AnswerFacts.{goes-then, grown-then}
 use Rattle.connection_service.proofs.GoingFacts.{counts-from, on-counts, on-fewer, on-goes, over-counts, over-goes}

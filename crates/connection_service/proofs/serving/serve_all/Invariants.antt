@@ -1,3 +1,4 @@
+-- What holds at each turn of the loops of `serve_all`.
 use Rattle.std.proofs.Common.{IsTrue, ◌++◌, ◌≡◌}
 use Rattle.agent_keeper.specs.Calls.{GoesOn}
 use Rattle.connection_service.specs.Serving.{IsServing, IsWithin, ahead, at_of}

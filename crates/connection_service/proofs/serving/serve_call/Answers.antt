@@ -1,3 +1,4 @@
+-- That `serve_call` keeps its contract.
 use Rattle.std.proofs.Common.{sym, subst}
 use Rattle.connection_service.proofs.CountFacts.{counts-on}
 use Rattle.connection_service.proofs.serving.serve_call.Goals as goal

@@ -1,3 +1,4 @@
+-- That `serve_connection` keeps its contract.
 use Rattle.connection_service.proofs.serving.serve_connection.Goals as goal
 
 pub returns-clause-served : goal.returns-clause-served

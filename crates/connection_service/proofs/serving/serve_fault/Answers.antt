@@ -1,3 +1,4 @@
+-- That `serve_fault` keeps its contract.
 use Rattle.std.proofs.Common.{List, subst, sym, ℕ}
 use Rattle.connection_service.proofs.CountFacts.{counts-on}
 use Rattle.connection_service.proofs.serving.serve_fault.Goals as goal

@@ -1,3 +1,4 @@
+-- That `serve_next` keeps its contract.
 use Rattle.std.proofs.Common.{subst, sym, ◌∙◌}
 use Rattle.connection_service.proofs.ServingFacts.{fewer-over, goes-over, over-closed}
 use Rattle.connection_service.proofs.serving.serve_next.Goals as goal

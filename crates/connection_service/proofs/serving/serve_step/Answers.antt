@@ -1,3 +1,4 @@
+-- That `serve_step` keeps its contract.
 use Rattle.connection_service.proofs.BatchFacts.{call-lines}
 use Rattle.connection_service.proofs.StepFacts.{need-fewer, need-open, need-serving, need-undecided, need-within, step-fewer-call, step-fewer-fault, step-goes-call, step-goes-fault}
 use Rattle.connection_service.proofs.serving.serve_step.Goals as goal

@@ -1,3 +1,4 @@
+-- That `take_piece` keeps its contract.
 use Rattle.std.proofs.Common.{length, rules, subst, sym, ◌≡◌, ◌<◌}
 use Rattle.connection_service.proofs.ServingFacts.{fewer-over, fewer-piece, goes-over, none-of, over-at-end}
 use Rattle.connection_service.proofs.serving.take_piece.Goals as goal

@@ -1,3 +1,4 @@
+-- That `charge` keeps its contract.
 use Rattle.std.proofs.Common.{◌≡◌, ◌+◌, ap, ◌∙◌}
 use Rattle.contingent_charge.specs.DeferredCharge.{value_between, base_of, charge_of}
 use Rattle.contingent_charge.proofs.ChargeLemmas.{IsAdded, SoFar-more, SoFar-end, SoFar-cost}

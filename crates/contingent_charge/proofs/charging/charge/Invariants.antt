@@ -1,3 +1,4 @@
+-- What holds at each turn of the loops of `charge`.
 use Rattle.contingent_charge.proofs.ChargeLemmas.{SoFar}
 use Rattle.contingent_charge.proofs.charging.charge.Given as goal
 

@@ -1,3 +1,4 @@
+-- The proof of the law `a_later_sale_never_has_a_greater_rate`.
 use Rattle.fund_calendar.specs.Dates.{anniversaries}
 use Rattle.fund_calendar.proofs.AnniversaryLemmas.{anniversaries-rise}
 use Rattle.contingent_charge.proofs.LawLemmas.{row-falls}

@@ -1,3 +1,4 @@
+-- The proof of the law `pieces_make_the_value`.
 use Rattle.std.proofs.Common.{◌+◌, sum_by, ap, zero-add}
 use Rattle.share_lots.specs.Values.{value_at}
 use Rattle.contingent_charge.specs.DeferredCharge.{with_values}

@@ -1,3 +1,4 @@
+-- The worked rows of `free_shares_bear_no_charge`, reckoned.
 use Rattle.std.proofs.Common.{refl}
 use Rattle.fund_calendar.specs.Dates.{anniversaries, has_anniversary, add_months, months_later, date_of, date_in_year, year_of, day_number, days_before_year, days_of_months}
 use Rattle.share_lots.specs.Taking.{pieces}

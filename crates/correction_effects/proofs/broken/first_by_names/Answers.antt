@@ -1,3 +1,4 @@
+-- That `first_by_names` keeps its contract.
 use Rattle.std.proofs.Common.{◌++◌, ◌∙◌}
 use Rattle.std.specs.HashSet.{contains}
 use Rattle.std.specs.Option.{option_copied}

@@ -1,3 +1,4 @@
+-- That `first_in_parts` keeps its contract.
 use Rattle.std.proofs.Common.{ap, find, sym, ◌∙◌}
 use Rattle.std.proofs.lemmas.List.Folds.{find-append}
 use Rattle.std.specs.HashSet.{contains}

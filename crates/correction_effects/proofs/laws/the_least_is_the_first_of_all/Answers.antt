@@ -1,3 +1,4 @@
+-- The proof of the law `the_least_is_the_first_of_all`.
 use Rattle.correction_effects.proofs.FirstOfAll.{least_is_first, none_is_broken}
 use Rattle.correction_effects.proofs.laws.the_least_is_the_first_of_all.Goals as goal
 

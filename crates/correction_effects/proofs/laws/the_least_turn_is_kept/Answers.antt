@@ -1,3 +1,4 @@
+-- The proof of the law `the_least_turn_is_kept`.
 use Rattle.correction_effects.proofs.LeastTurn.{least_stays}
 use Rattle.correction_effects.proofs.laws.the_least_turn_is_kept.Goals as goal
 

@@ -1,3 +1,4 @@
+-- The proof of the law `unreached_households_are_left`.
 use Rattle.std.proofs.Common.{refl}
 use Rattle.correction_effects.proofs.UnreachedLeft.{left_by_kind}
 use Rattle.correction_effects.proofs.laws.unreached_households_are_left.Goals as goal

@@ -1,3 +1,4 @@
+-- That `households_naming` keeps its contract.
 use Rattle.correction_effects.proofs.NamedOwners.{are-naming, left-listed}
 use Rattle.correction_effects.proofs.naming.households_naming.Goals as goal
 use Rattle.std.proofs.Common.{ap, filter, ◌∙◌}

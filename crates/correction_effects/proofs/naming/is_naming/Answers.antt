@@ -1,3 +1,4 @@
+-- That `is_naming` keeps its contract.
 use Rattle.std.proofs.Common.{Option, subst, suc, sym, ℕ, ◌<◌, ◌∙◌}
 use Rattle.std.specs.Option.{option_map_or}
 use Rattle.correction_effects.proofs.NamedOwners.{HasPassed, begins-passing, ends-found, ends-passing, falls-back, goes-on}

@@ -1,3 +1,4 @@
+-- What holds at each turn of the loops of `is_naming`.
 use Rattle.std.proofs.Common.{suc}
 use Rattle.std.specs.Option.{option_map_or}
 use Rattle.correction_effects.proofs.NamedOwners.{HasPassed}

@@ -1,3 +1,4 @@
+-- That `keep_naming` keeps its contract.
 use Rattle.std.proofs.Common.{List, ap, filter, rules, ◌∙◌}
 use Rattle.std.proofs.lemmas.Fn.{filter_same}
 use Rattle.agent_events.specs.declared.order.OrderRow.{OrderRow}

@@ -1,3 +1,4 @@
+-- That `row_named` keeps its contract.
 use Rattle.std.proofs.Common.{Option, None, Some, ap, option_map, option_to_list, sym, ℕ, ◌∙◌, ◌≡◌, length}
 use Rattle.std.specs.Option.{option_copied, option_or}
 use Rattle.agent_events.specs.declared.order.OrderRow.{OrderRow}

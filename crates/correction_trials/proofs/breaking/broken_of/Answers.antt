@@ -1,3 +1,4 @@
+-- That `broken_of` keeps its contract.
 use Rattle.std.proofs.Common.{List, ap, find, take, ◌++◌, ◌∙◌}
 use Rattle.std.proofs.Common.{sym}
 use Rattle.std.proofs.lemmas.Result.{IfOk-weaker}

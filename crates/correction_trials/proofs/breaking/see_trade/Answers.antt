@@ -1,3 +1,4 @@
+-- That `see_trade` keeps its contract.
 use Rattle.std.proofs.Common.{ap, sym, ◌∙◌}
 use Rattle.correction_effects.specs.Turns.{turn_in}
 use Rattle.order_book.specs.Books.{NotedJournal}

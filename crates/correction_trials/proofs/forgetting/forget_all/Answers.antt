@@ -1,3 +1,4 @@
+-- That `forget_all` keeps its contract.
 use Rattle.std.proofs.Common.{List, arith, get_or, subst, sym, take, ℕ}
 use Rattle.std.proofs.lemmas.List.{take_all, take_more}
 use Rattle.correction_trials.specs.Settled.{AreBefore}

@@ -1,3 +1,4 @@
+-- That `no_change` keeps its contract.
 use Rattle.correction_trials.proofs.OneMore.{can_advance, no_differences, no_moves, no_steps}
 use Rattle.correction_trials.proofs.nothing.no_change.Goals as goal
 

@@ -1,3 +1,4 @@
+-- That `references_in` keeps its contract.
 use Rattle.std.proofs.Common.{All, subst, ◌<◌}
 use Rattle.agent_events.specs.declared.order.OrderRow.{OrderRow}
 use Rattle.order_book.specs.Books.{NotedJournal}

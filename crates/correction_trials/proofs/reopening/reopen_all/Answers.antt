@@ -1,3 +1,4 @@
+-- That `reopen_all` keeps its contract.
 use Rattle.std.proofs.Common.{None, List, [], arith, get_or, nat_eq, subst, sym, ℕ, ◌++◌, ◌∷◌}
 use Rattle.std.specs.List.{IsDistinct}
 use Rattle.correction_effects.specs.declared.least.BrokenTrade.{BrokenTrade}

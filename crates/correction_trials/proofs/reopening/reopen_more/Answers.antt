@@ -1,3 +1,4 @@
+-- That `reopen_more` keeps its contract.
 use Rattle.correction_trials.proofs.KeptUnbroken.{unbroken_before}
 use Rattle.correction_trials.proofs.ReopenedMore.{more_reopened}
 use Rattle.correction_trials.proofs.TrialSteps.{sees_part, stand_apart}

@@ -1,3 +1,4 @@
+-- That `reopen_one` keeps its contract.
 use Rattle.std.proofs.Common.{Some, [], ap, subst, ◌+◌, ◌-◌, ◌∙◌, ◌∷◌, ◌≤◌}
 use Rattle.std.proofs.lemmas.Result.{IfOk-weaker}
 use Rattle.checkpoint_replay.specs.Moves.{households_of}

@@ -1,3 +1,4 @@
+-- That `moved_with` keeps its contract.
 use Rattle.std.proofs.Common.{refl}
 use Rattle.correction_trials.proofs.trial.moved_with.Goals as goal
 

@@ -1,3 +1,4 @@
+-- That `moves` keeps its contract.
 use Rattle.std.proofs.Common.{ap, sym, ◌∙◌}
 use Rattle.std.proofs.lemmas.Result.{IfOk-weaker}
 use Rattle.register_machine.specs.corrections.Payments.{bearer_in}

@@ -1,3 +1,4 @@
+-- That `reached` keeps its contract.
 use Rattle.std.proofs.Common.{subst}
 use Rattle.std.proofs.lemmas.Result.{IfOk-weaker}
 use Rattle.agent_events.specs.declared.event.EventKind.{EventKind}

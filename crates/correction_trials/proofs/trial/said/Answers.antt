@@ -1,3 +1,4 @@
+-- That `said` keeps its contract.
 use Rattle.std.proofs.Common.{Option, refl, subst, sym, ◌∙◌}
 use Rattle.std.proofs.lemmas.Result.{IfOk-weaker}
 use Rattle.correction_effects.specs.declared.least.BrokenTrade.{BrokenTrade}

@@ -1,3 +1,4 @@
+-- That `try_correction` keeps its contract.
 use Rattle.std.proofs.Common.{subst, sym}
 use Rattle.desk_books.proofs.RoomMade.{kept_show_the_same}
 use Rattle.correction_trials.specs.Settled.{KeepsStates}

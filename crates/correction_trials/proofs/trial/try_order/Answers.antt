@@ -1,3 +1,4 @@
+-- That `try_order` keeps its contract.
 use Rattle.std.proofs.Common.{List, None, subst, sym}
 use Rattle.agent_events.specs.declared.rows.RateRow.{RateRow}
 use Rattle.correction_trials.specs.Reopened.{IsTriedOver}

@@ -1,3 +1,4 @@
+-- That `try_rate` keeps its contract.
 use Rattle.std.proofs.Common.{List, None, subst, sym, ℕ, ◌≤◌}
 use Rattle.agent_events.specs.declared.rows.RateRow.{RateRow}
 use Rattle.correction_trials.specs.Served.{ServeTrial, known_in}

@@ -1,3 +1,4 @@
+-- That `try_with` keeps its contract.
 use Rattle.correction_trials.proofs.BrokenOfAll.{part-left, unreplaced}
 use Rattle.correction_trials.proofs.StartsServe.{like_long}
 use Rattle.correction_trials.proofs.trial.try_with.Goals as goal

@@ -1,3 +1,4 @@
+-- What holds at each turn of the loops of `fields_of_row`.
 use Rattle.std.proofs.Common.{◌≡◌, take}
 use Rattle.csv.specs.Records.{fields_of}
 use Rattle.csv_rows.proofs.rows.fields_of_row.Given as goal

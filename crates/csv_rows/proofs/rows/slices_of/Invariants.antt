@@ -1,3 +1,4 @@
+-- What holds at each turn of the loops of `slices_of`.
 use Rattle.std.proofs.Common.{◌≡◌, map, take}
 use Rattle.csv_rows.proofs.rows.slices_of.Given as goal
 

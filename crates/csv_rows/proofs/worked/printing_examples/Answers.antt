@@ -1,3 +1,4 @@
+-- The worked rows of `printing_examples`, reckoned.
 use Rattle.std.proofs.Common.{refl}
 use Rattle.csv.specs.Writing.{escaped, fields_text, is_blank}
 use Rattle.csv_rows.proofs.worked.printing_examples.Goals as goal

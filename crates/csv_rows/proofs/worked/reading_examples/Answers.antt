@@ -1,3 +1,4 @@
+-- The worked rows of `reading_examples`, reckoned.
 use Rattle.std.proofs.Common.{refl}
 use Rattle.csv.specs.Machine.{next_record}
 use Rattle.csv.specs.Reading.{records_from, strip_bom}

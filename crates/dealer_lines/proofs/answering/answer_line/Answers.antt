@@ -1,3 +1,4 @@
+-- That `answer_line` keeps its contract.
 use Rattle.std.proofs.Common.{subst, ◌≡◌}
 use Rattle.std.specs.Prelude.{OnOk}
 use Rattle.dealer_lines.proofs.LineByLine.{line_taken}

@@ -1,3 +1,4 @@
+-- That `answer_lines` keeps its contract.
 use Rattle.std.proofs.Common.{ap, subst, sym, ◌++◌, ◌∙◌, ◌≡◌}
 use Rattle.agent_events.specs.declared.verdict.Caller.{Caller}
 use Rattle.dealer_lines.proofs.JournalBehind.{lawful_more}

@@ -1,3 +1,4 @@
+-- That `broken_by_earlier` keeps its contract.
 use Rattle.dealer_lines.proofs.earlier.broken_by_earlier.Goals as goal
 
 -- Each rule as it was asked.

@@ -1,3 +1,4 @@
+-- That `placed_before` keeps its contract.
 use Rattle.std.proofs.Common.{find, sym, ap, ◌∙◌}
 use Rattle.std.specs.Option.{option_or}
 use Rattle.dealer_lines.proofs.PlacedBefore.{placed_behind}

@@ -1,3 +1,4 @@
+-- That `placed_in_book` keeps its contract.
 use Rattle.std.proofs.Common.{None, Some, sym, ◌∙◌}
 use Rattle.dealer_lines.proofs.PlacedBefore.{before_by_place}
 use Rattle.dealer_lines.proofs.repeats.placed_in_book.Goals as goal

@@ -1,3 +1,4 @@
+-- That `broken_at_journal` keeps its contract.
 use Rattle.std.proofs.Common.{ap, ◌∙◌}
 use Rattle.agent_events.specs.declared.request.LineForm.{LineForm}
 use Rattle.agent_events.specs.declared.request.Request.{Request}

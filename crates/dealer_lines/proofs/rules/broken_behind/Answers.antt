@@ -1,3 +1,4 @@
+-- That `broken_behind` keeps its contract.
 use Rattle.std.proofs.Common.{ap, sym, ◌∙◌}
 use Rattle.agent_events.specs.declared.request.Request.{Request}
 use Rattle.dealer_lines.proofs.JournalBehind.{few_behind}

@@ -1,3 +1,4 @@
+-- That `said_of_line` keeps its contract.
 use Rattle.dealer_lines.proofs.verdicts.said_of_line.Goals as goal
 use Rattle.dealer_lines.specs.Lines.{line_events}
 use Rattle.register_laws.proofs.HasNoIdentityTwice.{no_identity_twice}

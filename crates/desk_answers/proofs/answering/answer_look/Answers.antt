@@ -1,3 +1,4 @@
+-- That `answer_look` keeps its contract.
 use Rattle.std.proofs.Common.{ap, ◌∙◌}
 use Rattle.desk_answers.proofs.answering.answer_look.Goals as goal
 use Rattle.register_machine.specs.run.Answers.{says}

@@ -1,3 +1,4 @@
+-- That `answer_request` keeps its contract.
 use Rattle.std.proofs.Common.{ap, refl, subst, sym, ◌∙◌}
 use Rattle.agent_events.specs.declared.verdict.Verdict.{Verdict}
 use Rattle.desk_answers.proofs.AnswersByVerdict.{again_said, fresh_said, fresh_steps, look_said, none_steps}

@@ -1,3 +1,4 @@
+-- That `asked_again` keeps its contract.
 use Rattle.std.proofs.Common.{ap, subst, sym, ◌∙◌, ◌≤◌}
 use Rattle.agent_events.specs.Events.{request_of}
 use Rattle.agent_events.specs.declared.event.EventKind.{EventKind}

@@ -1,3 +1,4 @@
+-- That `follows` keeps its contract.
 use Rattle.std.proofs.Common.{inl, refl, sym, ◌∙◌}
 use Rattle.desk_answers.proofs.AskedAgain.{found_ready, never_before, not_before, not_found_never_follows}
 use Rattle.desk_answers.proofs.StepsAgain.{steps_found}

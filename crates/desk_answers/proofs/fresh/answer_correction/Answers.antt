@@ -1,3 +1,4 @@
+-- That `answer_correction` keeps its contract.
 use Rattle.std.proofs.Common.{subst, sym}
 use Rattle.correction_trials.specs.Settled.{KeepsStates}
 use Rattle.correction_trials.specs.kept_of_journals.KeptOfBooks.{AreKeptOf}

@@ -1,3 +1,4 @@
+-- That `answer_fresh` keeps its contract.
 use Rattle.std.proofs.Common.{None, Option, ap, false, subst, sym, true, ◌∙◌, ◌≡◌}
 use Rattle.std.proofs.lemmas.Result.{IfOk-weaker}
 use Rattle.std.specs.Prelude.{IfOk}

@@ -1,3 +1,4 @@
+-- That `order_change` keeps its contract.
 use Rattle.std.proofs.Common.{subst, sym}
 use Rattle.desk_books.proofs.NamedOrders.{changes_replaced}
 use Rattle.desk_books.proofs.index.order_change.Goals as goal

@@ -1,3 +1,4 @@
+-- That `place_of` keeps its contract.
 use Rattle.std.proofs.Common.{sym, ◌∙◌}
 use Rattle.desk_books.proofs.NamedOrders.{has_place}
 use Rattle.desk_books.proofs.index.place_of.Goals as goal

@@ -1,3 +1,4 @@
+-- That `note_classes` keeps its contract.
 use Rattle.std.proofs.Common.{All, subst, sym, take, take_all}
 use Rattle.std.proofs.lemmas.List.Elements.{All-push, All-weaker}
 use Rattle.std.proofs.lemmas.List.{take_more}

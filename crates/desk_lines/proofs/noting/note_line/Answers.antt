@@ -1,3 +1,4 @@
+-- That `note_line` keeps its contract.
 use Rattle.std.proofs.Common.{Some, ap, append-nil, is_some, refl, subst, sym, true, ◌<◌, ◌∙◌, ◌≡◌}
 use Rattle.agent_events.specs.Events.{Event}
 use Rattle.dealer_lines.specs.Lines.{line_event}

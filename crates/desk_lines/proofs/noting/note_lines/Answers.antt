@@ -1,3 +1,4 @@
+-- That `note_lines` keeps its contract.
 use Rattle.std.proofs.Common.{subst, sym, take, ◌++◌}
 use Rattle.agent_events.specs.declared.event.Placed.{Placed}
 use Rattle.dealer_lines.specs.Lines.{line_event, line_events}

@@ -1,3 +1,4 @@
+-- That `reserve_lines` keeps its contract.
 use Rattle.std.proofs.Common.{subst}
 use Rattle.desk_books.proofs.RoomMade.{with_room_for_orders}
 use Rattle.desk_lines.proofs.noting.reserve_lines.Goals as goal

@@ -1,3 +1,4 @@
+-- That `show_reply` keeps its contract.
 use Rattle.std.proofs.Common.{List, ap, ◌∙◌}
 use Rattle.std.specs.List.{filter_map}
 use Rattle.std.specs.Option.{option_copied}

@@ -1,3 +1,4 @@
+-- That `books_reply` keeps its contract.
 use Rattle.std.proofs.Common.{ap, ◌∙◌}
 use Rattle.agent_events.specs.declared.reply.Reply.{Reply}
 use Rattle.desk_looks.proofs.BooksAreKept.{kept-are}

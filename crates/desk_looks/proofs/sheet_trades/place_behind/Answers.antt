@@ -1,3 +1,4 @@
+-- That `place_behind` keeps its contract.
 use Rattle.std.proofs.Common.{rules}
 use Rattle.std.proofs.lemmas.List.Sorted.{IsPartitionPoint-from_clause}
 use Rattle.std.specs.Prelude.{nat_le}

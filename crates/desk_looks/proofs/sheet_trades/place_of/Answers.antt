@@ -1,3 +1,4 @@
+-- That `place_of` keeps its contract.
 use Rattle.std.proofs.Common.{nat_lt, rules}
 use Rattle.std.proofs.lemmas.List.Sorted.{IsPartitionPoint-from_clause}
 use Rattle.agent_events.specs.declared.trade.Trade.{Trade}

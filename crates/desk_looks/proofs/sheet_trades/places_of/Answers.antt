@@ -1,3 +1,4 @@
+-- That `places_of` keeps its contract.
 use Rattle.desk_looks.proofs.SheetTrades.{places-rise}
 use Rattle.desk_looks.proofs.sheet_trades.places_of.Goals as goal
 

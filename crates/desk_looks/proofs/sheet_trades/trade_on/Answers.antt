@@ -1,3 +1,4 @@
+-- That `trade_on` keeps its contract.
 use Rattle.std.proofs.Common.{ap, ◌∙◌}
 use Rattle.std.specs.List.{find}
 use Rattle.desk_looks.proofs.SheetTrades.{found-on}

@@ -1,3 +1,4 @@
+-- That `trades_on` keeps its contract.
 use Rattle.desk_looks.proofs.SheetTrades.{cut-is}
 use Rattle.desk_looks.proofs.sheet_trades.trades_on.Goals as goal
 

@@ -1,3 +1,4 @@
+-- That `books_reply` keeps its contract.
 use Rattle.std.proofs.Common.{List, ap, map, ℕ, ◌∙◌}
 use Rattle.desk_replies.proofs.BooksOfParties.{keeps_cash, keeps_shares}
 use Rattle.desk_replies.specs.GatheredNumbers.{shares_in}

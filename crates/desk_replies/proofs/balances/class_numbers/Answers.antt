@@ -1,3 +1,4 @@
+-- That `class_numbers` keeps its contract.
 use Rattle.std.proofs.Common.{List, ap, filter_map, ◌∙◌}
 use Rattle.class_terms.specs.declared.form.TermsForm.{TermsForm}
 use Rattle.desk_replies.proofs.ClassNumbers.{classes_gathered}

@@ -1,3 +1,4 @@
+-- That `shares_of` keeps its contract.
 use Rattle.std.proofs.Common.{FitsSigned, ap, pos, rules, to_z-of_z, unsigned_abs, ◌∙◌, ◌≡◌}
 use Rattle.std.specs.Int.{w128}
 use Rattle.checkpoint_replay.specs.Totals.{mils_held}

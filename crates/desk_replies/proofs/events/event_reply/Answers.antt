@@ -1,3 +1,4 @@
+-- That `event_reply` keeps its contract.
 use Rattle.std.proofs.Common.{ap, ◌∙◌}
 use Rattle.std.specs.Option.{option_copied}
 use Rattle.desk_replies.proofs.EventsAnswered.{gains_given}

@@ -1,3 +1,4 @@
+-- That `next_number` keeps its contract.
 use Rattle.std.proofs.Common.{List, ap, arith, length, ◌∙◌}
 use Rattle.desk_looks.proofs.SheetNumbers.{counts_its_sheets}
 use Rattle.desk_replies.proofs.EventsAnswered.{few_sheets}

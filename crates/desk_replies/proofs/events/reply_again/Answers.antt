@@ -1,3 +1,4 @@
+-- That `reply_again` keeps its contract.
 use Rattle.std.proofs.Common.{List, Option, ap, subst, sym, take, ◌∙◌}
 use Rattle.std.specs.Option.{option_copied}
 use Rattle.agent_events.specs.declared.event.EventKind.{EventKind}

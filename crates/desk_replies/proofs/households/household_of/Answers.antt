@@ -1,3 +1,4 @@
+-- That `household_of` keeps its contract.
 use Rattle.std.proofs.Common.{Option, ap, subst, sym, ◌∙◌}
 use Rattle.std.specs.Option.{option_map_or}
 use Rattle.agent_events.specs.declared.rows.AccountRow.{AccountRow}

@@ -1,3 +1,4 @@
+-- That `state_of` keeps its contract.
 use Rattle.std.proofs.Common.{ap, ◌∙◌}
 use Rattle.desk_looks.specs.Holdings.{register_in}
 use Rattle.desk_replies.proofs.HouseholdParts.{register_kept}

@@ -1,3 +1,4 @@
+-- That `trades_of` keeps its contract.
 use Rattle.std.proofs.Common.{◌∙◌}
 use Rattle.desk_replies.proofs.HouseholdParts.{trades_kept}
 use Rattle.register_laws.specs.Lawful.{book_behind}

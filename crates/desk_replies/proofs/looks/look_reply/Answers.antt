@@ -1,3 +1,4 @@
+-- That `look_reply` keeps its contract.
 use Rattle.desk_replies.proofs.LooksName.{looks_name}
 use Rattle.desk_replies.proofs.looks.look_reply.Goals as goal
 

@@ -1,3 +1,4 @@
+-- That `reply_by_verb` keeps its contract.
 use Rattle.desk_replies.proofs.looks.reply_by_verb.Goals as goal
 
 pub returns-in-Show : goal.returns-in-Show

@@ -1,3 +1,4 @@
+-- That `show_reply` keeps its contract.
 use Rattle.std.proofs.Common.{List, ap, subst, sym, ℕ, ◌∙◌}
 use Rattle.desk_looks.proofs.ClassesListed.{lists_holdings}
 use Rattle.desk_looks.proofs.FitForLooks.{fit_for_looks}

@@ -1,3 +1,4 @@
+-- That `trace_of_row` keeps its contract.
 use Rattle.std.proofs.Common.{List, ap, arith, subst, sym, ◌≤◌, ◌∙◌}
 use Rattle.agent_events.specs.declared.reply.Reply.{Reply}
 use Rattle.agent_events.specs.declared.trade.Trade.{Trade}

@@ -1,3 +1,4 @@
+-- That `text_by_state` keeps its contract.
 use Rattle.std.proofs.Common.{List, ap, subst, sym, ℕ, ◌∙◌}
 use Rattle.agent_events.specs.declared.trade.Trade.{Trade}
 use Rattle.class_terms.specs.declared.form.TermsForm.{TermsForm}

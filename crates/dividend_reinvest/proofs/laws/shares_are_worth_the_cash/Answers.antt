@@ -1,3 +1,4 @@
+-- The proof of the law `shares_are_worth_the_cash`.
 use Rattle.std.proofs.Common.{◌*◌, arith}
 use Rattle.money_units.proofs.RoundingFacts.{half-most}
 use Rattle.dividend_reinvest.proofs.laws.shares_are_worth_the_cash.Goals as goal

@@ -1,3 +1,4 @@
+-- That `books_replay_alike` keeps its contract.
 use Rattle.event_laws.proofs.ReadsAlike.{first-same, sheets-same}
 use Rattle.event_laws.proofs.replays.books_replay_alike.Goals as goal
 use Rattle.register_machine.specs.replay.Replay.{first_day}

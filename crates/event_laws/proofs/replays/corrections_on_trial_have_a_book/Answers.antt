@@ -1,3 +1,4 @@
+-- That `corrections_on_trial_have_a_book` keeps its contract.
 use Rattle.event_laws.proofs.TriedCorrections.{many-tried, names-tried, numbered-tried}
 use Rattle.event_laws.proofs.replays.corrections_on_trial_have_a_book.Goals as goal
 use Rattle.register_laws.proofs.ExecutedInTurn.{orders_in_turn}

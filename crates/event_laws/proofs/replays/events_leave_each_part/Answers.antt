@@ -1,3 +1,4 @@
+-- That `events_leave_each_part` keeps its contract.
 use Rattle.std.proofs.Common.{ap, ◌∙◌}
 use Rattle.event_laws.proofs.EventReplays.{leaves_replay}
 use Rattle.event_laws.proofs.PartsStay.{same_parts}

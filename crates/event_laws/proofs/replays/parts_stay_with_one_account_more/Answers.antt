@@ -1,3 +1,4 @@
+-- That `parts_stay_with_one_account_more` keeps its contract.
 use Rattle.event_laws.proofs.PartsStay.{known-day, part-same}
 use Rattle.event_laws.proofs.replays.parts_stay_with_one_account_more.Goals as goal
 use Rattle.register_laws.specs.Lawful.{book_behind}

@@ -1,3 +1,4 @@
+-- That `sheets_are_days_more` keeps its contract.
 use Rattle.event_laws.proofs.EventReplays.{goes-over, same-before, sheet-behind-all}
 use Rattle.event_laws.proofs.replays.sheets_are_days_more.Goals as goal
 

@@ -1,3 +1,4 @@
+-- That `read_days` keeps its contract.
 use Rattle.row_fields.specs.Reading.{items_at}
 use Rattle.row_fields.proofs.Loops.{goes_on, ends, is_done, items_count}
 use Rattle.row_fields.specs.Readers.{day_at}

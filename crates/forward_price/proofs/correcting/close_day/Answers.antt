@@ -1,3 +1,4 @@
+-- That `close_day` keeps its contract.
 use Rattle.std.proofs.Common.{◌≡◌, ◌<◌, ◌||◌, take, length, sym, ap, ◌∙◌, arith}
 use Rattle.std.specs.List.{list_any}
 use Rattle.std.proofs.lemmas.List.{take_all}

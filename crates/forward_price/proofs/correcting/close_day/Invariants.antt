@@ -1,3 +1,4 @@
+-- What holds at each turn of the loops of `close_day`.
 use Rattle.std.proofs.Common.{◌≡◌, ◌++◌, map, take, drop}
 use Rattle.forward_price.specs.PriceTables.{closed_in, is_priced}
 use Rattle.forward_price.proofs.correcting.close_day.Given as goal

@@ -1,3 +1,4 @@
+-- That `correct_sheets` keeps its contract.
 use Rattle.std.proofs.Common.{sym, ap, ◌∙◌}
 use Rattle.forward_price.specs.PriceTables.{corrected_sheet}
 use Rattle.forward_price.proofs.MapFacts.{mapped-more, mapped-all}

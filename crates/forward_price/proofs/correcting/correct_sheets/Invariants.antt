@@ -1,3 +1,4 @@
+-- What holds at each turn of the loops of `correct_sheets`.
 use Rattle.std.proofs.Common.{◌≡◌, ◌++◌, map, take, drop}
 use Rattle.forward_price.specs.PriceTables.{corrected_sheet}
 use Rattle.forward_price.proofs.correcting.correct_sheets.Given as goal

@@ -1,3 +1,4 @@
+-- That `due` keeps its contract.
 use Rattle.std.proofs.Common.{option_and_then, ap, ◌∙◌}
 use Rattle.forward_price.specs.Turns.{due_on}
 use Rattle.forward_price.proofs.expecting.due.Goals as goal

@@ -1,3 +1,4 @@
+-- That `due_on` keeps its contract.
 use Rattle.forward_price.specs.Turns.{is_due}
 use Rattle.forward_price.proofs.TurnFacts.{due-is}
 use Rattle.forward_price.proofs.expecting.due_on.Goals as goal

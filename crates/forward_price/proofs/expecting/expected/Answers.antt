@@ -1,3 +1,4 @@
+-- That `expected` keeps its contract.
 use Rattle.std.proofs.Common.{◌≡◌, ℕ, ◌<◌, true, All, get_or, ◌++◌, ◌+◌, take, sym, subst, ◌∙◌, ap, arith}
 use Rattle.std.proofs.lemmas.List.{take_all}
 use Rattle.forward_price.specs.Choices.{IsChoice}

@@ -1,3 +1,4 @@
+-- What holds at each turn of the loops of `expected`.
 use Rattle.std.proofs.Common.{take}
 use Rattle.forward_price.specs.Choices.{IsChoice}
 use Rattle.forward_price.specs.Turns.{is_awaited, is_sooner, pricing_pairs}

@@ -1,3 +1,4 @@
+-- That `first_awaited` keeps its contract.
 use Rattle.std.proofs.Common.{◌≡◌, sym, ap, ◌∙◌, true}
 use Rattle.forward_price.specs.Turns.{is_awaited}
 use Rattle.forward_price.proofs.TurnFacts.{first_awaited-found, first_awaited-none, none_up_to}

@@ -1,3 +1,4 @@
+-- What holds at each turn of the loops of `first_awaited`.
 use Rattle.std.proofs.Common.{◌≡◌, ◌-◌, ◌≤◌, false, All}
 use Rattle.forward_price.specs.Turns.{is_awaited, pricing_pair}
 use Rattle.forward_price.proofs.expecting.first_awaited.Given as goal

@@ -1,3 +1,4 @@
+-- What holds at each turn of the loops of `last_opening`.
 use Rattle.std.proofs.Common.{◌≡◌, ℕ, nat_lt, take}
 use Rattle.forward_price.specs.Turns.{is_due}
 use Rattle.forward_price.proofs.expecting.last_opening.Given as goal

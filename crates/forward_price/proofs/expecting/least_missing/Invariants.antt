@@ -1,3 +1,4 @@
+-- What holds at each turn of the loops of `least_missing`.
 use Rattle.std.proofs.Common.{◌≡◌, nat_lt, fold, take, None}
 use Rattle.forward_price.specs.Choices.{best_so_far}
 use Rattle.forward_price.specs.Turns.{is_wrong, class_numbers}

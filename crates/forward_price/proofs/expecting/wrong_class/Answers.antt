@@ -1,3 +1,4 @@
+-- That `wrong_class` keeps its contract.
 use Rattle.std.proofs.Common.{◌++◌, nat_lt, fold, ap, ◌∙◌, None, arith}
 use Rattle.std.proofs.lemmas.List.{take_all}
 use Rattle.forward_price.specs.Choices.{best_so_far}

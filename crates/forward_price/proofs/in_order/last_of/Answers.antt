@@ -1,3 +1,4 @@
+-- That `last_of` keeps its contract.
 use Rattle.std.proofs.Common.{sym, ◌∙◌, ap}
 use Rattle.std.specs.Option.{option_copied}
 use Rattle.forward_price.specs.PriceTables.{sheet_before}

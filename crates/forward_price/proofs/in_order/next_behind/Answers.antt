@@ -1,3 +1,4 @@
+-- That `next_behind` keeps its contract.
 use Rattle.std.proofs.Common.{sym, ◌∙◌, ap}
 use Rattle.std.specs.Option.{option_copied}
 use Rattle.forward_price.proofs.SearchFacts.{none_listed_next, next_within}

@@ -1,3 +1,4 @@
+-- That `next_sheet` keeps its contract.
 use Rattle.std.proofs.Common.{◌∙◌, ap}
 use Rattle.forward_price.specs.PriceTables.{next_sheet}
 use Rattle.forward_price.proofs.SearchFacts.{rest_of, next_from}

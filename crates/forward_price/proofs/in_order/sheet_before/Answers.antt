@@ -1,3 +1,4 @@
+-- That `sheet_before` keeps its contract.
 use Rattle.std.proofs.Common.{◌∙◌}
 use Rattle.forward_price.proofs.SearchFacts.{before_within}
 use Rattle.forward_price.proofs.in_order.sheet_before.Goals as goal

@@ -1,3 +1,4 @@
+-- The proof of the law `last_price_is_the_latest`.
 use Rattle.std.proofs.Common.{subst}
 use Rattle.forward_price.specs.Choices.{IsChoice}
 use Rattle.forward_price.specs.PriceTables.{is_before, is_later}

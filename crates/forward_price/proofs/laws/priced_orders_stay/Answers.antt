@@ -1,3 +1,4 @@
+-- The proof of the law `priced_orders_stay`.
 use Rattle.std.proofs.Common.{refl}
 use Rattle.forward_price.proofs.KeptFacts.{priced_stays, corrected_stays}
 use Rattle.forward_price.proofs.laws.priced_orders_stay.Goals as goal

@@ -1,3 +1,4 @@
+-- That `follows` keeps its contract.
 use Rattle.std.proofs.Common.{sym, ◌∙◌}
 use Rattle.forward_price.proofs.SearchFacts.{last_is_most}
 use Rattle.forward_price.proofs.next_price.follows.Goals as goal

@@ -1,3 +1,4 @@
+-- That `last_before` keeps its contract.
 use Rattle.std.proofs.Common.{option_and_then, ap, ◌∙◌}
 use Rattle.forward_price.specs.PriceTables.{patched_nav}
 use Rattle.forward_price.proofs.next_price.last_before.Goals as goal

@@ -1,3 +1,4 @@
+-- That `next_among` keeps its contract.
 use Rattle.std.proofs.Common.{ap, ◌∙◌, arith}
 use Rattle.std.proofs.lemmas.List.{take_all}
 use Rattle.forward_price.specs.PriceTables.{next_sheet}

@@ -1,3 +1,4 @@
+-- What holds at each turn of the loops of `next_among`.
 use Rattle.std.proofs.Common.{◌≡◌, fold, take, None}
 use Rattle.std.specs.Option.{option_copied}
 use Rattle.forward_price.specs.Choices.{best_so_far}

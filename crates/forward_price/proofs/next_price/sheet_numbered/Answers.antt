@@ -1,3 +1,4 @@
+-- That `sheet_numbered` keeps its contract.
 use Rattle.std.proofs.Common.{◌<◌, sym, ◌∙◌, arith}
 use Rattle.forward_price.proofs.NumberFacts.{numbered_at, numbered_zero}
 use Rattle.forward_price.proofs.next_price.sheet_numbered.Goals as goal

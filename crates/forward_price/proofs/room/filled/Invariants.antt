@@ -1,3 +1,4 @@
+-- What holds at each turn of the loops of `filled`.
 use Rattle.std.proofs.Common.{◌≡◌, ◌≤◌, take, length, vec_capacity}
 use Rattle.forward_price.proofs.room.filled.Given as goal
 

@@ -1,3 +1,4 @@
+-- What holds at each turn of the loops of `correct_prices`.
 use Rattle.std.proofs.Common.{◌≡◌, ◌++◌, map, take, drop}
 use Rattle.forward_price.specs.PriceTables.{corrected_price}
 use Rattle.forward_price.proofs.sheet.correct_prices.Given as goal

@@ -1,3 +1,4 @@
+-- That `read_day` keeps its contract.
 use Rattle.std.proofs.Common.{arith, rules}
 use Rattle.std.proofs.lemmas.Grind.{common_steps}
 use Rattle.fund_calendar.specs.DayText.{read_day}

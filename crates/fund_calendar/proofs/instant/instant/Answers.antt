@@ -1,3 +1,4 @@
+-- That `instant` keeps its contract.
 use Rattle.std.proofs.Common.{◌≡◌, ℕ, ◌+◌, ◌-◌, ◌*◌, ◌<◌, ◌≤◌, Some, None, refl, inl, inr, arith}
 use Rattle.std.proofs.lemmas.Bool.Decides.{leb_tells}
 use Rattle.fund_calendar.specs.declared.zone.ZoneRule.{ZoneRule}

@@ -1,3 +1,4 @@
+-- That `is_daylight` keeps its contract.
 use Rattle.std.proofs.Common.{◌≡◌, ℕ, ◌+◌, ◌*◌, ◌/◌, ◌<◌, ◌∙◌, ap, refl, arith}
 use Rattle.fund_calendar.specs.ZoneRules.{is_daylight, is_between, change_minute}
 use Rattle.fund_calendar.proofs.instant.is_daylight.Goals as goal

@@ -1,3 +1,4 @@
+-- That `weekday_in_month` keeps its contract.
 use Rattle.std.proofs.Common.{◌≡◌, ℕ, ◌<◌, ◌≤◌, ◌^◌, ◌∙◌, ap, refl, ℤ, pos, arith, to_z, of_z, w32, w16, w8, unsigned_abs}
 use Rattle.jiff_core.proofs.SignedLemmas.{signed_arith, back_small}
 use Rattle.fund_calendar.specs.ZoneRules.{weekday_in_month, jiff_week}

@@ -1,3 +1,4 @@
+-- The proof of the law `anniversaries_never_become_fewer`.
 use Rattle.std.proofs.Common.{arith, inl, inr}
 use Rattle.std.proofs.lemmas.Bool.{cases_lt}
 use Rattle.fund_calendar.proofs.AnniversaryLemmas.{none_before, rise-from}

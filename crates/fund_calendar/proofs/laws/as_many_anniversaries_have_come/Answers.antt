@@ -1,3 +1,4 @@
+-- The proof of the law `as_many_anniversaries_have_come`.
 use Rattle.fund_calendar.proofs.AnniversaryCounts.{anniversaries_come, anniversaries_to_come}
 use Rattle.fund_calendar.proofs.laws.as_many_anniversaries_have_come.Goals as goal
 

@@ -1,3 +1,4 @@
+-- That `entry_of_moment` keeps its contract.
 use Rattle.std.proofs.Common.{◌≡◌, ℕ, List, Option, sym, ap, ◌∙◌, Some, None, find, slice_get, nat_le, ◌==◌, true, false, AllPairs, ◌<◌}
 use Rattle.fund_calendar.specs.declared.pricing_day.PricingDay.{PricingDay}
 use Rattle.fund_calendar.proofs.LookUpLemmas.{moment_found, with_moment}

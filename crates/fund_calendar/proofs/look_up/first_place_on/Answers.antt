@@ -1,3 +1,4 @@
+-- That `first_place_on` keeps its contract.
 use Rattle.std.proofs.Common.{ltb, rules, of_calls}
 use Rattle.std.proofs.lemmas.List.Sorted.{IsPartitionPoint-from_clause, IsPartitionedBy-ltb}
 use Rattle.fund_calendar.proofs.LookUpLemmas.{non_decreasing, day_point, is_lt-nat_cmp}

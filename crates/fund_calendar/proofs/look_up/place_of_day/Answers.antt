@@ -1,3 +1,4 @@
+-- That `place_of_day` keeps its contract.
 use Rattle.std.proofs.Common.{◌≡◌, ◌==◌, true, sym, ◌∙◌}
 use Rattle.std.proofs.lemmas.Bool.Decides.{Decides-eqb}
 use Rattle.fund_calendar.proofs.LookUpLemmas.{find_day, find_no_day}

@@ -1,3 +1,4 @@
+-- That `anniversaries` keeps its contract.
 use Rattle.std.proofs.Common.{◌≡◌, ℕ, zero, suc, Bool, true, false, cond, ◌≤◌, ◌-◌, sym, ◌∙◌, refl, arith, nat_lt, is_lt, nat_cmp}
 use Rattle.std.proofs.lemmas.Bool.Decides.{nat_tests}
 use Rattle.fund_calendar.specs.Dates.{date_of, has_anniversary, anniversaries}

@@ -1,3 +1,4 @@
+-- That `has_anniversary` keeps its contract.
 use Rattle.std.proofs.Common.{◌≡◌, ◌*◌, sym, ◌∙◌, refl, Some, None, arith}
 use Rattle.std.proofs.lemmas.Bool.Decides.{nat_tests}
 use Rattle.fund_calendar.specs.Dates.{add_months, has_anniversary}

@@ -1,3 +1,4 @@
+-- That `listed_days` keeps its contract.
 use Rattle.std.proofs.Common.{◌≡◌, sym, ap, ◌∙◌, arith}
 use Rattle.std.proofs.lemmas.Grind.{common_steps}
 use Rattle.fund_calendar.specs.PricingDays.{instant_on, rising}

@@ -1,3 +1,4 @@
+-- What holds at each turn of the loops of `listed_days`.
 use Rattle.std.proofs.Common.{◌≡◌, ◌≤◌, ◌+◌, map, take}
 use Rattle.fund_calendar.specs.PricingDays.{instant_on, priced_at, first_not_rising, last_moment}
 use Rattle.fund_calendar.proofs.ScheduleLemmas.{fault_from}

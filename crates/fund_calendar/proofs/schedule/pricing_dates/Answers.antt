@@ -1,3 +1,4 @@
+-- That `pricing_dates` keeps its contract.
 use Rattle.std.proofs.Common.{◌≡◌, ◌+◌, ◌-◌, sym, ◌∙◌, arith, rules}
 use Rattle.fund_calendar.specs.PricingDays.{days_from, pricing_dates}
 use Rattle.fund_calendar.proofs.ScheduleLemmas.{kept_more, passed_more, pricing_dates-rise, length-pricing_dates}

@@ -1,3 +1,4 @@
+-- What holds at each turn of the loops of `pricing_dates`.
 use Rattle.std.proofs.Common.{◌≡◌, filter}
 use Rattle.fund_calendar.specs.PricingDays.{days_from, is_priced}
 use Rattle.fund_calendar.proofs.schedule.pricing_dates.Given as goal

@@ -1,3 +1,4 @@
+-- The worked rows of `calendar_examples`, reckoned.
 use Rattle.std.proofs.Common.{refl}
 use Rattle.fund_calendar.specs.Dates.{date_of, date_in_year, year_of, day_number, days_before_year, days_of_months}
 use Rattle.fund_calendar.specs.PricingDays.{new_calendar, days_on, first_not_rising, pricing_dates, days_from}

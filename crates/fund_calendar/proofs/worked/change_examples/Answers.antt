@@ -1,3 +1,4 @@
+-- The worked rows of `change_examples`, reckoned.
 use Rattle.std.proofs.Common.{refl}
 use Rattle.fund_calendar.specs.Dates.{date_of, date_in_year, year_of, day_number, days_before_year, days_of_months}
 use Rattle.fund_calendar.specs.ZoneRules.{instant, is_daylight, weekday_in_month}

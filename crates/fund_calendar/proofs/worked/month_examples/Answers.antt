@@ -1,3 +1,4 @@
+-- The worked rows of `month_examples`, reckoned.
 use Rattle.std.proofs.Common.{refl}
 use Rattle.fund_calendar.specs.Dates.{add_months, months_later, date_of, date_in_year, year_of, day_number, days_before_year, days_of_months}
 use Rattle.fund_calendar.proofs.worked.month_examples.Goals as goal

@@ -1,3 +1,4 @@
+-- The worked rows of `zone_examples`, reckoned.
 use Rattle.std.proofs.Common.{refl}
 use Rattle.fund_calendar.specs.ZoneText.{read_zone}
 use Rattle.fund_calendar.proofs.worked.zone_examples.Goals as goal

@@ -1,3 +1,4 @@
+-- That `read_zone` keeps its contract.
 use Rattle.std.proofs.Common.{rules}
 use Rattle.fund_calendar.specs.ZoneText.{read_zone}
 use Rattle.fund_calendar.proofs.zone_text.read_zone.Goals as goal

@@ -1,3 +1,4 @@
+-- The proof of the law `new_mils_are_a_difference`.
 use Rattle.std.proofs.Common.{◌≡◌, ◌+◌, Some, ap, ◌∙◌, arith}
 use Rattle.fund_exchange.specs.Exchange.{mils_total, with_new_mils}
 use Rattle.fund_exchange.proofs.ExchangeFacts.{renewed-at}

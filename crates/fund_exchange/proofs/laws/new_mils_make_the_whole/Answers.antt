@@ -1,3 +1,4 @@
+-- The proof of the law `new_mils_make_the_whole`.
 use Rattle.std.proofs.Common.{sym, ◌∙◌}
 use Rattle.fund_exchange.specs.Exchange.{renewed_all}
 use Rattle.fund_exchange.proofs.ExchangeFacts.{mils-filter, carried-whole}

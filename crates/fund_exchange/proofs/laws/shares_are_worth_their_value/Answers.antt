@@ -1,3 +1,4 @@
+-- The proof of the law `shares_are_worth_their_value`.
 use Rattle.std.proofs.Common.{◌*◌, arith}
 use Rattle.money_units.proofs.RoundingFacts.{half-least, half-most}
 use Rattle.share_lots.specs.Values.{value_at}

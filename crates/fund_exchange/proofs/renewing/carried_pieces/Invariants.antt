@@ -1,3 +1,4 @@
+-- What holds at each turn of the loops of `carried_pieces`.
 use Rattle.std.proofs.Common.{◌≡◌, ◌++◌, take, drop, filter}
 use Rattle.fund_exchange.specs.Exchange.{mils_total, has_mils, renewed_behind, carried_pieces}
 use Rattle.fund_exchange.proofs.renewing.carried_pieces.Given as goal

@@ -1,3 +1,4 @@
+-- That `push_holders` keeps its contract.
 use Rattle.std.proofs.Common.{ap, arith, refl, ℕ, ◌++◌, ◌∙◌}
 use Rattle.std.proofs.lemmas.List.Elements.{All-rest}
 use Rattle.std.proofs.Common.{Some, ◌≡◌}

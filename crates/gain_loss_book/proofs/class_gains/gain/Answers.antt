@@ -1,3 +1,4 @@
+-- That `gain` keeps its contract.
 use Rattle.gain_loss_book.proofs.GainFacts.{gain-is}
 use Rattle.gain_loss_book.proofs.class_gains.gain.Goals as goal
 

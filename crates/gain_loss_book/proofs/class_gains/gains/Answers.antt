@@ -1,3 +1,4 @@
+-- That `gains` keeps its contract.
 use Rattle.std.proofs.Common.{List, ap, sym, ℕ, ◌∙◌, ◌≡◌}
 use Rattle.std.specs.BTreeMap.{keys}
 use Rattle.std.specs.List.{filter_map}

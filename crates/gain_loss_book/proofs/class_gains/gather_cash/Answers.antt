@@ -1,3 +1,4 @@
+-- That `gather_cash` keeps its contract.
 use Rattle.gain_loss_book.proofs.ClassFlowFacts.{party-rise-fits, party-fall-fits, cash-of}
 use Rattle.gain_loss_book.proofs.class_gains.gather_cash.Goals as goal
 

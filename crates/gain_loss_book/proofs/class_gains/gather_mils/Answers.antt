@@ -1,3 +1,4 @@
+-- That `gather_mils` keeps its contract.
 use Rattle.gain_loss_book.proofs.ClassFlowFacts.{class-rise-fits, class-fall-fits, mils-of}
 use Rattle.gain_loss_book.proofs.class_gains.gather_mils.Goals as goal
 

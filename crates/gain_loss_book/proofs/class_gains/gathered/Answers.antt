@@ -1,3 +1,4 @@
+-- That `gathered` keeps its contract.
 use Rattle.std.proofs.Common.{ap, arith}
 use Rattle.gain_loss_book.proofs.ClassFlowFacts.{cash-of, empty-flows, mils-falls-within, mils-of, mils-rises-within}
 use Rattle.gain_loss_book.proofs.PostedFacts.{falls-within, flow-in, flow-out, rises-within}

@@ -1,3 +1,4 @@
+-- That `put` keeps its contract.
 use Rattle.std.proofs.Common.{Option, ap, nat_eq, sym, unwrap_or, ◌∙◌}
 use Rattle.gain_loss_book.proofs.FlowFacts.{put-whole, set-whole}
 use Rattle.gain_loss_book.specs.Flows.{flow_at, no_flow, whole_flow, with_flow}

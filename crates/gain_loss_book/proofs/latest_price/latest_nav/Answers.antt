@@ -1,3 +1,4 @@
+-- That `latest_nav` keeps its contract.
 use Rattle.std.proofs.Common.{None, Option, Some, ap, sym, unwrap_or, ℕ, ◌∙◌, ◌≡◌}
 use Rattle.forward_price.specs.Sheets.{lists_class}
 use Rattle.forward_price.specs.declared.price_sheet.Sheet.{Sheet}

@@ -1,3 +1,4 @@
+-- The proof of the law `changes_of_movements_sum_to_zero`.
 use Rattle.std.proofs.Common.{arith}
 use Rattle.std.proofs.lemmas.Int.{ints}
 use Rattle.gain_loss_book.proofs.ZeroSums.{all-as-much, came-all, went-all}

@@ -1,3 +1,4 @@
+-- That `add_change` keeps its contract.
 use Rattle.std.proofs.Common.{FitsSigned, ap, rules, to_z-of_z, ◌≡◌, ◌∙◌}
 use Rattle.std.specs.Int.{w128}
 use Rattle.gain_loss_book.proofs.PostedFacts.{change-step}

@@ -1,3 +1,4 @@
+-- That `add_changes` keeps its contract.
 use Rattle.std.proofs.Common.{arith}
 use Rattle.gain_loss_book.proofs.PostedFacts.{all-step, changes-step, fall-fits, rise-fits}
 use Rattle.gain_loss_book.proofs.posting.add_changes.Goals as goal

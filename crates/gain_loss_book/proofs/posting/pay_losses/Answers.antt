@@ -1,3 +1,4 @@
+-- That `pay_losses` keeps its contract.
 use Rattle.std.proofs.Common.{arith}
 use Rattle.gain_loss_book.proofs.PostedFacts.{flow-in, flow-out, loss-fits, losses-step, moved-step}
 use Rattle.gain_loss_book.proofs.posting.pay_losses.Goals as goal

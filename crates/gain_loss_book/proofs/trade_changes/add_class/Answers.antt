@@ -1,3 +1,4 @@
+-- That `add_class` keeps its contract.
 use Rattle.std.proofs.Common.{arith}
 use Rattle.agent_events.specs.declared.order.Party.{Party}
 use Rattle.gain_loss_book.proofs.trade_changes.add_class.Goals as goal

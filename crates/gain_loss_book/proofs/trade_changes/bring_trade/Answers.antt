@@ -1,3 +1,4 @@
+-- That `bring_trade` keeps its contract.
 use Rattle.std.proofs.Common.{ap, ◌∙◌}
 use Rattle.gain_loss_book.proofs.TradeFlowFacts.{mils-of_trade, within-trade}
 use Rattle.gain_loss_book.specs.Flows.{with_flow}

@@ -1,3 +1,4 @@
+-- That `changes_between` keeps its contract.
 use Rattle.std.proofs.Common.{ℕ, ◌-ℤ◌, ◌∙◌, ◌≡◌}
 use Rattle.std.proofs.lemmas.Result.{IfOk-weaker}
 use Rattle.agent_events.specs.declared.order.Party.{Party}

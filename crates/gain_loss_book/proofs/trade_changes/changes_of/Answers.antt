@@ -1,3 +1,4 @@
+-- That `changes_of` keeps its contract.
 use Rattle.std.proofs.Common.{[], ◌∙◌, ◌≡◌}
 use Rattle.std.proofs.lemmas.Result.{IfOk-weaker}
 use Rattle.agent_events.specs.declared.order.Party.{Party}

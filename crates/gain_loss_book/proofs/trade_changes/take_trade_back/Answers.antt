@@ -1,3 +1,4 @@
+-- That `take_trade_back` keeps its contract.
 use Rattle.std.proofs.Common.{ap, ◌∙◌}
 use Rattle.gain_loss_book.proofs.TradeFlowFacts.{cash-of_trade, mils-of_trade, within-trade}
 use Rattle.gain_loss_book.specs.Flows.{reverse_flow, with_flow}

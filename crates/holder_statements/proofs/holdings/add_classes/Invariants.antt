@@ -1,3 +1,4 @@
+-- What holds at each turn of the loops of `add_classes`.
 use Rattle.std.proofs.Common.{take, ◌++◌, ◌≡◌}
 use Rattle.std.specs.List.{flat_map}
 use Rattle.holder_statements.specs.Holdings.{holding_in, line_of_class}

@@ -1,3 +1,4 @@
+-- That `add_holding` keeps its contract.
 use Rattle.std.proofs.Common.{List, [], ap, codes, ℕ, ◌++◌, ◌∙◌, ◌∷◌}
 use Rattle.money_units.specs.Texts.{number_text}
 use Rattle.holder_statements.specs.Holdings.{lot_words, worth_words}

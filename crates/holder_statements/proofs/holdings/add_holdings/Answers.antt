@@ -1,3 +1,4 @@
+-- That `add_holdings` keeps its contract.
 use Rattle.std.proofs.Common.{List, ap, ℕ, ◌++◌, ◌∙◌}
 use Rattle.std.specs.List.{flat_map}
 use Rattle.class_terms.specs.declared.form.TermsForm.{TermsForm}

@@ -1,3 +1,4 @@
+-- The proof of the law `parts_of_trades_are_dated`.
 use Rattle.std.proofs.Common.{◌≤◌}
 use Rattle.std.proofs.lemmas.List.Elements.{All-filter}
 use Rattle.std.proofs.lemmas.List.Kept.{AllPairs-filter}

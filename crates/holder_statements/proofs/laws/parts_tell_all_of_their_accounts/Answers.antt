@@ -1,3 +1,4 @@
+-- The proof of the law `parts_tell_all_of_their_accounts`.
 use Rattle.agent_events.specs.declared.trade.Trade.{Trade}
 use Rattle.holder_statements.proofs.AlikeStatements.{one_of_some}
 use Rattle.holder_statements.proofs.laws.parts_tell_all_of_their_accounts.Goals as goal

@@ -1,3 +1,4 @@
+-- The proof of the law `trades_of_replays_are_dated`.
 use Rattle.std.proofs.lemmas.List.Elements.{All-nil}
 use Rattle.holder_statements.proofs.DatedReplays.{IsBefore, dated_on, none_dated}
 use Rattle.holder_statements.proofs.laws.trades_of_replays_are_dated.Goals as goal

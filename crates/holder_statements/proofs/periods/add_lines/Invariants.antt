@@ -1,3 +1,4 @@
+-- What holds at each turn of the loops of `add_lines`.
 use Rattle.std.proofs.Common.{take, ◌++◌, ◌≡◌}
 use Rattle.std.specs.List.{flat_map}
 use Rattle.holder_statements.specs.Periods.{line_in_period}

@@ -1,3 +1,4 @@
+-- That `place_of` keeps its contract.
 use Rattle.std.proofs.Common.{ltb, of_calls, rules}
 use Rattle.std.proofs.lemmas.List.Sorted.{IsPartitionPoint-from_clause}
 use Rattle.holder_statements.proofs.PeriodFacts.{parted_by}

@@ -1,3 +1,4 @@
+-- That `trades_since` keeps its contract.
 use Rattle.std.proofs.Common.{ap, filter, rules, ◌∙◌}
 use Rattle.register_machine.specs.queries.Statement.{is_in_period}
 use Rattle.holder_statements.proofs.PeriodFacts.{cut_before}

@@ -1,3 +1,4 @@
+-- That `trades_until` keeps its contract.
 use Rattle.std.proofs.Common.{List, ap, filter, rules, subst, sym, ◌∙◌}
 use Rattle.agent_events.specs.declared.trade.Trade.{Trade}
 use Rattle.register_machine.specs.queries.Statement.{is_in_period}

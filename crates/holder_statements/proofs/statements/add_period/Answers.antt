@@ -1,3 +1,4 @@
+-- That `add_period` keeps its contract.
 use Rattle.std.proofs.Common.{List, [], ap, codes, ℕ, ◌++◌, ◌∙◌, ◌∷◌}
 use Rattle.agent_events.specs.AnswerTexts.{day_text}
 use Rattle.holder_statements.specs.Words.{with_words}

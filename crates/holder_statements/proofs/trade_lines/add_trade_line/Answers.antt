@@ -1,3 +1,4 @@
+-- That `add_trade_line` keeps its contract.
 use Rattle.std.proofs.Common.{List, [], ap, ℕ, ◌++◌, ◌∙◌, ◌∷◌}
 use Rattle.agent_events.specs.AnswerTexts.{day_text}
 use Rattle.register_machine.specs.queries.Statement.{trade_words}

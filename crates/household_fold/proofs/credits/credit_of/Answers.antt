@@ -1,3 +1,4 @@
+-- That `credit_of` keeps its contract.
 use Rattle.std.proofs.Common.{ap, arith, filter, map, sum_by, sym, ◌∙◌}
 use Rattle.std.proofs.lemmas.List.{take_all}
 use Rattle.offering_price.specs.Accumulation.{credit}

@@ -1,3 +1,4 @@
+-- What holds at each turn of the loops of `credit_of`.
 use Rattle.std.proofs.Common.{sum_by, take, ◌*◌, ◌≡◌, ◌≤◌}
 use Rattle.household_fold.specs.Credits.{position_credit}
 use Rattle.household_fold.specs.Facts.{book_of_facts, sheet_at_hand}

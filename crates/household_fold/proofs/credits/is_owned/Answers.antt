@@ -1,3 +1,4 @@
+-- That `is_owned` keeps its contract.
 use Rattle.std.proofs.Common.{ap, sym, ◌∙◌}
 use Rattle.household_fold.specs.Facts.{book_of_facts}
 use Rattle.register_machine.specs.journal.Kinds.{household_of}

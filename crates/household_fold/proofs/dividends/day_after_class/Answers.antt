@@ -1,3 +1,4 @@
+-- That `day_after_class` keeps its contract.
 use Rattle.std.proofs.Common.{subst}
 use Rattle.register_machine.specs.replay.Trades.{Day}
 use Rattle.household_fold.specs.Numbers.{AreNumbersWithin}

@@ -1,3 +1,4 @@
+-- That `day_after_dividend` keeps its contract.
 use Rattle.std.proofs.Common.{ap, subst, sym, ◌∙◌}
 use Rattle.dividend_reinvest.specs.declared.payment.Payment.{Payment}
 use Rattle.register_machine.specs.replay.Dividend.{payment_on}

@@ -1,3 +1,4 @@
+-- That `day_after_dividends` keeps its contract.
 use Rattle.household_fold.specs.Dividends.{dividends_known, price_on_trial}
 use Rattle.household_fold.proofs.ListedFacts.{numbers-at_price}
 use Rattle.household_fold.proofs.dividends.day_after_dividends.Goals as goal

@@ -1,3 +1,4 @@
+-- What holds at each turn of the loops of `day_after_dividends`.
 use Rattle.std.proofs.Common.{All, drop, fold, map, ◌≡◌}
 use Rattle.household_fold.specs.Dividends.{class_known, dividends_known, price_on_trial}
 use Rattle.household_fold.specs.Facts.{IsListed}

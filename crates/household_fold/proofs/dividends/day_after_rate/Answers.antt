@@ -1,3 +1,4 @@
+-- That `day_after_rate` keeps its contract.
 use Rattle.std.proofs.Common.{ap, refl, ◌∙◌, ◌≡◌}
 use Rattle.register_machine.specs.replay.Dividend.{keys_of_class}
 use Rattle.household_fold.specs.Dividends.{class_known_at_rate}

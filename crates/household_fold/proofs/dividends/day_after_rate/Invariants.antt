@@ -1,3 +1,4 @@
+-- What holds at each turn of the loops of `day_after_rate`.
 use Rattle.std.proofs.Common.{All, drop, fold, ◌≡◌}
 use Rattle.household_fold.specs.Dividends.{dividend_known, class_known_at_rate}
 use Rattle.household_fold.proofs.dividends.day_after_rate.Given as goal

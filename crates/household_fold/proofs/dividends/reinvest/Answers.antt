@@ -1,3 +1,4 @@
+-- That `reinvest` keeps its contract.
 use Rattle.std.proofs.Common.{ap, ◌∙◌, true}
 use Rattle.register_machine.specs.replay.Positions.{Position, position_of, with_holding}
 use Rattle.share_lots.specs.Lots.{shares_added}

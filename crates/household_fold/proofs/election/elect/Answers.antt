@@ -1,3 +1,4 @@
+-- That `elect` keeps its contract.
 use Rattle.std.proofs.Common.{ap, refl, ◌∙◌}
 use Rattle.register_machine.specs.pricing.OrderClasses.{class_of}
 use Rattle.register_machine.specs.replay.Positions.{Position}

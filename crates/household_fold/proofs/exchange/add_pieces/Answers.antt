@@ -1,3 +1,4 @@
+-- That `add_pieces` keeps its contract.
 use Rattle.household_fold.proofs.ExchangeFacts.{number-piece}
 use Rattle.household_fold.proofs.exchange.add_pieces.Goals as goal
 

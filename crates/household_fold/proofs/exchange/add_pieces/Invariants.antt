@@ -1,3 +1,4 @@
+-- What holds at each turn of the loops of `add_pieces`.
 use Rattle.std.proofs.Common.{drop, fold, ◌+◌, ◌≡◌, ◌≤◌}
 use Rattle.fund_exchange.specs.Exchange as moving
 use Rattle.register_machine.specs.replay.Exchange.{holding_with_piece}

@@ -1,3 +1,4 @@
+-- That `day_by_move` keeps its contract.
 use Rattle.std.proofs.Common.{Option, subst, sym, ◌∙◌}
 use Rattle.agent_events.specs.declared.trade.Why.{Why}
 use Rattle.register_machine.specs.replay.Trades.{day_unless}

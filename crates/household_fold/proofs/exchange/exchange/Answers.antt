@@ -1,3 +1,4 @@
+-- That `exchange` keeps its contract.
 use Rattle.std.proofs.Common.{ap, subst, sym, ◌∙◌}
 use Rattle.register_machine.specs.pricing.OrderClasses.{class_of}
 use Rattle.register_machine.specs.replay.Positions.{Register}

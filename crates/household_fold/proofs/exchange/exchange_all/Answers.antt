@@ -1,3 +1,4 @@
+-- That `exchange_all` keeps its contract.
 use Rattle.std.proofs.Common.{subst, sym, ℕ}
 use Rattle.household_fold.specs.Exchanges.{exchange_known}
 use Rattle.household_fold.specs.Numbers.{AreNumbersWithin}

@@ -1,3 +1,4 @@
+-- That `give_shares` keeps its contract.
 use Rattle.std.proofs.Common.{◌∙◌}
 use Rattle.register_machine.specs.replay.Positions.{Position}
 use Rattle.household_fold.proofs.ExchangeFacts.{given-apart, source-back}

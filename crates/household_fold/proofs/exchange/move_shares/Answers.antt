@@ -1,3 +1,4 @@
+-- That `move_shares` keeps its contract.
 use Rattle.std.proofs.Common.{ap, ◌∙◌}
 use Rattle.household_positions.proofs.DayFacts.{own-account, own-class}
 use Rattle.register_machine.specs.replay.Exchange.{position_with_pieces}

@@ -1,3 +1,4 @@
+-- That `pieces_asked` keeps its contract.
 use Rattle.std.proofs.Common.{Option, ap, unwrap_or, ◌∙◌}
 use Rattle.register_machine.specs.replay.Positions.{Position, fresh_position}
 use Rattle.share_lots.specs.Taking.{pieces}

@@ -1,3 +1,4 @@
+-- The proof of the law `a_step_reads_orders_alone`.
 use Rattle.std.proofs.Common.{List, [], map, refl, ◌∷◌, ◌≡◌}
 use Rattle.agent_events.specs.declared.order.OrderRow.{OrderRow}
 use Rattle.forward_price.specs.declared.price_sheet.Sheet.{Sheet}

@@ -1,3 +1,4 @@
+-- What holds at each turn of the loops of `day_after_ends_of`.
 use Rattle.std.proofs.Common.{fold, take, ◌≡◌}
 use Rattle.register_machine.specs.replay.Letter.{day_after_letter_end}
 use Rattle.household_fold.specs.Facts.{book_of_facts, sheet_at_hand}

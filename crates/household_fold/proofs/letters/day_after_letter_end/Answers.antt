@@ -1,3 +1,4 @@
+-- That `day_after_letter_end` keeps its contract.
 use Rattle.std.proofs.Common.{subst, sym, ◌∙◌}
 use Rattle.household_fold.specs.Limits.{AreLettersWithin, IsLetterWithin}
 use Rattle.household_fold.proofs.PutFacts.{letter-found}

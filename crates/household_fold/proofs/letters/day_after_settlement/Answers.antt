@@ -1,3 +1,4 @@
+-- That `day_after_settlement` keeps its contract.
 use Rattle.std.proofs.Common.{None, Some, ap, subst, sym, ◌∙◌, ◌≡◌}
 use Rattle.letter_of_intent.specs.Letters.{settlement}
 use Rattle.register_machine.specs.pricing.CorrectedBook.{front_of}

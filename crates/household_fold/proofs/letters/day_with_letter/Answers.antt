@@ -1,3 +1,4 @@
+-- That `day_with_letter` keeps its contract.
 use Rattle.std.proofs.Common.{ap, arith, subst, sym, ◌∙◌, ◌≡◌, ◌≤◌, ℕ}
 use Rattle.agent_events.specs.declared.trade.Trade.{Trade}
 use Rattle.agent_events.specs.declared.trade.TradeKind.{TradeKind}

@@ -1,3 +1,4 @@
+-- That `keys_of_letters_over` keeps its contract.
 use Rattle.std.proofs.Common.{All, ap, refl, subst, sym, ◌∙◌, ◌≡◌}
 use Rattle.register_machine.specs.replay.Letter.{keys_of_letters_over}
 use Rattle.household_fold.specs.Facts.{IsListed, sheet_at_hand}

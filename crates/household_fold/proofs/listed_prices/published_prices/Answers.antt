@@ -1,3 +1,4 @@
+-- That `published_prices` keeps its contract.
 use Rattle.household_fold.proofs.ListedFacts.{all-listed, prices-at_hand}
 use Rattle.household_fold.proofs.listed_prices.published_prices.Goals as goal
 

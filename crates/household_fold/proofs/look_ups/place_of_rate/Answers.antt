@@ -1,3 +1,4 @@
+-- That `place_of_rate` keeps its contract.
 use Rattle.std.proofs.Common.{of_calls, rules}
 use Rattle.std.proofs.lemmas.List.Sorted.{IsPartitionPoint-from_clause}
 use Rattle.household_fold.specs.Facts.{rate_stands_before}

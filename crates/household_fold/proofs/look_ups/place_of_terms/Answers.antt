@@ -1,3 +1,4 @@
+-- That `place_of_terms` keeps its contract.
 use Rattle.std.proofs.Common.{ltb, of_calls, rules}
 use Rattle.std.proofs.lemmas.List.Sorted.{IsPartitionPoint-from_clause, IsPartitionedBy-ltb}
 use Rattle.fund_calendar.proofs.LookUpLemmas.{non_decreasing}

@@ -1,3 +1,4 @@
+-- That `follow_order` keeps its contract.
 use Rattle.std.proofs.Common.{ap, subst, sym, ◌∙◌}
 use Rattle.agent_events.specs.declared.order.Body.{Body}
 use Rattle.household_fold.proofs.LettersStay.{elected-letters, exchange-letters, sold-for-letters, sold-letters}

@@ -1,3 +1,4 @@
+-- That `follow_orders` keeps its contract.
 use Rattle.std.proofs.Common.{ap, subst, sym, take, ◌∙◌}
 use Rattle.agent_events.specs.declared.order.Order.{Order}
 use Rattle.household_fold.proofs.FewPositions.{few-owned}

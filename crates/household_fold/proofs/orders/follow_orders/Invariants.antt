@@ -1,3 +1,4 @@
+-- What holds at each turn of the loops of `follow_orders`.
 use Rattle.std.proofs.Common.{take, ◌≡◌}
 use Rattle.household_fold.specs.Households.{AreOwned, orders_known}
 use Rattle.household_fold.specs.Limits.{AreLettersWithin}

@@ -1,3 +1,4 @@
+-- That `day_after_purchase` keeps its contract.
 use Rattle.std.proofs.Common.{None, Some, ap, subst, sym, ◌∙◌}
 use Rattle.agent_events.specs.declared.trade.Outcome.{Outcome}
 use Rattle.agent_events.specs.declared.trade.Trade.{Trade}

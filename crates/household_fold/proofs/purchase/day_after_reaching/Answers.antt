@@ -1,3 +1,4 @@
+-- That `day_after_reaching` keeps its contract.
 use Rattle.std.proofs.Common.{None, ap, ◌∙◌}
 use Rattle.register_machine.specs.replay.Positions.{Position}
 use Rattle.share_lots.specs.Lots.{Holding}

@@ -1,3 +1,4 @@
+-- That `day_by_split` keeps its contract.
 use Rattle.std.proofs.Common.{ap, subst, sym, true, ◌∙◌, ◌≡◌}
 use Rattle.register_machine.specs.replay.Positions.{has_room, position_of}
 use Rattle.register_machine.specs.replay.Trades.{Day}

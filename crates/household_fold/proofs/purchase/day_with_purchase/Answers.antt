@@ -1,3 +1,4 @@
+-- That `day_with_purchase` keeps its contract.
 use Rattle.std.proofs.Common.{None, Some, ap, false, subst, sym, ℕ, ◌<◌, ◌∙◌, ◌≡◌}
 use Rattle.register_machine.specs.pricing.OrderClasses.{class_of}
 use Rattle.register_machine.specs.replay.Positions.{Position, position_of, with_holding}

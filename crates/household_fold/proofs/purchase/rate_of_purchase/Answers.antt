@@ -1,3 +1,4 @@
+-- That `rate_of_purchase` keeps its contract.
 use Rattle.std.proofs.Common.{ap, refl, ◌+◌, ◌∙◌, ◌≡◌}
 use Rattle.offering_price.specs.Accumulation.{bracket}
 use Rattle.register_machine.specs.pricing.CorrectedBook.{front_of}

@@ -1,3 +1,4 @@
+-- What holds at each turn of the loops of `any_letter_over`.
 use Rattle.std.proofs.Common.{false, take, ◌≡◌}
 use Rattle.std.specs.List.{list_any}
 use Rattle.register_machine.specs.replay.Letter.{has_letter_over}

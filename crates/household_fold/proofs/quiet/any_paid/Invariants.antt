@@ -1,3 +1,4 @@
+-- What holds at each turn of the loops of `any_paid`.
 use Rattle.std.proofs.Common.{false, take, ◌≡◌}
 use Rattle.std.specs.List.{list_any}
 use Rattle.household_fold.specs.Quiet.{is_paid}

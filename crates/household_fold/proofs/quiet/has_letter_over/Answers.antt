@@ -1,3 +1,4 @@
+-- That `has_letter_over` keeps its contract.
 use Rattle.std.proofs.Common.{refl, ◌∙◌}
 use Rattle.household_fold.specs.Facts.{sheet_at_hand}
 use Rattle.household_fold.proofs.LetterSteps.{same-over}

@@ -1,3 +1,4 @@
+-- That `is_quiet` keeps its contract.
 use Rattle.std.proofs.Common.{ap, sym, ◌∙◌}
 use Rattle.household_fold.specs.Quiet.{is_quiet_for}
 use Rattle.household_fold.proofs.QuietFacts.{quiet-step}

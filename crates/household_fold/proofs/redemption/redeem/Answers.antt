@@ -1,3 +1,4 @@
+-- That `redeem` keeps its contract.
 use Rattle.std.proofs.Common.{None, ap, ◌∙◌, ◌≡◌}
 use Rattle.agent_events.specs.declared.trade.Trade.{Trade}
 use Rattle.register_machine.specs.pricing.OrderClasses.{class_of}

@@ -1,3 +1,4 @@
+-- That `redeem_for` keeps its contract.
 use Rattle.std.proofs.Common.{ap, ◌*◌, ◌∙◌, ◌≡◌}
 use Rattle.agent_events.specs.declared.trade.Outcome.{Outcome}
 use Rattle.agent_events.specs.declared.trade.Trade.{Trade}

@@ -1,3 +1,4 @@
+-- That `sell` keeps its contract.
 use Rattle.std.proofs.Common.{ap, refl, subst, sym, ◌∙◌, ℕ}
 use Rattle.contingent_charge.specs.DeferredCharge.{charge_of_pieces}
 use Rattle.share_lots.specs.Taking.{pieces}

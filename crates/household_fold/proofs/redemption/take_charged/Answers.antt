@@ -1,3 +1,4 @@
+-- That `take_charged` keeps its contract.
 use Rattle.std.proofs.Common.{ap, ◌∙◌}
 use Rattle.contingent_charge.specs.DeferredCharge.{charge_of_pieces}
 use Rattle.share_lots.specs.Taking.{pieces}

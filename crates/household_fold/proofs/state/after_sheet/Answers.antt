@@ -1,3 +1,4 @@
+-- That `after_sheet` keeps its contract.
 use Rattle.std.proofs.Common.{ap, subst, sym, ◌∙◌, ◌≡◌}
 use Rattle.household_fold.proofs.OrdersInTurn.{orders-owned}
 use Rattle.household_fold.proofs.SheetSteps.{dividends-letters, dividends-owned, ends-owned, numbers-after_dividends, step-parts}

@@ -1,3 +1,4 @@
+-- That `found` keeps its contract.
 use Rattle.std.proofs.Common.{sym, ◌∙◌}
 use Rattle.household_positions.proofs.PlaceFacts.{holds-at, none-at, none-found}
 use Rattle.household_positions.proofs.places.found.Goals as goal

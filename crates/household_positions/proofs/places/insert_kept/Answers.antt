@@ -1,3 +1,4 @@
+-- That `insert_kept` keeps its contract.
 use Rattle.std.proofs.Common.{ap, sym, ◌∙◌}
 use Rattle.std.specs.List.{insert}
 use Rattle.household_positions.proofs.PlaceFacts.{IsPlace, fresh-put, kept-put, put-register}

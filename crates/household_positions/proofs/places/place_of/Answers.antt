@@ -1,3 +1,4 @@
+-- That `place_of` keeps its contract.
 use Rattle.std.proofs.Common.{rules}
 use Rattle.std.proofs.lemmas.List.Sorted.{IsPartitionPoint-from_clause}
 use Rattle.register_machine.specs.replay.Positions.{fresh_position, stands_before}

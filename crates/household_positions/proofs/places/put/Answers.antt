@@ -1,3 +1,4 @@
+-- That `put` keeps its contract.
 use Rattle.std.proofs.Common.{ap, ◌∙◌}
 use Rattle.register_machine.specs.replay.Positions.{is_position}
 use Rattle.register_machine.specs.replay.Positions as positions

@@ -1,3 +1,4 @@
+-- That `remove_found` keeps its contract.
 use Rattle.std.proofs.Common.{false, slice_get, sym, true, ◌∙◌, ◌≡◌}
 use Rattle.std.specs.Option.{option_map_or}
 use Rattle.register_machine.specs.replay.Positions.{is_position}

@@ -1,3 +1,4 @@
+-- What holds at each turn of the loops of `copied_positions`.
 use Rattle.std.proofs.Common.{take, ◌≡◌}
 use Rattle.household_positions.proofs.register.copied_positions.Given as goal
 

@@ -1,3 +1,4 @@
+-- The proof of the law `numbers_of_lots_never_fall`.
 use Rattle.household_replay.proofs.PremiseFacts.{days_numbers}
 use Rattle.household_replay.proofs.laws.numbers_of_lots_never_fall.Goals as goal
 

@@ -1,3 +1,4 @@
+-- The proof of the law `quiet_sheets_change_nothing`.
 use Rattle.household_replay.proofs.StepFacts.{busy-most, quiet-days}
 use Rattle.household_replay.proofs.laws.quiet_sheets_change_nothing.Goals as goal
 

@@ -1,3 +1,4 @@
+-- The proof of the law `what_can_be_replayed_can_in_parts`.
 use Rattle.household_replay.proofs.PremiseFacts.{can_begin, can_part}
 use Rattle.household_replay.proofs.laws.what_can_be_replayed_can_in_parts.Goals as goal
 

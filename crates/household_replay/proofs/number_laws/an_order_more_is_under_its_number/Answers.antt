@@ -1,3 +1,4 @@
+-- The proof of the law `an_order_more_is_under_its_number`.
 use Rattle.household_replay.proofs.NumberFacts.{under-other, under-own}
 use Rattle.household_replay.proofs.number_laws.an_order_more_is_under_its_number.Goals as goal
 

@@ -1,3 +1,4 @@
+-- The proof of the law `each_number_is_met_once`.
 use Rattle.household_replay.proofs.MetFacts.{met-apart, met-each, met-no_other}
 use Rattle.household_replay.proofs.number_laws.each_number_is_met_once.Goals as goal
 

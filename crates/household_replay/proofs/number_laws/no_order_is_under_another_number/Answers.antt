@@ -1,3 +1,4 @@
+-- The proof of the law `no_order_is_under_another_number`.
 use Rattle.household_replay.proofs.MetFacts.{met-none}
 use Rattle.household_replay.proofs.number_laws.no_order_is_under_another_number.Goals as goal
 

@@ -1,3 +1,4 @@
+-- That `first_place` keeps its contract.
 use Rattle.std.proofs.Common.{ltb, of_calls, rules}
 use Rattle.std.proofs.lemmas.List.Sorted.{IsPartitionPoint-from_clause, IsPartitionedBy-ltb}
 use Rattle.household_replay.proofs.SearchFacts.{below_from, non_falling}

@@ -1,3 +1,4 @@
+-- That `last_of` keeps its contract.
 use Rattle.std.proofs.Common.{◌∙◌}
 use Rattle.household_replay.proofs.NumberFacts.{last-most}
 use Rattle.household_replay.proofs.places.last_of.Goals as goal

@@ -1,3 +1,4 @@
+-- That `place_behind` keeps its contract.
 use Rattle.std.proofs.Common.{leb, of_calls, rules}
 use Rattle.std.proofs.lemmas.List.Sorted.{IsPartitionPoint-from_clause, IsPartitionedBy-leb}
 use Rattle.household_replay.proofs.SearchFacts.{up_to_from, non_falling}

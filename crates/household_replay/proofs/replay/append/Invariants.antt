@@ -1,3 +1,4 @@
+-- What holds at each turn of the loops of `append`.
 use Rattle.std.proofs.Common.{take, ◌++◌, ◌≡◌}
 use Rattle.household_replay.proofs.replay.append.Given as goal
 

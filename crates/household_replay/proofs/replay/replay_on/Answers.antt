@@ -1,3 +1,4 @@
+-- That `replay_on` keeps its contract.
 use Rattle.std.proofs.Common.{List, ap, arith, subst, suc, sym, ℕ, ◌+◌, ◌-◌, ◌∙◌, ◌≡◌}
 use Rattle.agent_events.specs.declared.order.Order.{Order}
 use Rattle.household_fold.specs.Facts.{FactsFit, Known}

@@ -1,3 +1,4 @@
+-- What holds at each turn of the loops of `replay_on`.
 use Rattle.std.proofs.Common.{◌+◌, ◌-◌, ◌≡◌, ◌≤◌}
 use Rattle.household_fold.specs.Households.{first_of}
 use Rattle.household_replay.specs.BusySheets.{busy_sheets}

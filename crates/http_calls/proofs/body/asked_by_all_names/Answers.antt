@@ -1,3 +1,4 @@
+-- That `asked_by_all_names` keeps its contract.
 use Rattle.http_calls.proofs.body.asked_by_all_names.Goals as goal
 
 pub returns : goal.returns

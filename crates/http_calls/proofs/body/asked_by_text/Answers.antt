@@ -1,3 +1,4 @@
+-- That `asked_by_text` keeps its contract.
 use Rattle.serde_json.specs.Errors.{IsMemory}
 use Rattle.http_calls.proofs.MemberLaws.{object-read, object-unread, unread-fails}
 use Rattle.http_calls.proofs.body.asked_by_text.Goals as goal

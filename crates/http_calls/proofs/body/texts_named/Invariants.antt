@@ -1,3 +1,4 @@
+-- What holds at each turn of the loops of `texts_named`.
 use Rattle.std.proofs.Common.{◌≡◌, map, take}
 use Rattle.agent_events.specs.JsonForms.{texts_named}
 use Rattle.http_calls.specs.Views.{member_view}

@@ -1,3 +1,4 @@
+-- That `answered` keeps its contract.
 use Rattle.std.proofs.Common.{◌≡◌, ◌∙◌, ap, subst}
 use Rattle.std.specs.Prelude.{IfOk}
 use Rattle.http_calls.specs.Calls.{answered_by, parts_of, path_of}

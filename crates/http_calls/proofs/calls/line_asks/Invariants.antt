@@ -1,3 +1,4 @@
+-- What holds at each turn of the loops of `line_asks`.
 use Rattle.std.proofs.Common.{◌≡◌, map, take}
 use Rattle.agent_events.specs.Items.{batch_line}
 use Rattle.http_calls.proofs.calls.line_asks.Given as goal

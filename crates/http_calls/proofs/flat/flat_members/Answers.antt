@@ -1,3 +1,4 @@
+-- That `flat_members` keeps its contract.
 use Rattle.std.proofs.Common.{◌≡◌, [], ◌∷◌, ◌∙◌, Some, map, sym, ap}
 use Rattle.json.specs.Lex.{tokens}
 use Rattle.json.specs.Reads.{token_of}

@@ -1,3 +1,4 @@
+-- That `members_behind` keeps its contract.
 use Rattle.std.proofs.Common.{◌≡◌, None, Some, map, subst, sym, arith}
 use Rattle.json.specs.Json.{read_key}
 use Rattle.http_calls.specs.Views.{member_view}

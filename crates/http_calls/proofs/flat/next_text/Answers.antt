@@ -1,3 +1,4 @@
+-- That `next_text` keeps its contract.
 use Rattle.std.proofs.Common.{◌≡◌, ◌<◌, ◌∷◌, ◌∙◌, length, Some, ap, arith}
 use Rattle.json.specs.Reads.{token_of}
 use Rattle.json.specs.Token.{Token}

@@ -1,3 +1,4 @@
+-- That `number_text` keeps its contract.
 use Rattle.std.proofs.Common.{◌≡◌, ◌==◌, ◌∙◌, false, slice_index, sym, ap}
 use Rattle.fast_float.specs.Text.{scan}
 use Rattle.http_calls.proofs.FlatReads.{number-reads}

@@ -1,3 +1,4 @@
+-- That `are_named` keeps its contract.
 use Rattle.std.proofs.Common.{◌∙◌, map, sym}
 use Rattle.std.specs.Prelude.{bytes_eq}
 use Rattle.std.specs.List.{list_any}

@@ -1,3 +1,4 @@
+-- That `is_among` keeps its contract.
 use Rattle.std.proofs.Common.{◌∙◌, sym}
 use Rattle.std.specs.Prelude.{bytes_eq}
 use Rattle.http_calls.proofs.MemberLaws.{list_any-map}

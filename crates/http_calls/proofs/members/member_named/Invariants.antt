@@ -1,3 +1,4 @@
+-- What holds at each turn of the loops of `member_named`.
 use Rattle.std.proofs.Common.{◌≡◌, map, take}
 use Rattle.std.specs.Prelude.{option_map}
 use Rattle.agent_events.specs.JsonForms.{member_named}

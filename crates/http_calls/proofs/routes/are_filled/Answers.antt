@@ -1,3 +1,4 @@
+-- That `are_filled` keeps its contract.
 use Rattle.std.proofs.Common.{◌∙◌, sym}
 use Rattle.std.proofs.lemmas.List.Folds.{list_all-map}
 use Rattle.http_calls.specs.Calls.{is_filled}

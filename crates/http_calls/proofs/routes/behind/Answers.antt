@@ -1,3 +1,4 @@
+-- That `behind` keeps its contract.
 use Rattle.std.proofs.Common.{sym}
 use Rattle.std.proofs.lemmas.List.{drop-map, take_rest}
 use Rattle.http_calls.proofs.routes.behind.Goals as goal

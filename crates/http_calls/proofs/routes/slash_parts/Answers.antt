@@ -1,3 +1,4 @@
+-- That `slash_parts` keeps its contract.
 use Rattle.std.proofs.Common.{◌<◌, ◌∙◌, length, length-set, arith}
 use Rattle.http_calls.proofs.PartLaws.{room-end, room-more}
 use Rattle.http_calls.proofs.routes.slash_parts.Goals as goal

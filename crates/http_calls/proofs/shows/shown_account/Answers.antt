@@ -1,3 +1,4 @@
+-- That `shown_account` keeps its contract.
 use Rattle.std.proofs.Common.{sym, ◌∙◌}
 use Rattle.std.proofs.lemmas.List.{take_rest}
 use Rattle.http_calls.proofs.ShowLaws.{shown}

@@ -1,3 +1,4 @@
+-- That `members_of` keeps its contract.
 use Rattle.std.proofs.Common.{◌<◌, ◌≤◌, ◌∙◌, [], min, length, refl, arith}
 use Rattle.serde_json.specs.View.{members_view}
 use Rattle.http_replies.proofs.ObjectLaws.{object-all, object-more}

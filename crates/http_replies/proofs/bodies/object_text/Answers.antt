@@ -1,3 +1,4 @@
+-- That `object_text` keeps its contract.
 use Rattle.std.proofs.Common.{◌≡◌, false, map, sym, subst}
 use Rattle.std.specs.List.{zip}
 use Rattle.serde_json.specs.Data.{Data}

@@ -1,3 +1,4 @@
+-- That `json_bytes` keeps its contract.
 use Rattle.http_replies.proofs.bytes.json_bytes.Goals as goal
 
 pub returns : goal.returns

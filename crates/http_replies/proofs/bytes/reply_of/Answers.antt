@@ -1,3 +1,4 @@
+-- That `reply_of` keeps its contract.
 use Rattle.std.proofs.Common.{◌∙◌, codes, length}
 use Rattle.std.specs.Prelude.{decimal}
 use Rattle.http_replies.specs.Bytes.{close_line, crlf, field_line, status_line}

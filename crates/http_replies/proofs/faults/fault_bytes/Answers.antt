@@ -1,3 +1,4 @@
+-- That `fault_bytes` keeps its contract.
 use Rattle.std.proofs.Common.{◌≡◌, ◌∙◌, Bool, subst, sym}
 use Rattle.http_replies.specs.Bytes.{fault_bytes}
 use Rattle.http_replies.proofs.FaultLaws.{kept-is, last-is}

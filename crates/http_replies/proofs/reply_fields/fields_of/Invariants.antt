@@ -1,3 +1,4 @@
+-- What holds at each turn of the loops of `fields_of`.
 use Rattle.std.proofs.Common.{◌≡◌, map, take}
 use Rattle.http_replies.proofs.reply_fields.fields_of.Given as goal
 

@@ -1,3 +1,4 @@
+-- That `spaced` keeps its contract.
 use Rattle.std.proofs.Common.{ap, arith}
 use Rattle.http_replies.proofs.ItemLists.{joined-first, joined-next}
 use Rattle.http_replies.proofs.reply_texts.spaced.Goals.{then-i-gt0+in_ok-push, else-i-gt0}

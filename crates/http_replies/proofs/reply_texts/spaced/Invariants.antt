@@ -1,3 +1,4 @@
+-- What holds at each turn of the loops of `spaced`.
 use Rattle.std.proofs.Common.{◌≡◌, take}
 use Rattle.agent_events.specs.AnswerTexts.{list_text}
 use Rattle.http_replies.proofs.reply_texts.spaced.Given as goal

@@ -1,3 +1,4 @@
+-- The worked rows of `reply_examples`, reckoned.
 use Rattle.std.proofs.Common.{refl}
 use Rattle.std.specs.Fmt.{digits}
 use Rattle.serde_json.proofs.OnLiterals.{serde_json_on_literals}

@@ -1,3 +1,4 @@
+-- That `parse_head` keeps its contract.
 use Rattle.std.proofs.Common.{arith}
 use Rattle.http_stream.proofs.FieldLaws.{head-parses}
 use Rattle.http_stream.proofs.head.parse_head.Goals as goal

@@ -1,3 +1,4 @@
+-- That `parse_short_head` keeps its contract.
 use Rattle.std.proofs.Common.{arith}
 use Rattle.http_stream.proofs.FieldLaws.{found-of, head-parses}
 use Rattle.http_stream.proofs.head.parse_short_head.Goals as goal

@@ -1,3 +1,4 @@
+-- That `read_lines` keeps its contract.
 use Rattle.std.proofs.Common.{refl}
 use Rattle.http_stream.specs.Stream.{Shown}
 use Rattle.http_stream.proofs.FrontLaws.{front-ended, front-full}

@@ -1,3 +1,4 @@
+-- That `read_text` keeps its contract.
 use Rattle.std.proofs.Common.{refl, ap}
 use Rattle.http_stream.specs.Stream.{Shown, behind}
 use Rattle.http_stream.proofs.HeadLaws.{head-take}

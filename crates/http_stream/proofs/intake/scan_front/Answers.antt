@@ -1,3 +1,4 @@
+-- That `scan_front` keeps its contract.
 use Rattle.std.proofs.Common.{◌≡◌, ◌≤◌, ℕ, ◌-◌, List, refl, min, length, take, ◌∙◌, arith}
 use Rattle.std.proofs.lemmas.List.{length-take, length-drop}
 use Rattle.http_stream.specs.Lines.{head_limit}

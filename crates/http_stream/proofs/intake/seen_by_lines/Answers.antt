@@ -1,3 +1,4 @@
+-- That `seen_by_lines` keeps its contract.
 use Rattle.http_stream.proofs.FrontLaws.{seen-open}
 use Rattle.http_stream.proofs.intake.seen_by_lines.Goals as goal
 

@@ -1,3 +1,4 @@
+-- That `window_of` keeps its contract.
 use Rattle.std.proofs.Common.{take, ap, ◌∙◌}
 use Rattle.std.proofs.lemmas.List.{take_min}
 use Rattle.http_stream.proofs.intake.window_of.Goals as goal

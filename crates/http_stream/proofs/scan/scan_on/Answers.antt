@@ -1,3 +1,4 @@
+-- That `scan_on` keeps its contract.
 use Rattle.std.proofs.Common.{◌+◌, ◌∙◌, ap, length}
 use Rattle.std.specs.List.{fold}
 use Rattle.std.proofs.lemmas.List.{take_rest}

@@ -1,3 +1,4 @@
+-- That `note` keeps its contract.
 use Rattle.std.proofs.Common.{ap, length, subst, sym, ◌<◌, ◌∙◌}
 use Rattle.forward_price.specs.PriceTables.{Table}
 use Rattle.intake_register.proofs.noting.note.Goals as goal

@@ -1,3 +1,4 @@
+-- That `note_fresh` keeps its contract.
 use Rattle.std.proofs.Common.{ap, subst, sym, ◌∙◌, ◌≡◌}
 use Rattle.std.proofs.lemmas.Result.{IfOk-weaker}
 use Rattle.agent_events.specs.declared.verdict.Caller.{Caller}

@@ -1,3 +1,4 @@
+-- That `verdict_on` keeps its contract.
 use Rattle.std.proofs.Common.{ap, subst, sym, ◌∙◌, ◌≡◌}
 use Rattle.std.specs.Prelude.{IfOk}
 use Rattle.agent_events.specs.declared.verdict.Verdict.{Verdict}

@@ -1,3 +1,4 @@
+-- The proof of the law `fixed_prices_have_a_patch`.
 use Rattle.journal_tables.proofs.PricedSheets.{is-listed, listed-patch}
 use Rattle.journal_tables.proofs.laws.fixed_prices_have_a_patch.Goals as goal
 

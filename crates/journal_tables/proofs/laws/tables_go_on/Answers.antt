@@ -1,3 +1,4 @@
+-- The proof of the law `tables_go_on`.
 use Rattle.journal_tables.proofs.EventTables.{accounts-on, few-accounts-on, few-terms-on, rates-on, terms-on}
 use Rattle.journal_tables.proofs.StandingTables.{stand-after}
 use Rattle.journal_tables.proofs.laws.tables_go_on.Goals as goal

@@ -1,3 +1,4 @@
+-- The proof of the law `tables_of_lawful_journals_serve`.
 use Rattle.std.proofs.Common.{refl}
 use Rattle.journal_tables.proofs.ServedFacts.{numbered-there, serve}
 use Rattle.journal_tables.proofs.laws.tables_of_lawful_journals_serve.Goals as goal

@@ -1,3 +1,4 @@
+-- The proof of the law `tables_serve_a_fixed_price`.
 use Rattle.std.proofs.Common.{ap, length, subst, sym, ◌∙◌, ◌≡◌}
 use Rattle.std.proofs.lemmas.List.{length-map}
 use Rattle.agent_events.specs.declared.event.EventKind.{EventKind}

@@ -1,3 +1,4 @@
+-- The proof of the law `tables_serve_a_fixed_rate`.
 use Rattle.std.proofs.Common.{ap, length, sym, ◌≡◌}
 use Rattle.agent_events.specs.declared.event.EventKind.{EventKind}
 use Rattle.forward_price.specs.PriceTables.{Table}

@@ -1,3 +1,4 @@
+-- That `put_account` keeps its contract.
 use Rattle.std.proofs.Common.{nat_lt, sym, ◌∙◌}
 use Rattle.household_fold.proofs.LookUps.{by_number}
 use Rattle.journal_tables.proofs.PutRows.{IsPlace, insert-new, there-new}

@@ -1,3 +1,4 @@
+-- That `put_dividend` keeps its contract.
 use Rattle.std.proofs.Common.{sym, ◌∙◌}
 use Rattle.household_fold.proofs.LookUps.{rate_in_place}
 use Rattle.household_fold.specs.Facts.{rate_stands_before}

@@ -1,3 +1,4 @@
+-- That `put_fixed_rate` keeps its contract.
 use Rattle.std.proofs.Common.{sym, ◌∙◌}
 use Rattle.household_fold.specs.Facts.{rate_stands_before}
 use Rattle.journal_tables.proofs.PutRows.{IsPlace, insert-put, write-put}

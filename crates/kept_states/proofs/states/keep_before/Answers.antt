@@ -1,3 +1,4 @@
+-- That `keep_before` keeps its contract.
 use Rattle.std.proofs.Common.{nat_lt, rules}
 use Rattle.std.proofs.lemmas.Fn.{filter_same}
 use Rattle.kept_states.proofs.states.keep_before.Goals as goal

@@ -1,3 +1,4 @@
+-- The proof of the law `corrections_on_trial_have_a_sound_book`.
 use Rattle.ledger_laws.proofs.TrialBooks.{book-after, orders-on, sound-trial, trial-anew, unfixed}
 use Rattle.ledger_laws.proofs.book_laws.corrections_on_trial_have_a_sound_book.Goals as goal
 

@@ -1,3 +1,4 @@
+-- The proof of the law `tables_that_agree_are_facts`.
 use Rattle.ledger_laws.proofs.ReplaysAsPart.{sheets_give_facts}
 use Rattle.ledger_laws.proofs.SoundBooks.{books-alike, have-terms}
 use Rattle.ledger_laws.proofs.book_laws.tables_that_agree_are_facts.Goals as goal

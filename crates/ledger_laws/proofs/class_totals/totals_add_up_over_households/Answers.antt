@@ -1,3 +1,4 @@
+-- That `totals_add_up_over_households` keeps its contract.
 use Rattle.std.proofs.Common.{ap, arith, pos, sum_by, ℕ, ◌+◌, ◌∙◌, ◌≡◌}
 use Rattle.gain_loss_book.specs.Movements.{trades_mils}
 use Rattle.gain_loss_book.specs.Flows.{net}

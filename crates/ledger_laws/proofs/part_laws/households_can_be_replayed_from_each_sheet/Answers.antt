@@ -1,3 +1,4 @@
+-- The proof of the law `households_can_be_replayed_from_each_sheet`.
 use Rattle.ledger_laws.proofs.EachStep.{facts-over, lots-behind, orders-over}
 use Rattle.ledger_laws.proofs.OwnedParts.{owned_by_accounts}
 use Rattle.ledger_laws.proofs.part_laws.households_can_be_replayed_from_each_sheet.Goals as goal

@@ -1,3 +1,4 @@
+-- The proof of the law `households_can_step_over_each_sheet`.
 use Rattle.std.proofs.Common.{◌+◌}
 use Rattle.ledger_laws.proofs.EachStep.{facts-fit, lots-behind-step}
 use Rattle.ledger_laws.proofs.OwnedParts.{owned_by_accounts}

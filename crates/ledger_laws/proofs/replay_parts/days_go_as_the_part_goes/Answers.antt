@@ -1,3 +1,4 @@
+-- That `days_go_as_the_part_goes` keeps its contract.
 use Rattle.ledger_laws.proofs.ReplaysAsPart.{days-first, days-from, days-whole}
 use Rattle.ledger_laws.proofs.replay_parts.days_go_as_the_part_goes.Goals as goal
 

@@ -1,3 +1,4 @@
+-- That `orders_stand_sheet_by_sheet` keeps its contract.
 use Rattle.ledger_laws.specs.PartsByFacts.{orders_of_part}
 use Rattle.ledger_laws.proofs.replay_parts.orders_stand_sheet_by_sheet.Goals as goal
 use Rattle.ledger_laws.proofs.SheetBySheet.{found-under, numbers-rise}

@@ -1,3 +1,4 @@
+-- That `replayed_registers_stand_in_order` keeps its contract.
 use Rattle.ledger_laws.proofs.replay_parts.replayed_registers_stand_in_order.Goals as goal
 use Rattle.register_laws.proofs.ReplayedAlone.{first-part, sheets-part}
 use Rattle.register_laws.specs.Households.{is_of_household}

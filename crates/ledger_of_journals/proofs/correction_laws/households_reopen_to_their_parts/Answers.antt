@@ -1,3 +1,4 @@
+-- The proof of the law `households_reopen_to_their_parts`.
 use Rattle.ledger_of_journals.proofs.CorrectedParts.{can-reopen, days-whole}
 use Rattle.ledger_of_journals.proofs.correction_laws.households_reopen_to_their_parts.Goals as goal
 

@@ -1,3 +1,4 @@
+-- The proof of the law `reopenings_correct_ledgers`.
 use Rattle.ledger_of_journals.proofs.CorrectedParts.{ledger_corrected}
 use Rattle.ledger_of_journals.proofs.Reopenings.{reopened-or-left}
 use Rattle.ledger_of_journals.proofs.correction_laws.reopenings_correct_ledgers.Goals as goal

@@ -1,3 +1,4 @@
+-- The proof of the law `facts_serve_a_corrected_price`.
 use Rattle.journal_tables.specs.TablesOfJournals.{known_of, known_with_patch, patch_by}
 use Rattle.ledger_of_journals.proofs.ServedBooks.{behind-price, served-on-trial}
 use Rattle.ledger_of_journals.proofs.fact_laws.facts_serve_a_corrected_price.Goals as goal

@@ -1,3 +1,4 @@
+-- The proof of the law `facts_serve_a_corrected_rate`.
 use Rattle.journal_tables.specs.Tables.{row_of_fix, with_fixed_rate}
 use Rattle.journal_tables.specs.TablesOfJournals.{known_of, known_with_rates}
 use Rattle.ledger_of_journals.proofs.ServedBooks.{behind-rate, served-on-trial}

@@ -1,3 +1,4 @@
+-- The proof of the law `facts_serve_corrected_orders`.
 use Rattle.journal_tables.specs.TablesOfJournals.{known_of}
 use Rattle.ledger_of_journals.proofs.ServedBooks.{behind-order, served-on-trial}
 use Rattle.ledger_of_journals.proofs.fact_laws.facts_serve_corrected_orders.Goals as goal

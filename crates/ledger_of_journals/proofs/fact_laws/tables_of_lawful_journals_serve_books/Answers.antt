@@ -1,3 +1,4 @@
+-- The proof of the law `tables_of_lawful_journals_serve_books`.
 use Rattle.std.proofs.Common.{refl}
 use Rattle.journal_tables.specs.TablesOfJournals.{known_of}
 use Rattle.ledger_of_journals.proofs.ServedBooks.{facts_behind_serve, few-of-lawful}

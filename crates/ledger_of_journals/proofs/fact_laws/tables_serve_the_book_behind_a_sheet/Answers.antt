@@ -1,3 +1,4 @@
+-- The proof of the law `tables_serve_the_book_behind_a_sheet`.
 use Rattle.std.proofs.Common.{refl}
 use Rattle.agent_events.specs.declared.event.EventKind.{EventKind}
 use Rattle.journal_tables.proofs.ServedFacts.{tables-behind}

@@ -1,3 +1,4 @@
+-- The proof of the law `events_leave_ledgers`.
 use Rattle.std.proofs.Common.{sym, ◌∙◌}
 use Rattle.event_laws.proofs.PartsStay.{parts_stay}
 use Rattle.ledger_of_journals.proofs.plain_laws.events_leave_ledgers.Goals as goal

@@ -1,3 +1,4 @@
+-- The proof of the law `sheets_advance_ledgers`.
 use Rattle.event_laws.proofs.EventReplays.{sheet-behind-all}
 use Rattle.event_laws.specs.EventReplays.{sheet_behind}
 use Rattle.ledger_laws.proofs.SoundBooks.{has_a_sound_book}

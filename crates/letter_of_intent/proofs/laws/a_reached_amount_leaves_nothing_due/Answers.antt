@@ -1,3 +1,4 @@
+-- The proof of the law `a_reached_amount_leaves_nothing_due`.
 use Rattle.letter_of_intent.specs.Letters.{load_due}
 use Rattle.letter_of_intent.proofs.LetterFacts.{rate-reached, due-reached, nothing-to-pay}
 use Rattle.letter_of_intent.proofs.laws.a_reached_amount_leaves_nothing_due.Goals as goal

@@ -1,3 +1,4 @@
+-- The worked rows of `thirteen_months`, reckoned.
 use Rattle.std.proofs.Common.{refl}
 use Rattle.fund_calendar.specs.Dates.{add_months, months_later, date_of, date_in_year, year_of, day_number, days_before_year, days_of_months}
 use Rattle.letter_of_intent.proofs.worked.thirteen_months.Goals as goal

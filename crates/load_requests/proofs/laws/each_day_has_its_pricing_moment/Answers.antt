@@ -1,3 +1,4 @@
+-- The proof of the law `each_day_has_its_pricing_moment`.
 use Rattle.load_requests.proofs.PricingFacts.{day_is_listed, days_apart}
 use Rattle.load_requests.proofs.laws.each_day_has_its_pricing_moment.Goals as goal
 

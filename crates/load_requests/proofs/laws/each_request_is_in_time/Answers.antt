@@ -1,3 +1,4 @@
+-- The proof of the law `each_request_is_in_time`.
 use Rattle.std.proofs.Common.{arith, subst}
 use Rattle.load_requests.proofs.TurnFacts.{never_fall, run_ends_by}
 use Rattle.load_requests.proofs.laws.each_request_is_in_time.Goals as goal

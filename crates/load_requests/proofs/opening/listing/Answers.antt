@@ -1,3 +1,4 @@
+-- That `listing` keeps its contract.
 use Rattle.load_requests.proofs.CalendarFacts.{made_so, refused_so}
 use Rattle.load_requests.proofs.opening.listing.Goals as goal
 

@@ -1,3 +1,4 @@
+-- The worked rows of `first_moments`, reckoned.
 use Rattle.std.proofs.Common.{refl}
 use Rattle.load_requests.proofs.LoadOnLiterals.{load_on_literals}
 use Rattle.load_requests.proofs.worked.first_moments.Goals as goal

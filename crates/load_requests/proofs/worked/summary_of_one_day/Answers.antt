@@ -1,3 +1,4 @@
+-- The worked rows of `summary_of_one_day`, reckoned.
 use Rattle.std.proofs.Common.{refl}
 use Rattle.load_requests.proofs.LoadOnLiterals.{load_on_literals}
 use Rattle.load_requests.proofs.worked.summary_of_one_day.Goals as goal

@@ -1,3 +1,4 @@
+-- That `start` keeps its contract.
 use Rattle.std.proofs.Common.{ap, refl, sym, ◌∙◌}
 use Rattle.agent_keeper.specs.Content.{Content}
 use Rattle.agent_keeper.specs.Memory.{surely_kept}

@@ -1,3 +1,4 @@
+-- The proof of the law `orders_are_counted`.
 use Rattle.load_runs.proofs.TracesCounted.{traces_counted}
 use Rattle.load_runs.proofs.laws.orders_are_counted.Goals as goal
 

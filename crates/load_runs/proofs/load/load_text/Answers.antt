@@ -1,3 +1,4 @@
+-- That `load_text` keeps its contract.
 use Rattle.std.proofs.Common.{ap, ◌∙◌}
 use Rattle.load_requests.specs.Runs.{LoadRun}
 use Rattle.load_requests.specs.Summaries.{summary_of, summary_text}

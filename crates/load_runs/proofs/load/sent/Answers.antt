@@ -1,3 +1,4 @@
+-- That `sent` keeps its contract.
 use Rattle.load_requests.specs.declared.load.Load.{Load}
 use Rattle.load_runs.proofs.Sending.{falls_first, few_first, run_first}
 use Rattle.load_runs.specs.Running.{run_at}

@@ -1,3 +1,4 @@
+-- That `look` keeps its contract.
 use Rattle.load_runs.proofs.LooksShown.{look_is}
 use Rattle.load_runs.proofs.looks.look.Goals as goal
 

@@ -1,3 +1,4 @@
+-- That `send` keeps its contract.
 use Rattle.std.proofs.Common.{Bool, List, ap, cond, sym, ℕ, ◌++◌, ◌+◌, ◌∙◌}
 use Rattle.agent_events.specs.Events.{Event}
 use Rattle.agent_events.specs.declared.request.TraceForm.{TraceForm}

@@ -1,3 +1,4 @@
+-- That `send_all` keeps its contract.
 use Rattle.std.proofs.Common.{sym, ◌∙◌}
 use Rattle.load_runs.proofs.Sending.{falls_on, few_on, goes_on}
 use Rattle.load_runs.specs.Running.{run_at}

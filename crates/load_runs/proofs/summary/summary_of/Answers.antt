@@ -1,3 +1,4 @@
+-- That `summary_of` keeps its contract.
 use Rattle.std.proofs.Common.{List, ap, length, refl, ◌∙◌}
 use Rattle.std.specs.List.{count_by}
 use Rattle.agent_events.specs.Events.{Event}

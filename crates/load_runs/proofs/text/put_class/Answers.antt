@@ -1,3 +1,4 @@
+-- That `put_class` keeps its contract.
 use Rattle.load_runs.proofs.LinesPut.{class_line_more}
 use Rattle.load_runs.proofs.text.put_class.Goals as goal
 

@@ -1,3 +1,4 @@
+-- The proof of the law `ceil_div_covers`.
 use Rattle.money_units.proofs.RoundingFacts.{ceil-least, ceil-most}
 use Rattle.money_units.proofs.laws.ceil_div_covers.Goals as goal
 

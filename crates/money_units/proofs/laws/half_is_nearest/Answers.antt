@@ -1,3 +1,4 @@
+-- The proof of the law `half_is_nearest`.
 use Rattle.std.proofs.Common.{arith}
 use Rattle.money_units.proofs.RoundingFacts.{half-least, half-most}
 use Rattle.money_units.proofs.laws.half_is_nearest.Goals as goal

@@ -1,3 +1,4 @@
+-- The proof of the law `half_keeps_order`.
 use Rattle.money_units.proofs.RoundingFacts.{half-mul, half-rises}
 use Rattle.money_units.proofs.laws.half_keeps_order.Goals as goal
 

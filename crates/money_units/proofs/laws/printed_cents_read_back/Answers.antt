@@ -1,3 +1,4 @@
+-- The proof of the law `printed_cents_read_back`.
 use Rattle.money_units.proofs.NumeralFacts.{money-money_text}
 use Rattle.money_units.proofs.laws.printed_cents_read_back.Goals as goal
 

@@ -1,3 +1,4 @@
+-- The proof of the law `printed_mils_read_back`.
 use Rattle.money_units.proofs.NumeralFacts.{shares-shares_text}
 use Rattle.money_units.proofs.laws.printed_mils_read_back.Goals as goal
 

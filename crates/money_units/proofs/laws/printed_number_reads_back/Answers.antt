@@ -1,3 +1,4 @@
+-- The proof of the law `printed_number_reads_back`.
 use Rattle.money_units.proofs.NumeralFacts.{number-number_text}
 use Rattle.money_units.proofs.laws.printed_number_reads_back.Goals as goal
 

@@ -1,3 +1,4 @@
+-- That `value_of_digits` keeps its contract.
 use Rattle.std.proofs.Common.{arith}
 use Rattle.money_units.proofs.NumeralFacts.{value-more, value-fits}
 use Rattle.money_units.proofs.reading.value_of_digits.Goals as goal

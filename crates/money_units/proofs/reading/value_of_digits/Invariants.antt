@@ -1,3 +1,4 @@
+-- What holds at each turn of the loops of `value_of_digits`.
 use Rattle.std.proofs.Common.{◌≡◌, take}
 use Rattle.std.specs.Str.Parse.{digits_value}
 use Rattle.money_units.proofs.reading.value_of_digits.Given as goal

@@ -1,3 +1,4 @@
+-- That `bracket` keeps its contract.
 use Rattle.offering_price.proofs.RateFacts.{bracket-ceiling}
 use Rattle.offering_price.proofs.accumulation.bracket.Goals as goal
 

@@ -1,3 +1,4 @@
+-- What holds at each turn of the loops of `credit`.
 use Rattle.std.proofs.Common.{◌≡◌, ◌*◌, ◌≤◌, take}
 use Rattle.offering_price.specs.Accumulation.{credit}
 use Rattle.offering_price.proofs.accumulation.credit.Given as goal

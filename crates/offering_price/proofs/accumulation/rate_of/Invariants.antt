@@ -1,3 +1,4 @@
+-- What holds at each turn of the loops of `rate_of`.
 use Rattle.std.proofs.Common.{◌≡◌, drop, map}
 use Rattle.class_terms.specs.declared.lists.Bracket.{Bracket}
 use Rattle.offering_price.specs.Accumulation.{last_or, rows_reached, bracket}

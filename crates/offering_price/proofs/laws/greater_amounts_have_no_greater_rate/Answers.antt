@@ -1,3 +1,4 @@
+-- The proof of the law `greater_amounts_have_no_greater_rate`.
 use Rattle.class_terms.proofs.TableFacts.{HasRows, rows-lawful}
 use Rattle.offering_price.proofs.RateFacts.{bracket-top, bracket-falls}
 use Rattle.offering_price.proofs.laws.greater_amounts_have_no_greater_rate.Goals as goal

@@ -1,3 +1,4 @@
+-- The proof of the law `greater_rates_buy_no_more`.
 use Rattle.std.proofs.Common.{arith}
 use Rattle.offering_price.specs.Purchase.{offering_price}
 use Rattle.offering_price.proofs.PurchaseFacts.{price-positive, price-rises, mils-fall}

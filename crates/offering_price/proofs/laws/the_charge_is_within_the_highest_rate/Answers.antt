@@ -1,3 +1,4 @@
+-- The proof of the law `the_charge_is_within_the_highest_rate`.
 use Rattle.class_terms.proofs.TableFacts.{HasRows, rows-lawful}
 use Rattle.offering_price.specs.Accumulation.{bracket}
 use Rattle.offering_price.proofs.RateFacts.{bracket-top, bracket-ceiling}

@@ -1,3 +1,4 @@
+-- The proof of the law `what_the_machine_brings_fits`.
 use Rattle.order_book.specs.FitsNext.{FitsNext}
 use Rattle.register_laws.proofs.AnswersByCases.{asks}
 use Rattle.register_laws.specs.Lawful.{own_at}

@@ -1,3 +1,4 @@
+-- That `put_first` keeps its contract.
 use Rattle.std.proofs.Common.{ap, arith, ◌∙◌}
 use Rattle.std.specs.HashMap.{get}
 use Rattle.std.specs.HashMap.Entry.{map_with_value}

@@ -1,3 +1,4 @@
+-- That `strike_at` keeps its contract.
 use Rattle.std.proofs.Common.{ap, ◌∙◌}
 use Rattle.std.specs.List.{slice_set}
 use Rattle.agent_events.specs.declared.order.OrderRow.{OrderRow}

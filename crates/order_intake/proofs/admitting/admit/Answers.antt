@@ -1,3 +1,4 @@
+-- That `admit` keeps its contract.
 use Rattle.std.proofs.Common.{subst, ◌∙◌, ◌≡◌}
 use Rattle.std.specs.Prelude.{IfOk}
 use Rattle.agent_events.specs.declared.verdict.Verdict.{Verdict}

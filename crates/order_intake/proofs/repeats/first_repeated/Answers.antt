@@ -1,3 +1,4 @@
+-- That `first_repeated` keeps its contract.
 use Rattle.std.proofs.Common.{◌∙◌}
 use Rattle.order_intake.proofs.Repeated.{found_by_identity}
 use Rattle.order_intake.proofs.repeats.first_repeated.Goals as goal

@@ -1,3 +1,4 @@
+-- That `verdict_by_place` keeps its contract.
 use Rattle.order_intake.proofs.verdicts.verdict_by_place.Goals as goal
 use Rattle.register_laws.proofs.HasNoIdentityTwice.{no_identity_twice}
 

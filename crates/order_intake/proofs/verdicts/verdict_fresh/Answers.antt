@@ -1,3 +1,4 @@
+-- That `verdict_fresh` keeps its contract.
 use Rattle.std.proofs.Common.{None, Some, subst, sym, ◌∙◌, ◌≡◌}
 use Rattle.agent_events.specs.Events.{event_of, request_of}
 use Rattle.agent_events.specs.declared.request.Request.{Request}

@@ -1,3 +1,4 @@
+-- The proof of the law `lawful_events_change_prices`.
 use Rattle.std.proofs.Common.{refl, sym}
 use Rattle.price_changes.proofs.LawfulChanges.{fits-by, good-by}
 use Rattle.price_changes.proofs.laws.lawful_events_change_prices.Goals as goal

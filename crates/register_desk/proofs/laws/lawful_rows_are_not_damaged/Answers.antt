@@ -1,3 +1,4 @@
+-- The proof of the law `lawful_rows_are_not_damaged`.
 use Rattle.register_desk.proofs.GoodRows.{not_damaged}
 use Rattle.register_desk.proofs.laws.lawful_rows_are_not_damaged.Goals as goal
 

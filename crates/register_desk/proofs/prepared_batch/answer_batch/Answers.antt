@@ -1,3 +1,4 @@
+-- That `answer_batch` keeps its contract.
 use Rattle.std.proofs.Common.{IfOk, Ok, subst, sym, ◌≡◌}
 use Rattle.agent_events.specs.declared.verdict.Caller.{Caller}
 use Rattle.dealer_lines.specs.Answers.{lines_given}

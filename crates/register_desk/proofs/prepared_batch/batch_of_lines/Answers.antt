@@ -1,3 +1,4 @@
+-- That `batch_of_lines` keeps its contract.
 use Rattle.std.proofs.Common.{[], ap, subst, sym, take, ◌++◌, ◌∙◌, ◌∷◌}
 use Rattle.dealer_lines.specs.Lines.{line_event, line_events}
 use Rattle.event_rows.specs.InForm.{InForm}

@@ -1,3 +1,4 @@
+-- That `change_of_row` keeps its contract.
 use Rattle.std.proofs.Common.{arith, inl}
 use Rattle.register_desk.proofs.BoundsGoOn.{found_few, none_few}
 use Rattle.register_desk.proofs.stored.change_of_row.Goals as goal

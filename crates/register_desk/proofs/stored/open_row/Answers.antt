@@ -1,3 +1,4 @@
+-- That `open_row` keeps its contract.
 use Rattle.std.proofs.Common.{List, Option, Some, ap, subst, sym, ℕ, ◌≡◌, ◌∙◌}
 use Rattle.agent_keeper.specs.Calls.{Gives, row_is}
 use Rattle.event_rows.specs.InForm.{InForm}

@@ -1,3 +1,4 @@
+-- That `open_rows` keeps its contract.
 use Rattle.std.proofs.Common.{Err, arith, refl, subst, sym, ◌≡◌, ◌∙◌}
 use Rattle.std.proofs.lemmas.Result.{err_from_is_err_and}
 use Rattle.register_desk.proofs.BoundsGoOn.{grows_then, takes_up_to_bad}

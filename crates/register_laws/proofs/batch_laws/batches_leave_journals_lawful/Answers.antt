@@ -1,3 +1,4 @@
+-- The proof of the law `batches_leave_journals_lawful`.
 use Rattle.register_laws.proofs.BatchesAreLawful.{batch-by}
 use Rattle.register_laws.proofs.RunsAreLawful.{keyed-among}
 use Rattle.register_laws.proofs.batch_laws.batches_leave_journals_lawful.Goals as goal

@@ -1,3 +1,4 @@
+-- The proof of the law `batches_leave_runs_lawful`.
 use Rattle.std.proofs.Common.{subst, sym, ◌++◌}
 use Rattle.register_laws.specs.LawfulBatches.{batch_events}
 use Rattle.register_machine.specs.journal.Lawful.{IsLawful}

@@ -1,3 +1,4 @@
+-- The proof of the law `books_sum_to_zero`.
 use Rattle.std.proofs.Common.{refl}
 use Rattle.register_laws.proofs.NoIdentityTwice.{no_account_twice}
 use Rattle.register_laws.specs.Lawful.{own_at}

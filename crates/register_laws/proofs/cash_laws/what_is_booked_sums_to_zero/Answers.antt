@@ -1,3 +1,4 @@
+-- The proof of the law `what_is_booked_sums_to_zero`.
 use Rattle.register_machine.specs.corrections.Payments.{booked_movements}
 use Rattle.register_machine.specs.pricing.CorrectedBook.{book_of}
 use Rattle.register_machine.specs.replay.Replay.{replay}

@@ -1,3 +1,4 @@
+-- The proof of the law `batches_are_isolated`.
 use Rattle.std.proofs.Common.{ap, sym, ◌∙◌}
 use Rattle.agent_events.specs.declared.request.Request.{Request}
 use Rattle.register_laws.specs.Lawful.{own_at}

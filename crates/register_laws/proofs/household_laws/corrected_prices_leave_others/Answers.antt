@@ -1,3 +1,4 @@
+-- The proof of the law `corrected_prices_leave_others`.
 use Rattle.std.proofs.Common.{[], map, refl, ◌∷◌}
 use Rattle.std.proofs.lemmas.List.{take-map}
 use Rattle.register_laws.proofs.CorrectionReach.{leaves-part, price-replay}

@@ -1,3 +1,4 @@
+-- The proof of the law `corrected_rates_leave_others`.
 use Rattle.std.proofs.Common.{refl}
 use Rattle.register_laws.proofs.CorrectionReach.{leaves-part, rate-replay}
 use Rattle.register_laws.proofs.household_laws.corrected_rates_leave_others.Goals as goal

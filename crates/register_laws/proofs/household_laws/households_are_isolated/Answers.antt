@@ -1,3 +1,4 @@
+-- The proof of the law `households_are_isolated`.
 use Rattle.register_machine.specs.journal.Views.{view}
 use Rattle.register_machine.specs.rules.Callers.{caller_of}
 use Rattle.register_laws.proofs.HouseholdsIsolated.{by-callers, calls-alike}

@@ -1,3 +1,4 @@
+-- The proof of the law `households_are_replayed_alone`.
 use Rattle.register_laws.proofs.ReplayedAlone.{first-part, part-day, sheets-part}
 use Rattle.register_laws.proofs.household_laws.households_are_replayed_alone.Goals as goal
 use Rattle.register_laws.specs.Households.{is_of_household, own_book}

@@ -1,3 +1,4 @@
+-- The proof of the law `households_are_replayed_in_their_views`.
 use Rattle.std.proofs.Common.{ap, sym, take, ◌∙◌}
 use Rattle.register_laws.proofs.ViewBooks.{part-in-view, view-sheets, whole_in_view}
 use Rattle.register_laws.proofs.household_laws.households_are_replayed_in_their_views.Goals as goal

@@ -1,3 +1,4 @@
+-- The proof of the law `parts_go_on_from_a_checkpoint`.
 use Rattle.std.proofs.Common.{ap, sym, take, ◌∙◌}
 use Rattle.register_laws.proofs.HouseholdSheets.{goes-on}
 use Rattle.register_laws.proofs.ReplayedAlone.{replayed_alone}

@@ -1,3 +1,4 @@
+-- The proof of the law `quiet_sheets_leave_a_part`.
 use Rattle.std.proofs.Common.{[], sym, ◌++◌, ◌∙◌, ◌∷◌}
 use Rattle.register_laws.proofs.HouseholdSheets.{quiet-replay}
 use Rattle.register_laws.proofs.ReplayedAlone.{replayed_alone}

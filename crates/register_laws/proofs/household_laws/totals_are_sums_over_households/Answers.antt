@@ -1,3 +1,4 @@
+-- The proof of the law `totals_are_sums_over_households`.
 use Rattle.std.proofs.Common.{take}
 use Rattle.register_laws.specs.Lawful.{book_behind}
 use Rattle.register_machine.specs.replay.Replay.{replay}

@@ -1,3 +1,4 @@
+-- The proof of the law `unreached_households_have_no_broken_order`.
 use Rattle.std.proofs.Common.{ap, ◌∙◌}
 use Rattle.register_laws.proofs.Unreached.{stays-unbroken}
 use Rattle.register_laws.proofs.household_laws.unreached_households_have_no_broken_order.Goals as goal

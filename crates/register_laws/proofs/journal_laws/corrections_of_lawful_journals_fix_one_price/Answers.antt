@@ -1,3 +1,4 @@
+-- The proof of the law `corrections_of_lawful_journals_fix_one_price`.
 use Rattle.register_laws.proofs.FixesOnePrice.{fixes-it-alone, has-sheet}
 use Rattle.register_laws.proofs.NothingBefore.{last-brought}
 use Rattle.register_laws.proofs.journal_laws.corrections_of_lawful_journals_fix_one_price.Goals as goal

@@ -1,3 +1,4 @@
+-- The proof of the law `kinds_go_on`.
 use Rattle.register_machine.specs.journal.Kinds.{account_in, calendar_in, class_in, closure_in, dealer_in, household_in, sheet_in}
 use Rattle.register_laws.proofs.OneEventMore.{gathers-on}
 use Rattle.register_laws.proofs.journal_laws.kinds_go_on.Goals as goal

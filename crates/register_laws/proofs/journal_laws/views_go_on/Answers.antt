@@ -1,3 +1,4 @@
+-- The proof of the law `views_go_on`.
 use Rattle.std.proofs.Common.{ap, filter, ◌∙◌}
 use Rattle.register_laws.proofs.OneEventMore.{gathers-on}
 use Rattle.register_laws.proofs.ViewsGoOn.{view-by}

@@ -1,3 +1,4 @@
+-- The proof of the law `refusals_append_nothing`.
 use Rattle.std.proofs.Common.{[], refl, ◌≡◌}
 use Rattle.agent_events.specs.declared.reply.Reply.{Reply}
 use Rattle.register_machine.specs.rules.Situations.{event_at}

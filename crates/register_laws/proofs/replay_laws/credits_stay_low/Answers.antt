@@ -1,3 +1,4 @@
+-- The proof of the law `credits_stay_low`.
 use Rattle.std.proofs.lemmas.List.Elements.{All-weaker}
 use Rattle.register_laws.proofs.HouseholdCredit.{credit-few}
 use Rattle.register_laws.proofs.RegistersStand.{Stands}

@@ -1,3 +1,4 @@
+-- The proof of the law `letters_are_bought`.
 use Rattle.std.proofs.Common.{[], length, subst, take, ℕ}
 use Rattle.std.proofs.lemmas.List.Elements.{All-nil}
 use Rattle.register_laws.proofs.RegistersKept.{at-last}

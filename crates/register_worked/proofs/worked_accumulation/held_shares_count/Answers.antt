@@ -1,3 +1,4 @@
+-- The worked rows of `held_shares_count`, reckoned.
 use Rattle.std.proofs.Common.{refl}
 use Rattle.register_machine.proofs.OnLiterals.{machine_on_literals}
 use Rattle.register_worked.proofs.worked_accumulation.held_shares_count.Goals as goal

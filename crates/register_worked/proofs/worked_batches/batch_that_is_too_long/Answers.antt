@@ -1,3 +1,4 @@
+-- The worked rows of `batch_that_is_too_long`, reckoned.
 use Rattle.std.proofs.Common.{refl}
 use Rattle.register_machine.proofs.OnLiterals.{machine_on_literals}
 use Rattle.register_worked.proofs.worked_batches.batch_that_is_too_long.Goals as goal

@@ -1,3 +1,4 @@
+-- The worked rows of `books_after_each_correction`, reckoned.
 use Rattle.std.proofs.Common.{refl}
 use Rattle.register_machine.proofs.OnLiterals.{machine_on_literals}
 use Rattle.register_worked.proofs.worked_books.books_after_each_correction.Goals as goal

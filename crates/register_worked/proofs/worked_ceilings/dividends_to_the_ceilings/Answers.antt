@@ -1,3 +1,4 @@
+-- The worked rows of `dividends_to_the_ceilings`, reckoned.
 use Rattle.std.proofs.Common.{refl}
 use Rattle.register_machine.proofs.OnLiterals.{machine_on_literals}
 use Rattle.register_worked.proofs.worked_ceilings.dividends_to_the_ceilings.Goals as goal

@@ -1,3 +1,4 @@
+-- The worked rows of `purchases_up_to_the_ceiling`, reckoned.
 use Rattle.std.proofs.Common.{refl}
 use Rattle.register_machine.proofs.OnLiterals.{machine_on_literals}
 use Rattle.register_worked.proofs.worked_ceilings.purchases_up_to_the_ceiling.Goals as goal

@@ -1,3 +1,4 @@
+-- The worked rows of `loss_borne_by_the_fund`, reckoned.
 use Rattle.std.proofs.Common.{refl}
 use Rattle.register_machine.proofs.OnLiterals.{machine_on_literals}
 use Rattle.register_worked.proofs.worked_corrections.loss_borne_by_the_fund.Goals as goal

@@ -1,3 +1,4 @@
+-- The worked rows of `price_correction`, reckoned.
 use Rattle.std.proofs.Common.{refl}
 use Rattle.register_machine.proofs.OnLiterals.{machine_on_literals}
 use Rattle.register_worked.proofs.worked_corrections.price_correction.Goals as goal

@@ -1,3 +1,4 @@
+-- The worked rows of `replacement_into_a_later_sheet`, reckoned.
 use Rattle.std.proofs.Common.{refl}
 use Rattle.register_machine.proofs.OnLiterals.{machine_on_literals}
 use Rattle.register_worked.proofs.worked_corrections.replacement_into_a_later_sheet.Goals as goal

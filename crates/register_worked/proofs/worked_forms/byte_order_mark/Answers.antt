@@ -1,3 +1,4 @@
+-- The worked rows of `byte_order_mark`, reckoned.
 use Rattle.std.proofs.Common.{refl}
 use Rattle.register_machine.proofs.OnLiterals.{machine_on_literals}
 use Rattle.register_worked.proofs.worked_forms.byte_order_mark.Goals as goal

@@ -1,3 +1,4 @@
+-- The worked rows of `letter_and_purchase`, reckoned.
 use Rattle.std.proofs.Common.{refl}
 use Rattle.register_machine.proofs.OnLiterals.{machine_on_literals}
 use Rattle.register_worked.proofs.worked_letters.letter_and_purchase.Goals as goal

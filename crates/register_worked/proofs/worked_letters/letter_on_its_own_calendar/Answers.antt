@@ -1,3 +1,4 @@
+-- The worked rows of `letter_on_its_own_calendar`, reckoned.
 use Rattle.std.proofs.Common.{refl}
 use Rattle.register_machine.proofs.OnLiterals.{machine_on_literals}
 use Rattle.register_worked.proofs.worked_letters.letter_on_its_own_calendar.Goals as goal

@@ -1,3 +1,4 @@
+-- The worked rows of `rate_beyond_the_letter`, reckoned.
 use Rattle.std.proofs.Common.{refl}
 use Rattle.register_machine.proofs.OnLiterals.{machine_on_literals}
 use Rattle.register_worked.proofs.worked_letters.rate_beyond_the_letter.Goals as goal

@@ -1,3 +1,4 @@
+-- The worked rows of `calendars_up_to_the_limit`, reckoned.
 use Rattle.std.proofs.Common.{refl}
 use Rattle.register_machine.proofs.OnLiterals.{machine_on_literals}
 use Rattle.register_worked.proofs.worked_limits.calendars_up_to_the_limit.Goals as goal

@@ -1,3 +1,4 @@
+-- The worked rows of `members_of_letters_and_elections`, reckoned.
 use Rattle.std.proofs.Common.{refl}
 use Rattle.register_machine.proofs.OnLiterals.{machine_on_literals}
 use Rattle.register_worked.proofs.worked_members.members_of_letters_and_elections.Goals as goal

@@ -1,3 +1,4 @@
+-- The worked rows of `absent_in_orders`, reckoned.
 use Rattle.std.proofs.Common.{refl}
 use Rattle.register_machine.proofs.OnLiterals.{machine_on_literals}
 use Rattle.register_worked.proofs.worked_named.absent_in_orders.Goals as goal

@@ -1,3 +1,4 @@
+-- The worked rows of `dealer_lines_after_a_sheet`, reckoned.
 use Rattle.std.proofs.Common.{refl}
 use Rattle.register_machine.proofs.OnLiterals.{machine_on_literals}
 use Rattle.register_worked.proofs.worked_orders.dealer_lines_after_a_sheet.Goals as goal

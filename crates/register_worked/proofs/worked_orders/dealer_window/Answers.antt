@@ -1,3 +1,4 @@
+-- The worked rows of `dealer_window`, reckoned.
 use Rattle.std.proofs.Common.{refl}
 use Rattle.register_machine.proofs.OnLiterals.{machine_on_literals}
 use Rattle.register_worked.proofs.worked_orders.dealer_window.Goals as goal

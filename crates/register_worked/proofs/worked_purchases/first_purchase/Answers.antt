@@ -1,3 +1,4 @@
+-- The worked rows of `first_purchase`, reckoned.
 use Rattle.std.proofs.Common.{refl}
 use Rattle.register_machine.proofs.OnLiterals.{machine_on_literals}
 use Rattle.register_worked.proofs.worked_purchases.first_purchase.Goals as goal

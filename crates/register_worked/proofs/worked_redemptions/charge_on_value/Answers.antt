@@ -1,3 +1,4 @@
+-- The worked rows of `charge_on_value`, reckoned.
 use Rattle.std.proofs.Common.{refl}
 use Rattle.register_machine.proofs.OnLiterals.{machine_on_literals}
 use Rattle.register_worked.proofs.worked_redemptions.charge_on_value.Goals as goal

@@ -1,3 +1,4 @@
+-- The worked rows of `exchange_of_all`, reckoned.
 use Rattle.std.proofs.Common.{refl}
 use Rattle.register_machine.proofs.OnLiterals.{machine_on_literals}
 use Rattle.register_worked.proofs.worked_redemptions.exchange_of_all.Goals as goal

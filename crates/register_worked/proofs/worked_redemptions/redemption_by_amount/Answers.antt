@@ -1,3 +1,4 @@
+-- The worked rows of `redemption_by_amount`, reckoned.
 use Rattle.std.proofs.Common.{refl}
 use Rattle.register_machine.proofs.OnLiterals.{machine_on_literals}
 use Rattle.register_worked.proofs.worked_redemptions.redemption_by_amount.Goals as goal

@@ -1,3 +1,4 @@
+-- The worked rows of `repeat_of_each_verb`, reckoned.
 use Rattle.std.proofs.Common.{refl}
 use Rattle.register_machine.proofs.OnLiterals.{machine_on_literals}
 use Rattle.register_worked.proofs.worked_repeats.repeat_of_each_verb.Goals as goal

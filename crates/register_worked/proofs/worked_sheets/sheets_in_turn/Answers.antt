@@ -1,3 +1,4 @@
+-- The worked rows of `sheets_in_turn`, reckoned.
 use Rattle.std.proofs.Common.{refl}
 use Rattle.register_machine.proofs.OnLiterals.{machine_on_literals}
 use Rattle.register_worked.proofs.worked_sheets.sheets_in_turn.Goals as goal

@@ -1,3 +1,4 @@
+-- That `place_of` keeps its contract.
 use Rattle.std.proofs.Common.{◌==◌, ◌≡◌, ℕ, Bool, true, false, List, length, Option, Some, None, cond, rules, tests, refl, arith, ltb-false}
 use Rattle.std.specs.Prelude.{nat_lt, unwrap_or}
 use Rattle.std.specs.List.{position_or_len}

@@ -1,3 +1,4 @@
+-- That `listed_brackets` keeps its contract.
 use Rattle.std.proofs.Common.{[], sym, ◌∙◌}
 use Rattle.agent_events.specs.Fields.{bracket, each, list_items}
 use Rattle.request_fields.proofs.ItemLists.{goes_on, stops}

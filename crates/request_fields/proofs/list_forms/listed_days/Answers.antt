@@ -1,3 +1,4 @@
+-- That `listed_days` keeps its contract.
 use Rattle.std.proofs.Common.{[], sym, ◌∙◌}
 use Rattle.agent_events.specs.Fields.{each, list_items}
 use Rattle.fund_calendar.specs.DayText.{read_day}

@@ -1,3 +1,4 @@
+-- That `listed_prices` keeps its contract.
 use Rattle.std.proofs.Common.{[], sym, ◌∙◌}
 use Rattle.agent_events.specs.Fields.{each, identifier, list_items, nav, pair}
 use Rattle.request_fields.proofs.ItemLists.{goes_on, stops}

@@ -1,3 +1,4 @@
+-- That `rates_of` keeps its contract.
 use Rattle.std.proofs.Common.{[], sym, ◌∙◌}
 use Rattle.agent_events.specs.Fields.{each, list_items, basis_points}
 use Rattle.request_fields.proofs.ItemLists.{goes_on, stops}

@@ -1,3 +1,4 @@
+-- That `body_form` keeps its contract.
 use Rattle.std.proofs.Common.{sym}
 use Rattle.request_fields.proofs.order_forms.body_form.Goals as goal
 

@@ -1,3 +1,4 @@
+-- That `declares_in` keeps its contract.
 use Rattle.std.proofs.Common.{arith}
 use Rattle.request_rules.proofs.Classes.{any_all, any_more}
 use Rattle.request_rules.proofs.inquiry.declares_in.Goals as goal

@@ -1,3 +1,4 @@
+-- What holds at each turn of the loops of `declares_in`.
 use Rattle.std.proofs.Common.{take, ◌≡◌}
 use Rattle.std.specs.List.{list_any}
 use Rattle.request_rules.proofs.inquiry.declares_in.Given as goal

@@ -1,3 +1,4 @@
+-- That `family_fault` keeps its contract.
 use Rattle.std.proofs.Common.{arith}
 use Rattle.request_rules.proofs.Classes.{least_all, least_more}
 use Rattle.request_rules.proofs.inquiry.family_fault.Goals as goal

@@ -1,3 +1,4 @@
+-- What holds at each turn of the loops of `family_fault`.
 use Rattle.std.proofs.Common.{None, take, ◌≡◌}
 use Rattle.request_rules.proofs.Classes.{least_among}
 use Rattle.request_rules.proofs.inquiry.family_fault.Given as goal

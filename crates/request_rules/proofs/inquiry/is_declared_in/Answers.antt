@@ -1,3 +1,4 @@
+-- That `is_declared_in` keeps its contract.
 use Rattle.std.proofs.Common.{rules}
 use Rattle.request_rules.proofs.Declared.{declared_by_class}
 use Rattle.request_rules.proofs.inquiry.is_declared_in.Goals as goal

@@ -1,3 +1,4 @@
+-- That `prices_at` keeps its contract.
 use Rattle.std.proofs.Common.{rules, ◌==◌}
 use Rattle.fund_calendar.specs.declared.pricing_day.PricingDay.{PricingDay}
 use Rattle.request_rules.proofs.LookUps.{found_any}

@@ -1,3 +1,4 @@
+-- What holds at each turn of the loops of `first_broken`.
 use Rattle.std.proofs.Common.{drop, ◌≡◌}
 use Rattle.register_machine.specs.journal.Choices.{first_some}
 use Rattle.request_rules.proofs.rules.first_broken.Given as goal

@@ -1,3 +1,4 @@
+-- The proof of the law `numbers_are_exact`.
 use Rattle.row_fields.proofs.EachField.{identifier_field, identifier_or_none_field, reference_field, moment_field, day_field, amount_field, minimum_field, nav_field, quantity_field, dividend_rate_field, corrected_rate_field, time_of_day_field, window_field, rate_field, sixteen_field}
 use Rattle.row_fields.proofs.laws.numbers_are_exact.Goals as goal
 

@@ -1,3 +1,4 @@
+-- The proof of the law `texts_are_exact`.
 use Rattle.row_fields.proofs.EachField.{flag_field, text_field, name_field, zone_field, household_key_field, dealer_key_field, bearer_field}
 use Rattle.row_fields.proofs.laws.texts_are_exact.Goals as goal
 

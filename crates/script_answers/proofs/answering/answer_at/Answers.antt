@@ -1,3 +1,4 @@
+-- That `answer_at` keeps its contract.
 use Rattle.std.proofs.Common.{IfOk, OnOk, ap, nat_lt, sym, subst, ◌++◌, ◌∙◌, ◌≡◌}
 use Rattle.script_answers.proofs.RunFacts.{answered-in-turn}
 use Rattle.script_answers.proofs.answering.answer_at.Goals as goal

@@ -1,3 +1,4 @@
+-- That `answer_item` keeps its contract.
 use Rattle.script_answers.proofs.answering.answer_item.Goals as goal
 
 pub returns-in-Bad-clause-counted : goal.returns-in-Bad-clause-counted

@@ -1,3 +1,4 @@
+-- That `answer_items` keeps its contract.
 use Rattle.std.proofs.Common.{Err, [], ap, append-nil, subst, sym, ◌∙◌, ◌≡◌}
 use Rattle.std.specs.Result.{is_err}
 use Rattle.register_desk.specs.Rows.{TellsRowsOf}

@@ -1,3 +1,4 @@
+-- What holds at each turn of the loops of `answer_items`.
 use Rattle.std.proofs.Common.{IsTrue, length, ◌++◌, ◌≡◌}
 use Rattle.script_answers.proofs.RunFacts.{SoFar}
 use Rattle.script_answers.proofs.answering.answer_items.Given as goal

@@ -1,3 +1,4 @@
+-- What holds at each turn of the loops of `a_batch_is_kept_whole_or_not_at_all`.
 use Rattle.service_tests.proofs.desks.a_batch_is_kept_whole_or_not_at_all.Given as goal
 
 abbrev pub ghosts-send_lines : goal.ghosts-send_lines

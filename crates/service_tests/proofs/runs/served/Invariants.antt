@@ -1,3 +1,4 @@
+-- What holds at each turn of the loops of `served`.
 use Rattle.service_tests.proofs.runs.served.Given as goal
 
 abbrev pub ghosts-serve : goal.ghosts-serve

@@ -1,3 +1,4 @@
+-- That `insert_lot` keeps its contract.
 use Rattle.std.proofs.Common.{◌∙◌}
 use Rattle.share_lots.proofs.LotLemmas.{inserted}
 use Rattle.share_lots.proofs.adding.insert_lot.Goals as goal

@@ -1,3 +1,4 @@
+-- That `join_free` keeps its contract.
 use Rattle.std.proofs.Common.{◌<◌, length, ◌∙◌, ap, sym, arith}
 use Rattle.share_lots.specs.declared.lot.Lot.{Lot}
 use Rattle.share_lots.specs.Lots.{join_free}

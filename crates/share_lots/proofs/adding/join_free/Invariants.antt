@@ -1,3 +1,4 @@
+-- What holds at each turn of the loops of `join_free`.
 use Rattle.std.proofs.Common.{◌≡◌, ◌++◌, map, take, drop}
 use Rattle.share_lots.specs.Lots.{join_free}
 use Rattle.share_lots.proofs.adding.join_free.Given as goal

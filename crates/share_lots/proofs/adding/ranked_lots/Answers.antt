@@ -1,3 +1,4 @@
+-- That `ranked_lots` keeps its contract.
 use Rattle.std.proofs.Common.{◌∙◌, ap, refl}
 use Rattle.share_lots.specs.declared.lot.Lot.{Lot}
 use Rattle.share_lots.specs.Lots.{lots_with}

@@ -1,3 +1,4 @@
+-- What holds at each turn of the loops of `ranked_lots`.
 use Rattle.std.proofs.Common.{◌≡◌, drop}
 use Rattle.share_lots.specs.Lots.{placed_all, ranked_lots}
 use Rattle.share_lots.proofs.RankedLemmas.{Placing}

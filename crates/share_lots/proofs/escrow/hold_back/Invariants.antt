@@ -1,3 +1,4 @@
+-- What holds at each turn of the loops of `hold_back`.
 use Rattle.std.proofs.Common.{◌≡◌, ◌++◌, map, take, drop}
 use Rattle.share_lots.specs.Lots.{hold_in}
 use Rattle.share_lots.proofs.escrow.hold_back.Given as goal

@@ -1,3 +1,4 @@
+-- That `release_lots` keeps its contract.
 use Rattle.std.proofs.Common.{◌<◌, length, ◌∙◌, ap, sym, arith}
 use Rattle.share_lots.specs.declared.lot.Lot.{Lot}
 use Rattle.share_lots.specs.Lots.{release_lot}

@@ -1,3 +1,4 @@
+-- What holds at each turn of the loops of `release_lots`.
 use Rattle.std.proofs.Common.{◌≡◌, ◌++◌, map, take, drop}
 use Rattle.share_lots.specs.Lots.{release_lot}
 use Rattle.share_lots.proofs.escrow.release_lots.Given as goal

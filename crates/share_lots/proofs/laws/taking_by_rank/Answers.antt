@@ -1,3 +1,4 @@
+-- The proof of the law `taking_by_rank`.
 use Rattle.share_lots.proofs.RelationLemmas.{amounts_taking, only_amounts}
 use Rattle.share_lots.proofs.laws.taking_by_rank.Goals as goal
 

@@ -1,3 +1,4 @@
+-- That `mils_total` keeps its contract.
 use Rattle.std.proofs.Common.{arith}
 use Rattle.share_lots.proofs.LotLemmas.{sum-mils}
 use Rattle.share_lots.proofs.lot_list.mils_total.Goals as goal

@@ -1,3 +1,4 @@
+-- That `precede` keeps its contract.
 use Rattle.std.proofs.Common.{◌∙◌, sym, ap}
 use Rattle.std.specs.Option.{option_copied}
 use Rattle.share_lots.proofs.RowLemmas.{all-precede}

@@ -1,3 +1,4 @@
+-- That `pay_lots` keeps its contract.
 use Rattle.std.proofs.Common.{◌≡◌, ◌<◌, ◌-◌, Option, length, min, ◌∙◌, ap, sym, arith}
 use Rattle.share_lots.specs.declared.lot.Lot.{Lot}
 use Rattle.share_lots.specs.Taking.{held_before, held_before_free, before_of, lot_paid, lot_paying, owned_held}

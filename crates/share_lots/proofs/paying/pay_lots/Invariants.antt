@@ -1,3 +1,4 @@
+-- What holds at each turn of the loops of `pay_lots`.
 use Rattle.std.proofs.Common.{◌≡◌, ◌≤◌, ◌++◌, map, take, drop, sum_by}
 use Rattle.share_lots.specs.Lots.{most_mils}
 use Rattle.share_lots.specs.Taking.{lot_paying, owned_held}

@@ -1,3 +1,4 @@
+-- That `lessen` keeps its contract.
 use Rattle.std.proofs.Common.{◌≡◌, arith}
 use Rattle.share_lots.proofs.LotLemmas.{nothing-less}
 use Rattle.share_lots.proofs.taking.lessen.Goals as goal

@@ -1,3 +1,4 @@
+-- That `piece_cost` keeps its contract.
 use Rattle.std.proofs.Common.{◌+◌, arith}
 use Rattle.share_lots.proofs.LotLemmas.{half-le}
 use Rattle.share_lots.proofs.taking.piece_cost.Goals as goal

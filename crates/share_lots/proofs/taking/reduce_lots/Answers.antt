@@ -1,3 +1,4 @@
+-- That `reduce_lots` keeps its contract.
 use Rattle.std.proofs.Common.{◌≡◌, ◌<◌, ◌≤◌, All, List, length, ◌∙◌, ap, subst, sym, min, arith}
 use Rattle.std.proofs.lemmas.List.{set-get_or}
 use Rattle.std.proofs.lemmas.List.Elements.{All-drop, All-weaker}

@@ -1,3 +1,4 @@
+-- What holds at each turn of the loops of `reduce_lots`.
 use Rattle.std.proofs.Common.{◌≡◌, ◌++◌, take, drop}
 use Rattle.share_lots.specs.Taking.{lots_less}
 use Rattle.share_lots.proofs.taking.reduce_lots.Given as goal

@@ -1,3 +1,4 @@
+-- That `remove_empty` keeps its contract.
 use Rattle.std.proofs.Common.{rules}
 use Rattle.std.proofs.lemmas.Fn.{filter_same}
 use Rattle.share_lots.specs.Taking.{has_mils}

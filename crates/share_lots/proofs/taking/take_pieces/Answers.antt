@@ -1,3 +1,4 @@
+-- That `take_pieces` keeps its contract.
 use Rattle.std.proofs.Common.{◌≡◌, ◌++◌, ◌∙◌, ap, min}
 use Rattle.share_lots.specs.Taking.{pieces_of, pieces}
 use Rattle.share_lots.proofs.LotLemmas.{taken-more, taken-all, taken-up}

@@ -1,3 +1,4 @@
+-- What holds at each turn of the loops of `take_pieces`.
 use Rattle.std.proofs.Common.{◌≡◌, ◌++◌, drop}
 use Rattle.share_lots.specs.Taking.{pieces}
 use Rattle.share_lots.proofs.taking.take_pieces.Given as goal

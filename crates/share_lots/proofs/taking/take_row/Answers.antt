@@ -1,3 +1,4 @@
+-- That `take_row` keeps its contract.
 use Rattle.std.proofs.Common.{◌≡◌, ◌∙◌, filter, sum_by, ap, arith}
 use Rattle.std.proofs.lemmas.Grind.{common_steps}
 use Rattle.share_lots.specs.declared.lot.Lot.{Lot}

@@ -1,3 +1,4 @@
+-- The worked rows of `free_shares_go_first`, reckoned.
 use Rattle.std.proofs.Common.{refl}
 use Rattle.share_lots.specs.Taking.{pieces, lots_less}
 use Rattle.share_lots.proofs.worked.free_shares_go_first.Goals as goal

@@ -1,3 +1,4 @@
+-- That `advanced` keeps its contract.
 use Rattle.sheet_trials.proofs.advance.advanced.Goals as goal
 
 pub advance_all-requires-clause-households : goal.advance_all-requires-clause-households

@@ -1,3 +1,4 @@
+-- That `change_on_trial` keeps its contract.
 use Rattle.sheet_trials.proofs.ChangeOnTrial.{made-change, made-steps, priced-there}
 use Rattle.sheet_trials.proofs.SheetOnTrial.{advances}
 use Rattle.sheet_trials.proofs.advance.change_on_trial.Goals as goal

@@ -1,3 +1,4 @@
+-- That `keep_moved` keeps its contract.
 use Rattle.std.proofs.Common.{ap, length, subst, sym, ℕ, ◌∙◌}
 use Rattle.forward_price.specs.PriceTables.{Table}
 use Rattle.register_laws.specs.Lawful.{book_behind}

@@ -1,3 +1,4 @@
+-- That `keep_state` keeps its contract.
 use Rattle.std.proofs.Common.{Some, ap, length, sym, ◌∙◌}
 use Rattle.kept_states.specs.declared.states.KeptState.{KeptState}
 use Rattle.sheet_trials.proofs.KeptMoved.{one-more-kept, shown-is-as-of}

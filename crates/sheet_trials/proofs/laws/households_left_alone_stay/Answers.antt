@@ -1,3 +1,4 @@
+-- The proof of the law `households_left_alone_stay`.
 use Rattle.std.proofs.Common.{List, [], ap, arith, length, refl, subst, sym, take, ◌∙◌, ◌∷◌, ◌≡◌}
 use Rattle.std.proofs.Math.Seq.{take-length}
 use Rattle.std.proofs.lemmas.List.{take-append-le}

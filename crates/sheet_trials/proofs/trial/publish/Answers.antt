@@ -1,3 +1,4 @@
+-- That `publish` keeps its contract.
 use Rattle.price_changes.proofs.Forms.{list_rises}
 use Rattle.sheet_trials.proofs.trial.publish.Goals as goal
 

@@ -1,3 +1,4 @@
+-- That `try_published` keeps its contract.
 use Rattle.std.proofs.Common.{◌∙◌}
 use Rattle.std.proofs.lemmas.Result.{IfOk-weaker}
 use Rattle.sheet_trials.proofs.SheetPublished.{comes-next, on-trial}

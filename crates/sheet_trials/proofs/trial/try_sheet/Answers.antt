@@ -1,3 +1,4 @@
+-- That `try_sheet` keeps its contract.
 use Rattle.std.proofs.Common.{Some, subst, sym}
 use Rattle.checkpoint_replay.specs.Parts.{Households}
 use Rattle.desk_books.specs.LedgerChanges.{IsLedgerChange}

@@ -1,3 +1,4 @@
+-- That `commit_batch` keeps its contract.
 use Rattle.std.proofs.Common.{◌≡◌, true, IsTrue, refl, sym, subst, arith, rules}
 use Rattle.sqlite.specs.State.{HasCleanDisk}
 use Rattle.sqlite.specs.Held.{state}

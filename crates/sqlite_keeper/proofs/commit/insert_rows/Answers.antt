@@ -1,3 +1,4 @@
+-- That `insert_rows` keeps its contract.
 use Rattle.std.proofs.Common.{◌≡◌, ◌+◌, ◌∙◌, drop, subst, arith, rules}
 use Rattle.sqlite.specs.Held.{state}
 use Rattle.sqlite_keeper.specs.Commits.{row_added, rows_added, Runs, RunsAll}

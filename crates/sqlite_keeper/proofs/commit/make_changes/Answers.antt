@@ -1,3 +1,4 @@
+-- That `make_changes` keeps its contract.
 use Rattle.std.proofs.Common.{map, arith}
 use Rattle.sqlite.specs.Held.{state}
 use Rattle.sqlite_keeper.specs.Commits.{check_put, check_removed, rows_added, RunsAll}

@@ -1,3 +1,4 @@
+-- That `put_checks` keeps its contract.
 use Rattle.std.proofs.Common.{◌∙◌, arith}
 use Rattle.sqlite.specs.Held.{state}
 use Rattle.sqlite_keeper.specs.Commits.{check_put}

@@ -1,3 +1,4 @@
+-- That `remove_checks` keeps its contract.
 use Rattle.std.proofs.Common.{refl, ◌∙◌, arith}
 use Rattle.sqlite.specs.Held.{state}
 use Rattle.sqlite_keeper.specs.Commits.{check_removed}

@@ -1,3 +1,4 @@
+-- That `orders_of` keeps its contract.
 use Rattle.standing_orders.proofs.GatheredRows.{up-to-next, written-more}
 use Rattle.standing_orders.specs.Entries.{order_of}
 use Rattle.standing_orders.proofs.entries.orders_of.Goals as goal

@@ -1,3 +1,4 @@
+-- That `put_by_number` keeps its contract.
 use Rattle.std.proofs.Common.{rules}
 use Rattle.std.proofs.lemmas.List.Sorted.{IsNonDecreasingBy-from_sort_by_key, answers_always}
 use Rattle.standing_orders.proofs.SortedEntries.{sorted-under}

@@ -1,3 +1,4 @@
+-- That `put_in_turn` keeps its contract.
 use Rattle.std.proofs.Common.{rules}
 use Rattle.std.proofs.lemmas.List.Sorted.{answers_always}
 use Rattle.standing_orders.proofs.SortedEntries.{receipt_in, sorted-turn}

@@ -1,3 +1,4 @@
+-- The proof of the law `last_sheet_takes_what_waits`.
 use Rattle.standing_orders.proofs.PricedLast.{all_left_wait, last_leaves, last_takes}
 use Rattle.standing_orders.proofs.laws.last_sheet_takes_what_waits.Goals as goal
 

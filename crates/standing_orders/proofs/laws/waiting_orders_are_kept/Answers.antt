@@ -1,3 +1,4 @@
+-- The proof of the law `waiting_orders_are_kept`.
 use Rattle.standing_orders.proofs.WaitingKept.{another_waits, one_more_waits}
 use Rattle.standing_orders.proofs.laws.waiting_orders_are_kept.Goals as goal
 

@@ -1,3 +1,4 @@
+-- That `entries_of` keeps its contract.
 use Rattle.std.specs.Option.{option_copied}
 use Rattle.register_machine.specs.pricing.CorrectedOrders.{orders_of}
 use Rattle.standing_orders.proofs.GatheredRows.{gathered-at}

@@ -1,3 +1,4 @@
+-- That `orders_of_household` keeps its contract.
 use Rattle.std.proofs.Common.{List, Option, ap, filter_map, map, option_to_list, subst, sym, ◌++◌, ◌∙◌}
 use Rattle.std.specs.List.Sorted.{IsNonDecreasingBy}
 use Rattle.std.specs.Option.{option_copied}

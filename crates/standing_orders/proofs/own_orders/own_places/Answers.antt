@@ -1,3 +1,4 @@
+-- That `own_places` keeps its contract.
 use Rattle.std.proofs.Common.{Option, ap, subst, suc, sym, ℕ, ◌<◌, ◌∙◌}
 use Rattle.std.specs.Option.{option_map_or}
 use Rattle.standing_orders.proofs.OwnPlaces.{HasWalked, begins-walk, ends-walk, falls-back, goes-back, next-own}

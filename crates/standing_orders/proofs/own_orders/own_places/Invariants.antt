@@ -1,3 +1,4 @@
+-- What holds at each turn of the loops of `own_places`.
 use Rattle.std.proofs.Common.{suc}
 use Rattle.std.specs.Option.{option_map_or}
 use Rattle.standing_orders.proofs.OwnPlaces.{HasWalked}

@@ -1,3 +1,4 @@
+-- That `entries_priced` keeps its contract.
 use Rattle.register_machine.specs.pricing.CorrectedOrders.{orders_of}
 use Rattle.standing_orders.proofs.GatheredRows.{gathered-at}
 use Rattle.standing_orders.specs.Entries.{owned_at}

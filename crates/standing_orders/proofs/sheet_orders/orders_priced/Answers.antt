@@ -1,3 +1,4 @@
+-- That `orders_priced` keeps its contract.
 use Rattle.std.proofs.Common.{List, ap, length, map, subst, sym, ◌∙◌}
 use Rattle.std.specs.List.Sorted.{IsNonDecreasingBy}
 use Rattle.register_machine.specs.pricing.CorrectedOrders.{orders_of}

@@ -1,3 +1,4 @@
+-- That `keep_staying` keeps its contract.
 use Rattle.std.proofs.Common.{rules}
 use Rattle.std.proofs.lemmas.Fn.{filter_same}
 use Rattle.register_machine.specs.pricing.CorrectedOrders.{orders_of}

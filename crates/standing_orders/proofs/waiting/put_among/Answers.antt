@@ -1,3 +1,4 @@
+-- That `put_among` keeps its contract.
 use Rattle.std.proofs.Common.{ap, arith, length, sym, vec_capacity, ◌∙◌}
 use Rattle.standing_orders.proofs.RisingPlaces.{found-between, ok-leaves, room-between, stays-found}
 use Rattle.standing_orders.proofs.waiting.put_among.Goals as goal

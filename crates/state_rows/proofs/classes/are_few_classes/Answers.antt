@@ -1,3 +1,4 @@
+-- That `are_few_classes` keeps its contract.
 use Rattle.state_rows.proofs.ClassesMet.{few-positions}
 use Rattle.state_rows.proofs.classes.are_few_classes.Goals as goal
 

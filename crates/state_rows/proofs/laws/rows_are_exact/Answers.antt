@@ -1,3 +1,4 @@
+-- The proof of the law `rows_are_exact`.
 use Rattle.state_rows.proofs.EachPart.{row_again, row_takes}
 use Rattle.state_rows.proofs.laws.rows_are_exact.Goals as goal
 

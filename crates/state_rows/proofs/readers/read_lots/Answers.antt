@@ -1,3 +1,4 @@
+-- That `read_lots` keeps its contract.
 use Rattle.row_fields.specs.Reading.{items_at}
 use Rattle.row_fields.proofs.Loops.{goes_on, ends, is_done}
 use Rattle.state_rows.specs.Reading.{lot_at}

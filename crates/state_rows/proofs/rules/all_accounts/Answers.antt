@@ -1,3 +1,4 @@
+-- That `all_accounts` keeps its contract.
 use Rattle.std.proofs.Common.{◌≡◌, ℕ, suc, ◌+◌, true, take, sym, subst, ◌∙◌, arith}
 use Rattle.std.specs.List.{list_all}
 use Rattle.state_rows.specs.Rules.{is_account}

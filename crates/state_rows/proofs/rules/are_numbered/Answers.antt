@@ -1,3 +1,4 @@
+-- That `are_numbered` keeps its contract.
 use Rattle.std.proofs.Common.{◌≡◌, ◌-◌, ◌≤◌, true, List, [], ◌∷◌, length, drop, refl, sym, ◌∙◌, arith, length-drop}
 use Rattle.agent_events.specs.declared.checkpoint.LotRow.{LotRow}
 use Rattle.state_rows.specs.Rules.{are_numbered}

@@ -1,3 +1,4 @@
+-- That `are_ordered` keeps its contract.
 use Rattle.std.proofs.Common.{◌≡◌, ℕ, suc, ◌-◌, ◌+◌, ◌<◌, ◌≤◌, true, List, [], ◌∷◌, length, get_or, drop, drop-cons, refl, ap, subst, sym, ◌∙◌, arith, length-drop}
 use Rattle.agent_events.specs.declared.checkpoint.PositionRow.{PositionRow}
 use Rattle.state_rows.specs.Rules.{comes_before, are_ordered}

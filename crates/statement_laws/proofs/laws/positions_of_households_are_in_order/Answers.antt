@@ -1,3 +1,4 @@
+-- The proof of the law `positions_of_households_are_in_order`.
 use Rattle.std.proofs.Common.{subst, true, ◌≡◌}
 use Rattle.std.proofs.lemmas.List.Kept.{AllPairs-filter}
 use Rattle.household_positions.specs.Register.{AreInOrder}

@@ -1,3 +1,4 @@
+-- The proof of the law `trades_of_households_are_dated`.
 use Rattle.std.proofs.Common.{subst}
 use Rattle.holder_statements.proofs.DatedReplays.{part_is_dated}
 use Rattle.holder_statements.specs.Periods.{AreDated}

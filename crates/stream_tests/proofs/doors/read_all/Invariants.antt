@@ -1,3 +1,4 @@
+-- What holds at each turn of the loops of `read_all`.
 use Rattle.std.proofs.Common.{IsTrue}
 use Rattle.stream_tests.proofs.doors.read_all.Given as goal
 

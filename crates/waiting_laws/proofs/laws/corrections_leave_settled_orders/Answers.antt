@@ -1,3 +1,4 @@
+-- The proof of the law `corrections_leave_settled_orders`.
 use Rattle.std.proofs.Common.{subst, sym}
 use Rattle.register_machine.specs.pricing.CorrectedBook.{Book}
 use Rattle.waiting_laws.proofs.SettledStay.{by-correction}

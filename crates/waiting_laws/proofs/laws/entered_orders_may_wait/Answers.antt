@@ -1,3 +1,4 @@
+-- The proof of the law `entered_orders_may_wait`.
 use Rattle.std.proofs.Common.{[], length, ◌++◌, ◌∷◌}
 use Rattle.agent_events.specs.declared.event.EventKind.{EventKind}
 use Rattle.register_machine.specs.journal.Kinds.{accounts_of}

@@ -1,3 +1,4 @@
+-- The proof of the law `events_leave_settled_orders`.
 use Rattle.std.proofs.Common.{refl, subst, sym}
 use Rattle.register_laws.proofs.BooksGoOn.{book_goes_on}
 use Rattle.register_machine.specs.pricing.CorrectedBook.{Book}

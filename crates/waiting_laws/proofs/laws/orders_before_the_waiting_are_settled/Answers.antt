@@ -1,3 +1,4 @@
+-- The proof of the law `orders_before_the_waiting_are_settled`.
 use Rattle.waiting_laws.proofs.SettledStay.{begun-before, settled-before}
 use Rattle.waiting_laws.proofs.laws.orders_before_the_waiting_are_settled.Goals as goal
 

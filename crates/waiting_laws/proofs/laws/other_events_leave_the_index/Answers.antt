@@ -1,3 +1,4 @@
+-- The proof of the law `other_events_leave_the_index`.
 use Rattle.std.proofs.Common.{refl}
 use Rattle.waiting_laws.proofs.IndexSteps.{index-behind, keeps-plain}
 use Rattle.waiting_laws.proofs.laws.other_events_leave_the_index.Goals as goal

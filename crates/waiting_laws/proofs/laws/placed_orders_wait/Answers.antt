@@ -1,3 +1,4 @@
+-- The proof of the law `placed_orders_wait`.
 use Rattle.std.proofs.Common.{[], length, ◌++◌, ◌∷◌}
 use Rattle.agent_events.specs.declared.event.EventKind.{EventKind}
 use Rattle.waiting_laws.proofs.IndexSteps.{index-behind, keeps-placed, rises-more}

@@ -1,3 +1,4 @@
+-- The proof of the law `replaced_orders_may_wait`.
 use Rattle.std.proofs.Common.{arith, length, map}
 use Rattle.agent_events.specs.declared.event.EventKind.{EventKind}
 use Rattle.event_laws.proofs.FirstBroken.{within-list}

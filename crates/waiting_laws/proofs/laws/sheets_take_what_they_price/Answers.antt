@@ -1,3 +1,4 @@
+-- The proof of the law `sheets_take_what_they_price`.
 use Rattle.std.proofs.Common.{[], subst, sym, ◌++◌, ◌∷◌}
 use Rattle.agent_events.specs.declared.event.EventKind.{EventKind}
 use Rattle.event_laws.specs.EventReplays.{sheet_behind}

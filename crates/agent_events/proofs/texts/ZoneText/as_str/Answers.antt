@@ -1,3 +1,4 @@
+-- That `ZoneText::as_str` keeps its contract.
 use Rattle.agent_events.proofs.ZoneTexts.{zone_is_text}
 use Rattle.agent_events.proofs.texts.ZoneText.as_str.Goals as goal
 

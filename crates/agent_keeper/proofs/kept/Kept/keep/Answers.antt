@@ -1,3 +1,4 @@
+-- That `Kept::keep` keeps its contract.
 use Rattle.std.proofs.Common.{◌++◌, Result, Ok, Err, OnErr, ◌∙◌, ap}
 use Rattle.agent_keeper.proofs.Contents.{same_content, check_after}
 use Rattle.agent_keeper.proofs.kept.Kept.keep.Goals as goal

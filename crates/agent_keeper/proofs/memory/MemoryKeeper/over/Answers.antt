@@ -1,3 +1,4 @@
+-- That `MemoryKeeper::over` keeps its contract.
 use Rattle.agent_keeper.proofs.Contents.{after_nothing}
 use Rattle.agent_keeper.proofs.memory.MemoryKeeper.over.Goals as goal
 

@@ -1,3 +1,4 @@
+-- That `Change::join` keeps its contract.
 use Rattle.agent_events.specs.declared.totals.CashChange.{CashChange}
 use Rattle.agent_events.specs.declared.totals.MilsChange.{MilsChange}
 use Rattle.checkpoint_replay.proofs.JoinFacts.{cash-together, mils-together, moves-together}

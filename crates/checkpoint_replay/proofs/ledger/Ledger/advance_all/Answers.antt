@@ -1,3 +1,4 @@
+-- That `Ledger::advance_all` keeps its contract.
 use Rattle.checkpoint_replay.specs.Parts.{Households}
 use Rattle.checkpoint_replay.specs.Sheets.{CanAdvance}
 use Rattle.std.proofs.Common.{subst, sym}

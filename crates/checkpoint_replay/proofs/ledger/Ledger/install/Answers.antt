@@ -1,3 +1,4 @@
+-- That `Ledger::install` keeps its contract.
 use Rattle.agent_events.specs.declared.totals.Changes.{Changes}
 use Rattle.checkpoint_replay.proofs.TalliedLaw.{installed-tallied}
 use Rattle.checkpoint_replay.specs.Moves.{part_after}

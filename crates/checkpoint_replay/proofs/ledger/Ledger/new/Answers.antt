@@ -1,3 +1,4 @@
+-- That `Ledger::new` keeps its contract.
 use Rattle.checkpoint_replay.proofs.TalliedLaw.{empty-tallied}
 use Rattle.std.specs.HashMap.{spare}
 use Rattle.checkpoint_replay.proofs.ledger.Ledger.new.Goals as goal

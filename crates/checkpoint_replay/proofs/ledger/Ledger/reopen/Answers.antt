@@ -1,3 +1,4 @@
+-- That `Ledger::reopen` keeps its contract.
 use Rattle.checkpoint_replay.proofs.ReopenedDay.{others-stay, ready-behind, reopened-day, starts-fresh}
 use Rattle.checkpoint_replay.specs.Moves.{households_of}
 use Rattle.checkpoint_replay.specs.Parts.{part_in}

@@ -1,3 +1,4 @@
+-- That `Ledger::reopen_behind` keeps its contract.
 use Rattle.checkpoint_replay.proofs.ReopenedDay.{one-move}
 use Rattle.checkpoint_replay.specs.Moves.{AreMoves}
 use Rattle.checkpoint_replay.specs.declared.change.HouseholdMove.{HouseholdMove}

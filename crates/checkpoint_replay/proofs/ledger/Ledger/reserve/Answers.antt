@@ -1,3 +1,4 @@
+-- That `Ledger::reserve` keeps its contract.
 use Rattle.checkpoint_replay.proofs.TalliedLaw.{same-tallied}
 use Rattle.checkpoint_replay.specs.Parts.{Households, part_in}
 use Rattle.checkpoint_replay.specs.Totals.{cents_held, mils_held}

@@ -1,3 +1,4 @@
+-- That `LedgerTotals::add` keeps its contract.
 use Rattle.agent_events.specs.declared.reply_lists.ClassGain.{ClassGain}
 use Rattle.checkpoint_replay.proofs.ShareFacts.{shares-fit, shares-in-within, shares-out-within}
 use Rattle.checkpoint_replay.specs.Totals.{TotalRows}

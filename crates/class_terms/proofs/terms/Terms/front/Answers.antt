@@ -1,3 +1,4 @@
+-- That `Terms::front` keeps its contract.
 use Rattle.std.proofs.Common.{subst, ◌≤◌}
 use Rattle.std.specs.Prelude.{All}
 use Rattle.class_terms.specs.declared.form.TermsForm.{TermsForm}

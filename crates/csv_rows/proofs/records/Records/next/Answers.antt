@@ -1,3 +1,4 @@
+-- That `Records::next` keeps its contract.
 use Rattle.std.proofs.Common.{Bor, List, Some, [], ap, drop, slice_get, subst, sym, ℕ, ◌∙◌, ◌∷◌, ◌≡◌}
 use Rattle.csv.specs.Reading.{ReadRecord}
 use Rattle.csv.specs.Records.{fields_of}

@@ -1,3 +1,4 @@
+-- That `DeskBooks::apply` keeps its contract.
 use Rattle.std.proofs.Common.{ap, refl, subst, sym, ◌<◌, ◌∙◌}
 use Rattle.desk_books.proofs.BooksAfter.{books_after}
 use Rattle.desk_books.proofs.IndexAfter.{is_within}

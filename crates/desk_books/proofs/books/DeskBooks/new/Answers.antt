@@ -1,3 +1,4 @@
+-- That `DeskBooks::new` keeps its contract.
 use Rattle.std.proofs.Common.{ap}
 use Rattle.desk_books.proofs.FirstBooks.{books_of_no_event}
 use Rattle.desk_books.proofs.books.DeskBooks.new.Goals as goal

@@ -1,3 +1,4 @@
+-- That `DeskBooks::prepare` keeps its contract.
 use Rattle.std.proofs.Common.{ap, subst, sym, ◌∙◌}
 use Rattle.desk_books.proofs.MovesStay.{stays_a_change}
 use Rattle.desk_books.proofs.KeptAfter.{kept_behind}

@@ -1,3 +1,4 @@
+-- That `PriceBook::add_calendar` keeps its contract.
 use Rattle.std.proofs.Common.{◌≤◌, ap, arith}
 use Rattle.forward_price.proofs.TurnFacts.{none_passed}
 use Rattle.forward_price.proofs.price_book.PriceBook.add_calendar.Goals as goal

@@ -1,3 +1,4 @@
+-- That `PriceBook::close_day` keeps its contract.
 use Rattle.std.proofs.Common.{◌≡◌, false, map, sym, ap, ◌∙◌, ◌++◌, take, drop, length, arith}
 use Rattle.std.proofs.lemmas.Grind.{common_steps}
 use Rattle.forward_price.specs.PriceTables.{closed_in, is_priced}

@@ -1,3 +1,4 @@
+-- That `PriceBook::due` keeps its contract.
 use Rattle.std.proofs.Common.{◌≡◌, ◌∙◌, ap}
 use Rattle.forward_price.specs.Turns.{due_in, due_of}
 use Rattle.forward_price.proofs.TurnFacts.{if_due, if_none_due}

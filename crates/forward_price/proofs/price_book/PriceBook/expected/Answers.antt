@@ -1,3 +1,4 @@
+-- That `PriceBook::expected` keeps its contract.
 use Rattle.std.proofs.Common.{◌≡◌, ◌∙◌, ap}
 use Rattle.forward_price.specs.Turns.{expected_in, expected_of}
 use Rattle.forward_price.proofs.TurnFacts.{if_expected, if_none_expected}

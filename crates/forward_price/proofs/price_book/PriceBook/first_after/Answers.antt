@@ -1,3 +1,4 @@
+-- That `PriceBook::first_after` keeps its contract.
 use Rattle.std.proofs.Common.{◌≡◌, Some, None, option_map, refl, sym, ◌∙◌, ap}
 use Rattle.forward_price.specs.PriceTables.{next_sheet}
 use Rattle.forward_price.proofs.PricingFacts.{next_sheet-next, next_sheet-pending}

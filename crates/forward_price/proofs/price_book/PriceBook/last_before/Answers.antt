@@ -1,3 +1,4 @@
+-- That `PriceBook::last_before` keeps its contract.
 use Rattle.std.proofs.Common.{sym, ◌∙◌, ap}
 use Rattle.forward_price.specs.PriceTables.{sheets_on_trial, price_before}
 use Rattle.forward_price.proofs.PatchFacts.{before-patched}

@@ -1,3 +1,4 @@
+-- That `PriceBook::publish` keeps its contract.
 use Rattle.std.proofs.Common.{◌≡◌, ◌<◌, Some, length, ap, arith, ◌∙◌}
 use Rattle.forward_price.specs.PriceTables.{Table}
 use Rattle.forward_price.specs.Turns.{expected_in, expected_of}

@@ -1,3 +1,4 @@
+-- That `PriceBook::test` keeps its contract.
 use Rattle.std.proofs.Common.{◌≡◌, sym, ◌∙◌, ap}
 use Rattle.forward_price.specs.Turns.{wrong_class, fault_of}
 use Rattle.forward_price.proofs.price_book.PriceBook.test.Goals as goal

@@ -1,3 +1,4 @@
+-- That `PriceBook::withdraw` keeps its contract.
 use Rattle.std.proofs.Common.{arith}
 use Rattle.std.proofs.lemmas.Grind.{common_steps}
 use Rattle.forward_price.proofs.NumberFacts.{numbered_less}

@@ -1,3 +1,4 @@
+-- That `Calendar::close_day` keeps its contract.
 use Rattle.std.proofs.Common.{◌==◌, sym, ap, ◌∙◌, refl, is_some}
 use Rattle.fund_calendar.proofs.LookUpLemmas.{list_any-find, get_within, remove_day, filter-find_none}
 use Rattle.fund_calendar.proofs.calendar.Calendar.close_day.Goals as goal

@@ -1,3 +1,4 @@
+-- That `Calendar::date_of` keeps its contract.
 use Rattle.std.proofs.Common.{◌==◌, ap, ◌∙◌, find, option_map}
 use Rattle.fund_calendar.specs.declared.pricing_day.PricingDay.{PricingDay}
 use Rattle.fund_calendar.specs.PricingDays.{Listing}

@@ -1,3 +1,4 @@
+-- That `Calendar::new` keeps its contract.
 use Rattle.std.proofs.Common.{sym, ap, ◌∙◌, Ok}
 use Rattle.fund_calendar.specs.ZoneText.{read_zone}
 use Rattle.fund_calendar.proofs.ScheduleLemmas.{new_bad_zone, new_bad_span, new_by_days, refused_by_days}

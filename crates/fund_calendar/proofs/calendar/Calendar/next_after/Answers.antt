@@ -1,3 +1,4 @@
+-- That `Calendar::next_after` keeps its contract.
 use Rattle.std.proofs.Common.{◌≡◌, ap, ◌∙◌}
 use Rattle.fund_calendar.specs.PricingDays.{first_above}
 use Rattle.fund_calendar.proofs.LookUpLemmas.{least_if_some, none_above_if_none}

@@ -1,3 +1,4 @@
+-- That `Day::is_weekday` keeps its contract.
 use Rattle.std.proofs.Common.{◌≡◌, ap, ◌∙◌, arith}
 use Rattle.std.proofs.lemmas.Bool.Decides.{nat_tests}
 use Rattle.jiff_core.specs.Calendar.{weekday_number}

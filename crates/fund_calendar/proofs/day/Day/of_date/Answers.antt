@@ -1,3 +1,4 @@
+-- That `Day::of_date` keeps its contract.
 use Rattle.std.proofs.Common.{◌≡◌, ℤ, ◌<◌, ◌^◌, refl, ◌≤ℤ◌, ◌∙◌, ap, pos, arith, to_z, of_z, w32, unsigned_abs}
 use Rattle.jiff_core.specs.declared.civil.date.Date.{Date}
 use Rattle.jiff_core.specs.Date.{epoch_day}

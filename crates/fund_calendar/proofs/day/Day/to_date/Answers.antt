@@ -1,3 +1,4 @@
+-- That `Day::to_date` keeps its contract.
 use Rattle.std.proofs.Common.{◌≡◌, ◌≤◌, pos, arith, rules}
 use Rattle.jiff_core.specs.Date.{epoch_day}
 use Rattle.fund_calendar.proofs.JiffLemmas.{HasParts-date_of, HasParts-year_month_day}

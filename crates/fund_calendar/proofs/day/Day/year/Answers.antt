@@ -1,3 +1,4 @@
+-- That `Day::year` keeps its contract.
 use Rattle.std.proofs.Common.{◌<◌, ◌^◌, arith, pos, w16, unsigned_abs}
 use Rattle.jiff_core.proofs.SignedLemmas.{back_small}
 use Rattle.fund_calendar.specs.Dates.{date_of}

@@ -1,3 +1,4 @@
+-- That `CashBook::post` keeps its contract.
 use Rattle.std.proofs.Common.{List, Option, ap, arith, ◌+ℤ◌, ◌∙◌, ◌≤◌}
 use Rattle.std.specs.Option.{option_copied}
 use Rattle.agent_events.specs.declared.totals.CashChange.{CashChange}

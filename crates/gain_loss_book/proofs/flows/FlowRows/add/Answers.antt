@@ -1,3 +1,4 @@
+-- That `FlowRows::add` keeps its contract.
 use Rattle.std.proofs.Common.{ap, sym, ◌∙◌}
 use Rattle.gain_loss_book.specs.Flows.{FlowTable, whole_flow, with_flow}
 use Rattle.gain_loss_book.specs.declared.flows.Flow.{Flow}

@@ -1,3 +1,4 @@
+-- That `FlowRows::reserve` keeps its contract.
 use Rattle.std.proofs.Common.{ap, sym, ◌∙◌}
 use Rattle.gain_loss_book.proofs.FlowFacts.{reordered-whole}
 use Rattle.gain_loss_book.specs.Flows.{FlowTable, whole_flow}

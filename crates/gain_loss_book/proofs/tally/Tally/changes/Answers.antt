@@ -1,3 +1,4 @@
+-- That `Tally::changes` keeps its contract.
 use Rattle.std.proofs.Common.{List, ap, arith, ◌++◌, ◌∙◌, ◌≡◌}
 use Rattle.agent_events.specs.declared.order.Party.{Party}
 use Rattle.agent_events.specs.declared.totals.CashChange.{CashChange}

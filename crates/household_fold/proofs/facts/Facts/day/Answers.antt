@@ -1,3 +1,4 @@
+-- That `Facts::day` keeps its contract.
 use Rattle.std.proofs.Common.{refl}
 use Rattle.household_fold.proofs.SheetFacts.{read_at_hand}
 use Rattle.household_fold.proofs.facts.Facts.day.Goals as goal

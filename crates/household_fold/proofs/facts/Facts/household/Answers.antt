@@ -1,3 +1,4 @@
+-- That `Facts::household` keeps its contract.
 use Rattle.std.proofs.Common.{ap, option_map, sym, ◌∙◌}
 use Rattle.household_fold.specs.Facts.{row_numbered}
 use Rattle.household_fold.proofs.BookFacts.{household_found}

@@ -1,3 +1,4 @@
+-- That `Facts::last_price` keeps its contract.
 use Rattle.std.proofs.Common.{ap, ◌∙◌}
 use Rattle.forward_price.specs.PriceTables.{sheets_on_trial, price_before}
 use Rattle.household_fold.specs.Facts.{sheet_at_hand, sheets_known}

@@ -1,3 +1,4 @@
+-- That `Facts::lists` keeps its contract.
 use Rattle.std.proofs.Common.{ap, ◌∙◌}
 use Rattle.forward_price.specs.Sheets.{lists_class}
 use Rattle.household_fold.proofs.SheetFacts.{lists_at_hand}

@@ -1,3 +1,4 @@
+-- That `Facts::moment` keeps its contract.
 use Rattle.std.proofs.Common.{refl}
 use Rattle.household_fold.proofs.SheetFacts.{read_at_hand}
 use Rattle.household_fold.proofs.facts.Facts.moment.Goals as goal

@@ -1,3 +1,4 @@
+-- That `Facts::nav` keeps its contract.
 use Rattle.std.proofs.Common.{ap, is_some, sym, ◌∙◌}
 use Rattle.std.proofs.lemmas.Bool.{false≢true}
 use Rattle.forward_price.specs.PriceTables.{price_on}

@@ -1,3 +1,4 @@
+-- That `Facts::rate` keeps its contract.
 use Rattle.std.proofs.Common.{ap, sym, ◌∙◌}
 use Rattle.std.specs.Option.{option_map_or}
 use Rattle.household_fold.specs.Facts.{rate_numbered}

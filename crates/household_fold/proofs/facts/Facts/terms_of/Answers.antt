@@ -1,3 +1,4 @@
+-- That `Facts::terms_of` keeps its contract.
 use Rattle.std.proofs.Common.{ap, sym, ◌∙◌}
 use Rattle.std.specs.Option.{option_copied}
 use Rattle.household_fold.specs.Facts.{terms_numbered}

@@ -1,3 +1,4 @@
+-- That `HouseholdState::advance` keeps its contract.
 use Rattle.std.proofs.Common.{subst, sym}
 use Rattle.household_fold.specs.Households.{AreOwned, Household}
 use Rattle.register_machine.specs.replay.Positions.{Register}

@@ -1,3 +1,4 @@
+-- That `HouseholdState::advanced` keeps its contract.
 use Rattle.std.proofs.Common.{subst, sym}
 use Rattle.household_fold.specs.Households.{AreOwned, Household}
 use Rattle.household_fold.proofs.state.HouseholdState.advanced.Goals as goal

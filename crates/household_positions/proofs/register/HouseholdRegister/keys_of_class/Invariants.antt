@@ -1,3 +1,4 @@
+-- What holds at each turn of the loops of `HouseholdRegister::keys_of_class`.
 use Rattle.std.proofs.Common.{take, ◌≡◌}
 use Rattle.register_machine.specs.replay.Dividend.{keys_of_class}
 use Rattle.household_positions.proofs.register.HouseholdRegister.keys_of_class.Given as goal

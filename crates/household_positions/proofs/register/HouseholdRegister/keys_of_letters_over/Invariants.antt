@@ -1,3 +1,4 @@
+-- What holds at each turn of the loops of `HouseholdRegister::keys_of_letters_over`.
 use Rattle.std.proofs.Common.{take, ◌≡◌}
 use Rattle.register_machine.specs.replay.Letter.{keys_of_letters_over}
 use Rattle.household_positions.proofs.register.HouseholdRegister.keys_of_letters_over.Given as goal

@@ -1,3 +1,4 @@
+-- That `NumberedOrders::last_number` keeps its contract.
 use Rattle.std.proofs.Common.{All, List, [], ap, map, subst, sym, ℕ, ◌∙◌, ◌≡◌, ◌≤◌}
 use Rattle.std.specs.Prelude.{Contains}
 use Rattle.household_replay.proofs.NumberFacts.{all-numbered, if-no_number, if-number, none-numbered, numbers-numbered}

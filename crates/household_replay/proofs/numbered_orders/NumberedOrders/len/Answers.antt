@@ -1,3 +1,4 @@
+-- That `NumberedOrders::len` keeps its contract.
 use Rattle.std.proofs.Common.{ap, length, subst, sym, ◌∙◌}
 use Rattle.household_replay.proofs.NumberFacts.{length-numbered, rising-numbered}
 use Rattle.household_replay.specs.NumberedRows.{AreRising}

@@ -1,3 +1,4 @@
+-- That `NumberedOrders::number_from` keeps its contract.
 use Rattle.std.proofs.Common.{List, ap, arith, drop, get_or, length, subst, sym, ℕ, ◌<◌, ◌∙◌, ◌∷◌, ◌≡◌, ◌≤◌}
 use Rattle.std.specs.List.Sorted.{IsPartitionPoint}
 use Rattle.std.specs.Prelude.{IfNone, Option}

@@ -1,3 +1,4 @@
+-- That `NumberedOrders::push` keeps its contract.
 use Rattle.std.proofs.Common.{List, ap, of_calls, rules, subst, sym, ℕ, ◌++◌, ◌∙◌, ◌∷◌, ◌≡◌, []}
 use Rattle.agent_events.specs.declared.order.Order.{Order}
 use Rattle.household_replay.proofs.NumberFacts.{kept-more, numbered-more}

@@ -1,3 +1,4 @@
+-- That `NumberedOrders::under` keeps its contract.
 use Rattle.std.proofs.Common.{List, ap, arith, drop, length, subst, take, ℕ, ◌-◌, ◌<◌, ◌∙◌, ◌≤◌}
 use Rattle.std.specs.List.Sorted.{IsPartitionPoint}
 use Rattle.agent_events.specs.declared.order.Order.{Order}

@@ -1,3 +1,4 @@
+-- That `Feed::other_call` keeps its contract.
 use Rattle.std.proofs.Common.{◌∙◌, ◌||◌, ◌+◌, Bool, List, ℕ, ap, sym}
 use Rattle.std.specs.Option.{unwrap_or}
 use Rattle.httparse.specs.Spans.{span_bytes}

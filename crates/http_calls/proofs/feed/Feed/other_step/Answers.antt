@@ -1,3 +1,4 @@
+-- That `Feed::other_step` keeps its contract.
 use Rattle.std.proofs.Common.{◌∙◌, ap, subst, true}
 use Rattle.http_stream.specs.declared.intake.Front.{Front}
 use Rattle.http_stream.specs.Stream.{LooksAs, after_item}

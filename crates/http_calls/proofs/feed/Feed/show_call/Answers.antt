@@ -1,3 +1,4 @@
+-- That `Feed::show_call` keeps its contract.
 use Rattle.std.proofs.Common.{◌∙◌, ◌+◌, List, ℕ, Ok, ap, sym}
 use Rattle.std.specs.Option.{unwrap_or}
 use Rattle.httparse.specs.Spans.{span_bytes}

@@ -1,3 +1,4 @@
+-- That `Digits::new` keeps its contract.
 use Rattle.std.proofs.Common.{rules}
 use Rattle.std.proofs.lemmas.Fmt.{length-decimal-le}
 use Rattle.http_calls.proofs.members.Digits.new.Goals as goal

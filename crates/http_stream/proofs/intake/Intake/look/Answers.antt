@@ -1,3 +1,4 @@
+-- That `Intake::look` keeps its contract.
 use Rattle.std.proofs.Common.{Option, subst}
 use Rattle.http_stream.specs.declared.head.HeadAt.{HeadAt}
 use Rattle.http_stream.specs.Kept.{StandsAt}

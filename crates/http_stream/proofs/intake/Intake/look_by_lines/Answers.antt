@@ -1,3 +1,4 @@
+-- That `Intake::look_by_lines` keeps its contract.
 use Rattle.std.proofs.Common.{List, ℕ, subst}
 use Rattle.http_stream.specs.Kept.{SeenAs}
 use Rattle.http_stream.specs.declared.intake.Seen.{Seen}

@@ -1,3 +1,4 @@
+-- That `Intake::look_first` keeps its contract.
 use Rattle.std.proofs.Common.{List, ℕ, take, ap, ◌∙◌, subst}
 use Rattle.http_stream.specs.Lines.{head_limit}
 use Rattle.http_stream.specs.Reading.{FoundAs}

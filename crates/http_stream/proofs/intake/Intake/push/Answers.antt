@@ -1,3 +1,4 @@
+-- That `Intake::push` keeps its contract.
 use Rattle.std.proofs.Common.{◌≤◌, List, ℕ, ◌∙◌, ap, subst, sym, arith, length, drop}
 use Rattle.std.proofs.lemmas.List.{drop-append-le}
 use Rattle.http_stream.specs.Kept.{IsKept}

@@ -1,3 +1,4 @@
+-- That `Intake::whole_or_wait` keeps its contract.
 use Rattle.std.proofs.Common.{List, ℕ, ◌+◌, leb, length, ap, sym, ◌∙◌, inr}
 use Rattle.std.specs.Option.{unwrap_or}
 use Rattle.http_stream.specs.Stream.{Shown}

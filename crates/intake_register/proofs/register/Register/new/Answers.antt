@@ -1,3 +1,4 @@
+-- That `Register::new` keeps its contract.
 use Rattle.std.proofs.Common.{[], ap, refl, subst, sym, ◌∙◌, ◌≡◌}
 use Rattle.forward_price.specs.PriceTables.{Book, empty_book}
 use Rattle.intake_register.proofs.register.Register.new.Goals as goal

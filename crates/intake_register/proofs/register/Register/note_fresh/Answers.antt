@@ -1,3 +1,4 @@
+-- That `Register::note_fresh` keeps its contract.
 use Rattle.std.proofs.Common.{subst}
 use Rattle.std.specs.Prelude.{IfOk}
 use Rattle.intake_register.proofs.register.Register.note_fresh.Goals as goal

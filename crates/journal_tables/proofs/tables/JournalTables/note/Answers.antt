@@ -1,3 +1,4 @@
+-- That `JournalTables::note` keeps its contract.
 use Rattle.std.proofs.Common.{subst}
 use Rattle.journal_tables.proofs.StandingTables.{accounts-stand, dividends-stand, fixed-stand, terms-stand}
 use Rattle.journal_tables.specs.Changes.{CanTake}

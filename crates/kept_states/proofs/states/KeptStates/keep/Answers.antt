@@ -1,3 +1,4 @@
+-- That `KeptStates::keep` keeps its contract.
 use Rattle.std.proofs.Common.{All, Contains, List, subst, ℕ, ◌≡◌, ◌⊎◌}
 use Rattle.kept_states.proofs.StateFacts.{kept-after}
 use Rattle.kept_states.specs.KeptStates.{states_in}

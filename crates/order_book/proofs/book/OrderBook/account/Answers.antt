@@ -1,3 +1,4 @@
+-- That `OrderBook::account` keeps its contract.
 use Rattle.std.proofs.Common.{ap, sym, ◌∙◌}
 use Rattle.std.specs.Prelude.{option_and_then}
 use Rattle.agent_events.specs.Events.{Event}

@@ -1,3 +1,4 @@
+-- That `OrderBook::class_at` keeps its contract.
 use Rattle.std.proofs.Common.{List, ap, sym, ℕ, ◌∙◌}
 use Rattle.std.specs.List.{slice_get}
 use Rattle.std.specs.Prelude.{option_and_then}

@@ -1,3 +1,4 @@
+-- That `OrderBook::classes` keeps its contract.
 use Rattle.std.proofs.Common.{ap, length, ◌∙◌}
 use Rattle.order_book.proofs.BookFound.{got-classes}
 use Rattle.order_book.specs.Books.{NotedJournal}

@@ -1,3 +1,4 @@
+-- That `OrderBook::earlier_order` keeps its contract.
 use Rattle.std.proofs.Common.{ap}
 use Rattle.order_book.proofs.BookFound.{got-earlier}
 use Rattle.order_book.specs.Books.{NotedJournal}

@@ -1,3 +1,4 @@
+-- That `OrderBook::has_bought` keeps its contract.
 use Rattle.std.proofs.Common.{Option, ap, subst, suc, sym, take, ℕ, ◌<◌, ◌∙◌, ◌≡◌, ◌||◌}
 use Rattle.std.specs.List.{list_any}
 use Rattle.std.specs.Option.{option_copied, option_map_or}

@@ -1,3 +1,4 @@
+-- What holds at each turn of the loops of `OrderBook::has_bought`.
 use Rattle.std.proofs.Common.{suc}
 use Rattle.std.specs.Option.{option_map_or}
 use Rattle.order_book.proofs.ChainWalk.{HasCome}

@@ -1,3 +1,4 @@
+-- That `OrderBook::last_order` keeps its contract.
 use Rattle.std.proofs.Common.{ap}
 use Rattle.order_book.proofs.BookFound.{got-last}
 use Rattle.order_book.specs.Books.{NotedJournal}

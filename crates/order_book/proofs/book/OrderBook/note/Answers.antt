@@ -1,3 +1,4 @@
+-- That `OrderBook::note` keeps its contract.
 use Rattle.std.proofs.Common.{ap, arith, length, subst, sym, ℕ, ◌+◌, ◌-◌, ◌<◌, ◌∙◌, ◌≡◌}
 use Rattle.order_book.proofs.BookNoted.{indexes-noted, last-with}
 use Rattle.order_book.proofs.IndexesTogether.{counts-are-low}

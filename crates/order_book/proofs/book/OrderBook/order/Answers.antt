@@ -1,3 +1,4 @@
+-- That `OrderBook::order` keeps its contract.
 use Rattle.std.proofs.Common.{List, ap, sym, ◌∙◌}
 use Rattle.std.specs.List.{slice_get}
 use Rattle.std.specs.Prelude.{option_and_then}

@@ -1,3 +1,4 @@
+-- That `OrderBook::order_place` keeps its contract.
 use Rattle.std.proofs.Common.{ap}
 use Rattle.order_book.proofs.BookFound.{got-order-place}
 use Rattle.order_book.specs.Books.{NotedJournal}

@@ -1,3 +1,4 @@
+-- That `OrderBook::references_are_above_zero` keeps its contract.
 use Rattle.std.proofs.Common.{ap}
 use Rattle.order_book.proofs.BookFound.{references-above}
 use Rattle.order_book.specs.Books.{NotedJournal}

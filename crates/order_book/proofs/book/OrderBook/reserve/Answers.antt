@@ -1,3 +1,4 @@
+-- That `OrderBook::reserve` keeps its contract.
 use Rattle.std.proofs.Common.{List, ap, arith, subst, sym, ◌∙◌}
 use Rattle.agent_events.specs.Events.{Event}
 use Rattle.order_book.specs.AllIndexes.{KeepsAll}

@@ -1,3 +1,4 @@
+-- That `OrderBook::standing` keeps its contract.
 use Rattle.std.proofs.Common.{List, Option, ap, arith, filter, length, map, option_to_list, sym, ℕ, ◌++◌, ◌∙◌, ◌≤◌}
 use Rattle.std.proofs.lemmas.List.{take_all}
 use Rattle.std.specs.Option.{option_copied}

@@ -1,3 +1,4 @@
+-- What holds at each turn of the loops of `OrderBook::standing`.
 use Rattle.std.proofs.Common.{filter, map, take, ◌≡◌}
 use Rattle.std.specs.Option.{option_copied}
 use Rattle.order_book.specs.Trials.{row_on_trial}

@@ -1,3 +1,4 @@
+-- That `Identities::place` keeps its contract.
 use Rattle.std.proofs.Common.{◌∙◌}
 use Rattle.order_book.proofs.SameIdentities.{got-by}
 use Rattle.order_book.proofs.identities.Identities.place.Goals as goal

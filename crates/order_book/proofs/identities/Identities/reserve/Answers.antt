@@ -1,3 +1,4 @@
+-- That `Identities::reserve` keeps its contract.
 use Rattle.std.proofs.Common.{◌∙◌, sym}
 use Rattle.order_book.proofs.SameIdentities.{got-by}
 use Rattle.order_book.proofs.identities.Identities.reserve.Goals as goal

@@ -1,3 +1,4 @@
+-- That `Identities::take` keeps its contract.
 use Rattle.std.proofs.Common.{sym}
 use Rattle.std.specs.HashMap.{get}
 use Rattle.order_book.proofs.TakenIn.{taken-in}

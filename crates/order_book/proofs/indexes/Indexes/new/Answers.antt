@@ -1,3 +1,4 @@
+-- That `Indexes::new` keeps its contract.
 use Rattle.std.proofs.Common.{refl}
 use Rattle.order_book.proofs.indexes.Indexes.new.Goals as goal
 

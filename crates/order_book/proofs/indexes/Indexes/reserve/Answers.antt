@@ -1,3 +1,4 @@
+-- That `Indexes::reserve` keeps its contract.
 use Rattle.order_book.proofs.IndexesTogether.{accounts-same, all-room, all-same, keys-same, orders-same, places-same, rates-same}
 use Rattle.order_book.specs.Brought.{dealer_key_in, household_key_in}
 use Rattle.order_book.proofs.indexes.Indexes.reserve.Goals as goal

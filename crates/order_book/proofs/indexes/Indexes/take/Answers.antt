@@ -1,3 +1,4 @@
+-- That `Indexes::take` keeps its contract.
 use Rattle.order_book.proofs.IndexesTogether.{accounts-counted, orders-counted}
 use Rattle.order_book.proofs.indexes.Indexes.take.Goals as goal
 

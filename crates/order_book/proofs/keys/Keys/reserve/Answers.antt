@@ -1,3 +1,4 @@
+-- That `Keys::reserve` keeps its contract.
 use Rattle.order_book.proofs.keys.Keys.reserve.Goals as goal
 use Rattle.order_book.specs.Indexes.{key_text}
 

@@ -1,3 +1,4 @@
+-- That `Keys::take_household` keeps its contract.
 use Rattle.std.proofs.Common.{ap, refl, ◌∙◌}
 use Rattle.agent_events.specs.declared.event.EventKind.{EventKind}
 use Rattle.order_book.proofs.KeysTaken.{key-taken, keys-left, no-household-key, short-household}

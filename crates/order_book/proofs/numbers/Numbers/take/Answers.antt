@@ -1,3 +1,4 @@
+-- That `Numbers::take` keeps its contract.
 use Rattle.std.proofs.Common.{add-zero, append-nil, arith, refl, sym, ◌+◌}
 use Rattle.agent_events.specs.declared.event.EventKind.{EventKind}
 use Rattle.order_book.proofs.NumbersTaken.{none-opened, numbers-left, numbers-taken}

@@ -1,3 +1,4 @@
+-- That `OrderIndex::push` keeps its contract.
 use Rattle.order_book.proofs.Names.{name-pushed}
 use Rattle.order_book.proofs.order_index.OrderIndex.push.Goals as goal
 

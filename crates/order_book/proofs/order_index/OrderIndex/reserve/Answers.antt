@@ -1,3 +1,4 @@
+-- That `OrderIndex::reserve` keeps its contract.
 use Rattle.std.proofs.Common.{◌∙◌}
 use Rattle.order_book.proofs.order_index.OrderIndex.reserve.Goals as goal
 

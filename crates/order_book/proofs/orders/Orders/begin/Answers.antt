@@ -1,3 +1,4 @@
+-- That `Orders::begin` keeps its contract.
 use Rattle.std.proofs.Common.{arith}
 use Rattle.order_book.proofs.orders.Orders.begin.Goals as goal
 

@@ -1,3 +1,4 @@
+-- That `Orders::take` keeps its contract.
 use Rattle.order_book.proofs.OrdersTaken.{cancel-taken, entry-taken, fewer-rows, left-by, order-taken, orders-left, replacement-taken, void-taken}
 use Rattle.order_book.proofs.orders.Orders.take.Goals as goal
 

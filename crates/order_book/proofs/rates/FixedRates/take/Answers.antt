@@ -1,3 +1,4 @@
+-- That `FixedRates::take` keeps its contract.
 use Rattle.order_book.proofs.NumbersTaken.{rate-taken, rates-left}
 use Rattle.order_book.proofs.rates.FixedRates.take.Goals as goal
 

@@ -1,3 +1,4 @@
+-- That `Desk::caller_of` keeps its contract.
 use Rattle.std.proofs.Common.{subst}
 use Rattle.desk_answers.specs.Answered.{IsCaller}
 use Rattle.desk_answers.specs.desk_books.declared.books.DeskBooks.{DeskBooks}

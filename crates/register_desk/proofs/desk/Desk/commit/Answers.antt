@@ -1,3 +1,4 @@
+-- That `Desk::commit` keeps its contract.
 use Rattle.register_desk.proofs.DesksGoOn.{desk_more, noted_fits}
 use Rattle.register_desk.proofs.desk.Desk.commit.Goals as goal
 

@@ -1,3 +1,4 @@
+-- That `Desk::commit_batch` keeps its contract.
 use Rattle.std.proofs.Common.{List, subst, ◌++◌}
 use Rattle.agent_events.specs.declared.event.Placed.{Placed}
 use Rattle.dealer_lines.specs.Lines.{line_events}

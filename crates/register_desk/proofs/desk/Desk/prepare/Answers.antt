@@ -1,3 +1,4 @@
+-- That `Desk::prepare` keeps its contract.
 use Rattle.register_desk.proofs.DesksGoOn.{desk_same}
 use Rattle.register_desk.proofs.desk.Desk.prepare.Goals as goal
 

@@ -1,3 +1,4 @@
+-- That `Desk::prepare_batch` keeps its contract.
 use Rattle.std.proofs.Common.{Ok, subst, ◌≡◌}
 use Rattle.dealer_lines.specs.Answers.{lines_given}
 use Rattle.desk_answers.specs.desk_books.declared.books.DeskBooks.{DeskBooks}

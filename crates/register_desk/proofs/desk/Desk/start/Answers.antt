@@ -1,3 +1,4 @@
+-- That `Desk::start` keeps its contract.
 use Rattle.std.proofs.Common.{Err, arith, subst, sym, ◌<◌, ◌≡◌}
 use Rattle.std.proofs.lemmas.Result.{err_from_is_err_and}
 use Rattle.agent_keeper.specs.declared.fault.KeepFault.{KeepFault}

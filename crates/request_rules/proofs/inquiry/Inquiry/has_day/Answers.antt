@@ -1,3 +1,4 @@
+-- That `Inquiry::has_day` keeps its contract.
 use Rattle.std.proofs.Common.{rules}
 use Rattle.fund_calendar.specs.PricingDays.{Listing, lists_day}
 use Rattle.request_rules.proofs.LookUps.{one_has}

@@ -1,3 +1,4 @@
+-- That `Inquiry::has_household` keeps its contract.
 use Rattle.std.proofs.Common.{rules, ◌==◌}
 use Rattle.agent_events.specs.declared.request.HouseholdForm.{HouseholdForm}
 use Rattle.register_laws.proofs.Tests.{find-any}

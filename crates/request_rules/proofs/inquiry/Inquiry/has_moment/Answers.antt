@@ -1,3 +1,4 @@
+-- That `Inquiry::has_moment` keeps its contract.
 use Rattle.std.proofs.Common.{rules}
 use Rattle.forward_price.specs.declared.price_sheet.Opening.{Opening}
 use Rattle.request_rules.proofs.LookUps.{one_has}

@@ -1,3 +1,4 @@
+-- That `Inquiry::is_declared` keeps its contract.
 use Rattle.std.proofs.Common.{rules}
 use Rattle.request_rules.proofs.inquiry.Inquiry.is_declared.Goals as goal
 use Rattle.register_machine.specs.pricing.DividendRates.{declares}

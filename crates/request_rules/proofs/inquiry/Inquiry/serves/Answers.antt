@@ -1,3 +1,4 @@
+-- That `Inquiry::serves` keeps its contract.
 use Rattle.std.proofs.Common.{rules, ◌==◌}
 use Rattle.agent_events.specs.declared.request.AccountForm.{AccountForm}
 use Rattle.request_rules.proofs.LookUps.{one_of}

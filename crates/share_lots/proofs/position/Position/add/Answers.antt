@@ -1,3 +1,4 @@
+-- That `Position::add` keeps its contract.
 use Rattle.std.proofs.Common.{◌≡◌, ◌+◌, ◌∙◌, ◌≤◌, None, Some, map, sum_by, sym, subst, ap, arith}
 use Rattle.share_lots.specs.declared.lot.Lot.{Lot}
 use Rattle.share_lots.specs.Rows.{lots_in}

@@ -1,3 +1,4 @@
+-- That `Position::from_lots` keeps its contract.
 use Rattle.std.proofs.Common.{arith}
 use Rattle.share_lots.proofs.LotLemmas.{sum-mils}
 use Rattle.share_lots.proofs.position.Position.from_lots.Goals as goal

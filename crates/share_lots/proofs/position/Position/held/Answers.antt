@@ -1,3 +1,4 @@
+-- That `Position::held` keeps its contract.
 use Rattle.std.proofs.Common.{arith}
 use Rattle.share_lots.specs.Rows.{lots_in}
 use Rattle.share_lots.proofs.LotLemmas.{sum-mils}

@@ -1,3 +1,4 @@
+-- That `Position::hold` keeps its contract.
 use Rattle.std.proofs.Common.{◌∙◌, map, refl, sym, subst, arith}
 use Rattle.share_lots.specs.Rows.{lots_in}
 use Rattle.share_lots.specs.Lots.{Holding, HasLoose, hold_in}

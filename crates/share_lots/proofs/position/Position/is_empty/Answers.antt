@@ -1,3 +1,4 @@
+-- That `Position::is_empty` keeps its contract.
 use Rattle.share_lots.specs.Rows.{lots_in}
 use Rattle.share_lots.proofs.RowLemmas.{no_lots}
 use Rattle.share_lots.proofs.position.Position.is_empty.Goals as goal

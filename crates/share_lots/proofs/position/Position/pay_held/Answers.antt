@@ -1,3 +1,4 @@
+-- That `Position::pay_held` keeps its contract.
 use Rattle.std.proofs.Common.{◌≡◌, ◌∙◌, ◌≤◌, map, filter, sum_by, ap, arith}
 use Rattle.share_lots.specs.declared.lot.Lot.{Lot}
 use Rattle.share_lots.specs.Rows.{lots_in}

@@ -1,3 +1,4 @@
+-- That `Position::pieces` keeps its contract.
 use Rattle.std.proofs.Common.{arith}
 use Rattle.share_lots.specs.Rows.{lots_in}
 use Rattle.share_lots.proofs.KeptLemmas.{pieces-mils, pieces-cost}

@@ -1,3 +1,4 @@
+-- That `Position::release` keeps its contract.
 use Rattle.std.proofs.Common.{◌∙◌, sym}
 use Rattle.share_lots.specs.Rows.{lots_in}
 use Rattle.share_lots.proofs.KeptLemmas.{release-keeps_mils, release-keeps_cost}

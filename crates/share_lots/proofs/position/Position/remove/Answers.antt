@@ -1,3 +1,4 @@
+-- That `Position::remove` keeps its contract.
 use Rattle.std.proofs.Common.{◌-◌, ◌∙◌, ◌≤◌, sum_by, sym, ap, arith}
 use Rattle.share_lots.specs.declared.lot.Lot.{Lot}
 use Rattle.share_lots.specs.Rows.{lots_in}

@@ -1,3 +1,4 @@
+-- That `Position::take` keeps its contract.
 use Rattle.std.proofs.Common.{◌≡◌, ◌+◌, ◌-◌, ◌∙◌, ◌≤◌, List, filter, sum_by, sym, subst, ap, arith}
 use Rattle.std.specs.Prelude.{All}
 use Rattle.share_lots.specs.declared.lot.Lot.{Lot}

@@ -1,3 +1,4 @@
+-- That `PositionLots::comes_last` keeps its contract.
 use Rattle.std.proofs.Common.{◌≡◌, ◌++◌, true, sym, subst}
 use Rattle.std.specs.Prelude.{All}
 use Rattle.share_lots.specs.declared.lot.Lot.{Lot}

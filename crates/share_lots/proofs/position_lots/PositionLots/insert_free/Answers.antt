@@ -1,3 +1,4 @@
+-- That `PositionLots::insert_free` keeps its contract.
 use Rattle.std.proofs.Common.{◌++◌, ◌∙◌, List, ap}
 use Rattle.share_lots.specs.declared.lot.Lot.{Lot}
 use Rattle.share_lots.specs.Rows.{rest_of}

@@ -1,3 +1,4 @@
+-- That `PositionLots::lot_joined` keeps its contract.
 use Rattle.std.proofs.Common.{◌≡◌, ◌∙◌, true, sym, subst, ap, arith}
 use Rattle.share_lots.specs.Rows.{rest_of, lots_in}
 use Rattle.share_lots.specs.Lots.{AreRanked, free_number, lot_joined}

@@ -1,3 +1,4 @@
+-- That `PositionLots::own_loose` keeps its contract.
 use Rattle.std.proofs.Common.{◌≤◌, List, sum_by, sym, subst, arith}
 use Rattle.share_lots.specs.declared.lot.Lot.{Lot}
 use Rattle.share_lots.specs.Rows.{rest_of, lots_in}

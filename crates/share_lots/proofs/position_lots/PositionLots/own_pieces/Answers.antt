@@ -1,3 +1,4 @@
+-- That `PositionLots::own_pieces` keeps its contract.
 use Rattle.std.proofs.Common.{◌++◌, ◌∙◌, [], ap}
 use Rattle.share_lots.specs.Rows.{rest_of}
 use Rattle.share_lots.specs.Taking.{pieces}

@@ -1,3 +1,4 @@
+-- That `PositionLots::pieces` keeps its contract.
 use Rattle.std.proofs.Common.{◌≡◌, ◌++◌, ◌-◌, ◌∙◌, [], sum_by, sym, subst, ap, arith}
 use Rattle.std.specs.Prelude.{All}
 use Rattle.share_lots.specs.declared.lot.Lot.{Lot}

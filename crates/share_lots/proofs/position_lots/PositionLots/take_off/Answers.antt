@@ -1,3 +1,4 @@
+-- That `PositionLots::take_off` keeps its contract.
 use Rattle.std.proofs.Common.{◌++◌, ◌∙◌, ◌≤◌, List, filter, sym, subst, ap}
 use Rattle.std.specs.Prelude.{All}
 use Rattle.share_lots.specs.declared.lot.Lot.{Lot}

@@ -1,3 +1,4 @@
+-- That `SqliteKeeperKeeper::commit` keeps its contract.
 use Rattle.std.proofs.Common.{Result, Ok, Err}
 use Rattle.std.specs.Prelude.{OnOk}
 use Rattle.sqlite_keeper.proofs.keeper.SqliteKeeperKeeper.commit.Goals as goal

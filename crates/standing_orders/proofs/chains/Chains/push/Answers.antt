@@ -1,3 +1,4 @@
+-- That `Chains::push` keeps its contract.
 use Rattle.std.proofs.Common.{ap, length, ◌∙◌}
 use Rattle.standing_orders.proofs.OwnerChains.{chains-pushed}
 use Rattle.standing_orders.proofs.chains.Chains.push.Goals as goal

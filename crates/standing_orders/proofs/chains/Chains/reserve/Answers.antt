@@ -1,3 +1,4 @@
+-- That `Chains::reserve` keeps its contract.
 use Rattle.std.proofs.Common.{◌∙◌}
 use Rattle.standing_orders.proofs.chains.Chains.reserve.Goals as goal
 

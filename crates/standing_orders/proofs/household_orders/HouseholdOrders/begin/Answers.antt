@@ -1,3 +1,4 @@
+-- That `HouseholdOrders::begin` keeps its contract.
 use Rattle.std.proofs.Common.{ap, arith, length, vec_capacity, ℕ, [], ◌++◌, ◌-◌, ◌∙◌, ◌∷◌, refl}
 use Rattle.standing_orders.proofs.IndexKept.{begun-kept}
 use Rattle.standing_orders.proofs.RisingPlaces.{rises-to, with-behind}

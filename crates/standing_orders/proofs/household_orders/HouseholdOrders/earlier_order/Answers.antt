@@ -1,3 +1,4 @@
+-- That `HouseholdOrders::earlier_order` keeps its contract.
 use Rattle.std.proofs.Common.{List, Option, ap, take, ℕ, ◌∙◌, ◌≡◌}
 use Rattle.std.specs.List.{slice_get}
 use Rattle.std.specs.Prelude.{option_and_then}

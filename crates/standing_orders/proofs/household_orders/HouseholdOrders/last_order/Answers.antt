@@ -1,3 +1,4 @@
+-- That `HouseholdOrders::last_order` keeps its contract.
 use Rattle.std.proofs.Common.{ap, ◌∙◌}
 use Rattle.order_book.specs.LastPlaces.{last_place}
 use Rattle.standing_orders.specs.Index.{OrderPlaces}

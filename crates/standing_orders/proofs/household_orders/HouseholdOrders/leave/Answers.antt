@@ -1,3 +1,4 @@
+-- That `HouseholdOrders::leave` keeps its contract.
 use Rattle.std.proofs.Common.{List, arith, length, refl, subst, sym, ℕ}
 use Rattle.register_machine.specs.pricing.CorrectedOrders.{orders_of}
 use Rattle.standing_orders.proofs.IndexKept.{waits-kept}

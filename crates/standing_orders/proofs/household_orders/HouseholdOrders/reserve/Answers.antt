@@ -1,3 +1,4 @@
+-- That `HouseholdOrders::reserve` keeps its contract.
 use Rattle.std.proofs.Common.{arith, refl}
 use Rattle.standing_orders.proofs.IndexKept.{reserved-kept}
 use Rattle.standing_orders.proofs.household_orders.HouseholdOrders.reserve.Goals as goal

@@ -1,3 +1,4 @@
+-- That `HouseholdOrders::wait_again` keeps its contract.
 use Rattle.std.proofs.Common.{ap, arith, length, refl, subst, sym, vec_capacity, List, ℕ, ◌<◌}
 use Rattle.standing_orders.proofs.IndexKept.{waits-kept}
 use Rattle.standing_orders.proofs.RisingPlaces.{rises-to, rises-with}
