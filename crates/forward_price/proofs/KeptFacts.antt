@@ -9,7 +9,7 @@ use Rattle.forward_price.specs.declared.price_sheet.Sheet.{Sheet}
 use Rattle.forward_price.specs.Sheets.{lists_class, lists_all}
 use Rattle.forward_price.specs.Choices.{IsBest, IsChoice, best_so_far}
 use Rattle.forward_price.specs.PriceTables.{Table, prices_order, is_earlier, next_sheet, NextPrice, sheet_published, with_published, sheets_with_nav, corrected_sheet}
-use Rattle.forward_price.specs.Turns.{pricing_pairs, is_awaited, is_wrong, class_numbers, price_numbers, must_list, wrong_class, IsRising, IsComplete}
+use Rattle.forward_price.specs.Turns.{pricing_pairs, is_awaited, is_wrong, class_numbers, price_numbers, must_list, wrong_class}
 use Rattle.forward_price.specs.Orderly.{IsOrderly, IsInTurn}
 use Rattle.forward_price.proofs.ChoiceFacts.{best-choice}
 use Rattle.forward_price.proofs.TurnFacts.{less-order, expected_best}
@@ -72,13 +72,6 @@ none_wrong_from classes calendar moment prices fine = go (wrong_class classes ca
     go : (o : Option ℕ) → wrong_class classes calendar moment prices ≡ o → o ≡ None
     go None e = refl
     go (Some n) e = absurd (fine_then (lists_class prices n) (must_list classes calendar moment n) (fine n) (least_wrong classes calendar moment prices n e).here)
-
--- a list without a wrong class is complete, and no other is
-pub complete_from : (classes : List Opening) (calendar : ℕ) (moment : ℕ) (prices : List (ℕ × ℕ)) → IsRising prices → wrong_class classes calendar moment prices ≡ None → IsComplete classes calendar moment prices
-complete_from classes calendar moment prices rises none = record { rises = rises; lists = complete_all classes calendar moment prices none }
-
-pub none_wrong_in : (classes : List Opening) (calendar : ℕ) (moment : ℕ) (prices : List (ℕ × ℕ)) → IsComplete classes calendar moment prices → wrong_class classes calendar moment prices ≡ None
-none_wrong_in classes calendar moment prices complete = none_wrong_from classes calendar moment prices complete.lists
 
 -- a later sheet leaves the sheet of a priced order as it is
 later_stays : (t : Table) (calendar : ℕ) (moment : ℕ) (prices : List (ℕ × ℕ)) (asked : List ℕ) (receipt : ℕ) (s : Sheet) → IsOrderly t → IsInTurn t calendar moment prices → 0 < length asked → NextPrice t.sheets asked receipt s → lists_all prices asked ≡ true → nat_lt moment s.moment ≡ true → ⊥

@@ -54,7 +54,6 @@ pub fn withdrawn_as_before()
 {}
 
 /// A list is complete exactly where no class is missing or too many; else the class that is named is the least of those.
-#[tactic(auto, using(crate::proofs::KeptFacts::complete_from, crate::proofs::KeptFacts::none_wrong_in, crate::proofs::KeptFacts::least_wrong))]
 pub fn complete_lists_have_no_wrong_class()
     ensures complete { (classes : List Opening) (calendar moment : ℕ) (prices : List (ℕ × ℕ))
         → IsRising prices → wrong_class classes calendar moment prices ≡ None
@@ -91,7 +90,6 @@ pub fn last_price_is_the_latest()
 /// Every price book whose calls keep to the order of time is orderly: it begins so, and stays so under a new calendar, a
 /// class that opens no earlier than the sheets of its calendar, a closure of a day without a sheet, a sheet in its turn,
 /// and its withdrawal.
-#[tactic(auto, using(crate::proofs::OrderFacts::orderly_at_first, crate::proofs::OrderFacts::orderly_calendar, crate::proofs::OrderFacts::orderly_class, crate::proofs::OrderFacts::orderly_closure, crate::proofs::OrderFacts::orderly_sheet, crate::proofs::OrderFacts::orderly_withdrawal, crate::proofs::OrderFacts::orderly_correction))]
 pub fn books_stay_orderly()
     ensures empty { IsOrderly (record { calendars = []; classes = []; sheets = [] }) }
     ensures calendar { (t : Table) (added : Listing) → IsOrderly t
