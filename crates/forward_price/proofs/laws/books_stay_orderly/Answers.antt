@@ -1,3 +1,4 @@
+-- The proof of the law `books_stay_orderly`.
 use Rattle.forward_price.proofs.OrderFacts.{orderly_at_first, orderly_calendar, orderly_class, orderly_closure, orderly_sheet, orderly_withdrawal, orderly_correction}
 use Rattle.forward_price.proofs.laws.books_stay_orderly.Goals as goal
 

@@ -1,3 +1,4 @@
+-- The proof of the law `complete_lists_have_no_wrong_class`.
 use Rattle.forward_price.proofs.KeptFacts.{complete_all, none_wrong_from, least_wrong}
 use Rattle.forward_price.proofs.laws.complete_lists_have_no_wrong_class.Goals as goal
 
