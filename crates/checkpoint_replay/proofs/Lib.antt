@@ -20,3 +20,5 @@ pub mod FlowsOfMoves
 pub mod TalliedLaw
 -- trades at the front that move the same change nothing
 mod CommonFront
+-- the moves of some parts are never more than those of all
+mod StepCounts

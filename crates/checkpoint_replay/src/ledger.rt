@@ -6,7 +6,7 @@ ghost use Rattle.checkpoint_replay.specs.Differences.{AreChangesOf};
 ghost use Rattle.checkpoint_replay.specs.Moves.{HasRoomFor, households_of, part_after};
 ghost use Rattle.checkpoint_replay.specs.Parts.{first_day, part_in, state_in};
 ghost use Rattle.checkpoint_replay.specs.Reopenings.{move_by_replay};
-ghost use Rattle.checkpoint_replay.specs.Sheets.{CanAdvance, IsReached};
+ghost use Rattle.checkpoint_replay.specs.Sheets.{CanAdvance, IsReached, moves_of_sheet};
 ghost use Rattle.checkpoint_replay.specs.Tallied.{IsTallied};
 ghost use Rattle.checkpoint_replay.specs.Totals.{AreWithinLimits, cents_held, mils_held};
 ghost use Rattle.gain_loss_book.specs.ClassGains.{mils_change};
@@ -146,7 +146,7 @@ impl Ledger {
     }
 
     /// What a sheet makes of all households, by its orders under the numbers of their households: one step for each household
-    /// that it doesn't leave alone, and none for another. The ledger stays as it is.
+    /// that it doesn't leave alone, and none for another; never more, also where memory is wanted. The ledger stays as it is.
     pub fn advance_all<L: StepLedger>(
         &self,
         alloc: Global,
@@ -165,6 +165,8 @@ impl Ledger {
         ensures differences { IfOk result (λ change.
             AreChangesOf change.changes self.now.parts change.moves) }
         ensures steps { IfOk result (λ change. steps.new ≡ steps.old + length change.moves) }
+        ensures most_steps { steps.new ≤ steps.old
+            + length (moves_of_sheet facts.now orders.now self.now.parts) }
     {
         let moves = moves_of_sheet(alloc, facts, orders, &self.parts, steps)?;
         let changes = changes_of_moves(alloc, &self.parts, &moves)?;

@@ -1,5 +1,5 @@
 //! What a sheet makes of all households, beside the ledger.
-ghost use Rattle.std.specs.Prelude.{All, ◌≡◌, ◌+◌, ◌++◌, ℕ, IfOk, OnOk, length};
+ghost use Rattle.std.specs.Prelude.{All, ◌≡◌, ◌+◌, ◌++◌, ◌≤◌, ℕ, IfOk, OnOk, length};
 ghost use Rattle.checkpoint_replay.specs.Moves.{AreMoves, part_after};
 ghost use Rattle.checkpoint_replay.specs.Parts.{AreParts, day_of, first_day, part_in};
 ghost use Rattle.checkpoint_replay.specs.Sheets.{CanAdvance, CanStep, IsReached, move_on, move_unless_quiet, moves_of_other, moves_of_others, moves_of_parts, moves_of_sheet};
@@ -18,7 +18,7 @@ use std::collections::HashMap;
 use std::sync::ledger::Ledger;
 
 /// What a sheet makes of all households, by its orders under the numbers of their households: one step for each household
-/// that it doesn't leave alone.
+/// that it doesn't leave alone, and never more, also where memory is wanted.
 pub(crate) fn moves_of_sheet<L: Ledger>(
     alloc: Global,
     facts: &Facts,
@@ -37,6 +37,8 @@ pub(crate) fn moves_of_sheet<L: Ledger>(
         All (IsReached facts.now orders.now parts.now.entries) moves.items) }
     ensures moves { IfOk result (λ moves. AreMoves moves.items) }
     ensures steps { IfOk result (λ moves. steps.new ≡ steps.old + length moves.items) }
+    ensures most { steps.new ≤ steps.old
+        + length (moves_of_sheet facts.now orders.now parts.now.entries) }
 {
     gathered_moves(alloc, facts, orders, parts, steps)
 }
@@ -55,6 +57,8 @@ fn gathered_moves<L: Ledger>(
     ensures moves { IfOk result (λ moves. moves.items
         ≡ moves_of_sheet facts.now orders.now parts.now.entries) }
     ensures steps { IfOk result (λ moves. steps.new ≡ steps.old + length moves.items) }
+    ensures most { steps.new ≤ steps.old
+        + length (moves_of_sheet facts.now orders.now parts.now.entries) }
 {
     let mut moves = Vec::new(alloc);
     push_moves_of_parts(alloc, facts, orders, parts, steps, &mut moves)?;
@@ -104,6 +108,8 @@ fn push_move<L: Ledger>(
         ++ move_unless_quiet facts.now orders.now household (day_of part.now)) }
     ensures steps { OnOk result (steps.new + length moves.old.items
         ≡ steps.old + length moves.new.items) }
+    ensures most { steps.new ≤ steps.old
+        + length (move_unless_quiet facts.now orders.now household (day_of part.now)) }
 {
     if part.state.is_quiet(facts, orders) {
         return Ok(());
@@ -129,6 +135,8 @@ fn push_moves_of_parts<L: Ledger>(
         ++ moves_of_parts facts.now orders.now parts.now.entries) }
     ensures steps { OnOk result (steps.new + length moves.old.items
         ≡ steps.old + length moves.new.items) }
+    ensures most { steps.new ≤ steps.old
+        + length (moves_of_parts facts.now orders.now parts.now.entries) }
 {
     for (household, part) in parts {
         let own = orders.under(*household);
@@ -153,6 +161,8 @@ fn push_other<L: Ledger>(
         ++ moves_of_other facts.now orders.now parts.now.entries household) }
     ensures steps { OnOk result (steps.new + length moves.old.items
         ≡ steps.old + length moves.new.items) }
+    ensures most { steps.new ≤ steps.old
+        + length (moves_of_other facts.now orders.now parts.now.entries household) }
 {
     if parts.contains_key(&household) {
         return Ok(());
@@ -188,6 +198,9 @@ fn push_moves_of_others<L: Ledger>(
         ++ moves_of_others facts.now orders.now parts.now.entries (numbers_met orders.now)) }
     ensures steps { OnOk result (steps.new + length moves.old.items
         ≡ steps.old + length moves.new.items) }
+    ensures most { steps.new ≤ steps.old
+        + length (moves_of_others facts.now orders.now parts.now.entries
+        (numbers_met orders.now)) }
 {
     let mut place = 0;
     while let Some((household, behind)) = orders.number_from(place) {

@@ -7,7 +7,6 @@ use Rattle.std.specs.Cmp.{nat_eq_equiv}
 use Rattle.std.specs.List.{list_any}
 use Rattle.correction_trials.specs.Settled.{AreBefore, states_left}
 use Rattle.kept_states.specs.KeptStates.{states_in}
-use Rattle.kept_states.specs.declared.states.HouseholdStates.{HouseholdStates}
 use Rattle.kept_states.specs.declared.states.KeptState.{KeptState}
 use Rattle.register_laws.proofs.ListParts.{filter-all, filter-within}
 
@@ -15,7 +14,7 @@ use Rattle.register_laws.proofs.ListParts.{filter-all, filter-within}
 abbrev stays : Bool → ℕ → KeptState → Bool
 stays among before state = not among || nat_lt state.sheet before
 
-pub none-forgotten : (old : List (ℕ × HouseholdStates)) (before : ℕ) → AreBefore [] before old old
+pub none-forgotten : (old : List (ℕ × List KeptState)) (before : ℕ) → AreBefore [] before old old
 none-forgotten old before household = sym (filter-all (stays false before) (states_in old household) (λ k d short. refl))
 
 still-among : (households : List ℕ) (more household : ℕ) → nat_eq more household ≡ false → list_any (nat_eq household) (households ++ more ∷ []) ≡ list_any (nat_eq household) households
@@ -39,7 +38,7 @@ now-among households more =
     or-some true = refl
     or-some false = refl
 
-pub one-forgotten : (households : List ℕ) (more before : ℕ) (old mid new : List (ℕ × HouseholdStates)) → AreBefore households before old mid → states_in new more ≡ filter (λ (state : KeptState). nat_lt state.sheet before) (states_in mid more) → ((other : ℕ) → nat_eq more other ≡ false → states_in new other ≡ states_in mid other) → AreBefore (households ++ more ∷ []) before old new
+pub one-forgotten : (households : List ℕ) (more before : ℕ) (old mid new : List (ℕ × List KeptState)) → AreBefore households before old mid → states_in new more ≡ filter (λ (state : KeptState). nat_lt state.sheet before) (states_in mid more) → ((other : ℕ) → nat_eq more other ≡ false → states_in new other ≡ states_in mid other) → AreBefore (households ++ more ∷ []) before old new
 one-forgotten households more before old mid new so own others household = by (nat_eq more household) refl
   where
     within : (among : Bool) (state : KeptState) → nat_lt state.sheet before ≡ true → stays among before state ≡ true
@@ -61,7 +60,7 @@ one-forgotten households more before old mid new so own others household = by (n
         ∙ ap (λ among. filter (stays among before) (states_in old household)) (sym (still-among households more household is)))
 
 -- so each that is left was there, and of these households only those behind earlier sheets
-pub left-stays : (households : List ℕ) (before : ℕ) (old new : List (ℕ × HouseholdStates)) → AreBefore households before old new → (household : ℕ) → All (λ (state : KeptState). Contains (states_in old household) state × (list_any (nat_eq household) households ≡ true → state.sheet < before)) (states_in new household)
+pub left-stays : (households : List ℕ) (before : ℕ) (old new : List (ℕ × List KeptState)) → AreBefore households before old new → (household : ℕ) → All (λ (state : KeptState). Contains (states_in old household) state × (list_any (nat_eq household) households ≡ true → state.sheet < before)) (states_in new household)
 left-stays households before old new are household =
     subst (All (λ (state : KeptState). Contains (states_in old household) state × (list_any (nat_eq household) households ≡ true → state.sheet < before))) (sym (are household))
     (λ k d short. (

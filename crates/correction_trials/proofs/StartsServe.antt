@@ -39,7 +39,6 @@ use Rattle.desk_books.proofs.kept_of_journals.TradesLead.{trades_lead}
 use Rattle.desk_books.specs.kept_of_journals.KeptOfBooks.{AreKeptOf, AreLikeLong, IsAsOf, part_to}
 use Rattle.kept_states.proofs.StateFacts.{found-before}
 use Rattle.kept_states.specs.KeptStates.{last_before, states_in}
-use Rattle.kept_states.specs.declared.states.HouseholdStates.{HouseholdStates}
 use Rattle.kept_states.specs.declared.states.KeptState.{KeptState}
 use Rattle.desk_books.proofs.ledger_laws.ReplaysAsPart.{replays_as_part}
 use Rattle.desk_books.specs.ledger_laws.PartsByFacts.{AreRowsOf}
@@ -232,7 +231,7 @@ start_serves books event known household before rows start is own leaves at =
 -- ---- the kept states
 
 -- those that are left are some of the old ones
-pub forgotten_stay : (trial : Trial) (old new : List (ℕ × HouseholdStates)) (book : Book) → AreForgotten trial old new → AreKeptOf book old → AreKeptOf book new
+pub forgotten_stay : (trial : Trial) (old new : List (ℕ × List KeptState)) (book : Book) → AreForgotten trial old new → AreKeptOf book old → AreKeptOf book new
 forgotten_stay trial old new book forgotten are = by_tried trial.tried forgotten
   where
     by_tried : (tried : Tried) → AreForgottenBy tried trial.households.items trial.before old new → AreKeptOf book new
@@ -243,7 +242,7 @@ forgotten_stay trial old new book forgotten are = by_tried trial.tried forgotten
         (left-stays trial.households.items trial.before old new left household)
 
 -- and they are what their households came to behind the correction
-pub kept_behind : (books : DeskBooks) (event : Event) (trial : Trial) (new : List (ℕ × HouseholdStates)) → IsTrialOf books event trial → AreKeptOf (book_behind books.book.journal) books.kept → AreForgotten trial books.kept new → KeepsStates books.book.journal event new trial.tried
+pub kept_behind : (books : DeskBooks) (event : Event) (trial : Trial) (new : List (ℕ × List KeptState)) → IsTrialOf books event trial → AreKeptOf (book_behind books.book.journal) books.kept → AreForgotten trial books.kept new → KeepsStates books.book.journal event new trial.tried
 kept_behind books event trial new is are forgotten = by_tried trial.tried forgotten
   where
     journal : Journal

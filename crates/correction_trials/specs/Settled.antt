@@ -10,7 +10,6 @@ use Rattle.desk_books.specs.declared.books.DeskBooks.{DeskBooks}
 use Rattle.event_laws.specs.EventReplays.{is_correction}
 use Rattle.desk_books.specs.kept_of_journals.KeptOfBooks.{AreKeptOf, AreLikeLong}
 use Rattle.kept_states.specs.KeptStates.{states_in}
-use Rattle.kept_states.specs.declared.states.HouseholdStates.{HouseholdStates}
 use Rattle.kept_states.specs.declared.states.KeptState.{KeptState}
 use Rattle.register_laws.specs.CorrectionReach.{LeavesPart}
 use Rattle.register_laws.specs.Lawful.{book_behind}
@@ -32,22 +31,22 @@ pub record IsTrialOf (books : DeskBooks) (event : Event) (trial : Trial) : Type 
   pub corrects : is_correction event.kind ≡ true
 
 -- of these households the states behind sheets before this one, of others all
-abbrev pub states_left : List ℕ → ℕ → List (ℕ × HouseholdStates) → ℕ → List KeptState
+abbrev pub states_left : List ℕ → ℕ → List (ℕ × List KeptState) → ℕ → List KeptState
 states_left households before old household =
     filter (λ state. not (list_any (nat_eq household) households) || nat_lt state.sheet before) (states_in old household)
 
-abbrev pub AreBefore : List ℕ → ℕ → List (ℕ × HouseholdStates) → List (ℕ × HouseholdStates) → Type 0
+abbrev pub AreBefore : List ℕ → ℕ → List (ℕ × List KeptState) → List (ℕ × List KeptState) → Type 0
 AreBefore households before old new = (household : ℕ) → states_in new household ≡ states_left households before old household
 
-abbrev pub AreForgottenBy : Tried → List ℕ → ℕ → List (ℕ × HouseholdStates) → List (ℕ × HouseholdStates) → Type 0
+abbrev pub AreForgottenBy : Tried → List ℕ → ℕ → List (ℕ × List KeptState) → List (ℕ × List KeptState) → Type 0
 AreForgottenBy (Tried.Breaks _) households before old new = new ≡ old
 AreForgottenBy (Tried.Moves change) households before old new = AreBefore households before old new
 
 -- where the trial breaks no order
-abbrev pub AreForgotten : Trial → List (ℕ × HouseholdStates) → List (ℕ × HouseholdStates) → Type 0
+abbrev pub AreForgotten : Trial → List (ℕ × List KeptState) → List (ℕ × List KeptState) → Type 0
 AreForgotten trial old new = AreForgottenBy trial.tried trial.households.items trial.before old new
 
 -- behind a correction that breaks no order the kept states are what their households came to
-abbrev pub KeepsStates : Journal → Event → List (ℕ × HouseholdStates) → Tried → Type 0
+abbrev pub KeepsStates : Journal → Event → List (ℕ × List KeptState) → Tried → Type 0
 KeepsStates journal event rows (Tried.Breaks _) = Unit {0}
 KeepsStates journal event rows (Tried.Moves change) = AreKeptOf (book_behind (with_event journal event)) rows

@@ -9,7 +9,6 @@ use Rattle.correction_trials.specs.declared.starts.KeptStart.{KeptStart}
 use Rattle.forward_price.specs.declared.price_sheet.Sheet.{Sheet}
 use Rattle.desk_books.specs.kept_of_journals.KeptOfBooks.{part_to}
 use Rattle.kept_states.specs.KeptStates.{last_before, states_in}
-use Rattle.kept_states.specs.declared.states.HouseholdStates.{HouseholdStates}
 use Rattle.kept_states.specs.declared.states.KeptState.{KeptState}
 use Rattle.register_laws.specs.Lawful.{book_behind}
 use Rattle.register_machine.specs.journal.Journals.{Journal, with_event}
@@ -58,7 +57,7 @@ start_by household found =
     found (record { replay = first_start household; orders = 0 })
 
 -- how many sheets, as far as the last one, the replay of a household goes over behind its start
-abbrev pub sheets_replayed : List (ℕ × HouseholdStates) → ℕ → ℕ → ℕ → ℕ
+abbrev pub sheets_replayed : List (ℕ × List KeptState) → ℕ → ℕ → ℕ → ℕ
 sheets_replayed rows before last household =
     last - (start_by household (last_before before (states_in rows household))).replay.sheet
 

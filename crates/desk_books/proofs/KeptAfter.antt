@@ -4,13 +4,13 @@ use Rattle.agent_events.specs.Events.{Event}
 use Rattle.event_laws.specs.EventReplays.{is_correction}
 use Rattle.kept_of_journals.proofs.StatesStay.{lawful_leaves}
 use Rattle.kept_of_journals.specs.KeptOfBooks.{AreKeptOf}
-use Rattle.kept_states.specs.declared.states.HouseholdStates.{HouseholdStates}
+use Rattle.kept_states.specs.declared.states.KeptState.{KeptState}
 use Rattle.register_laws.specs.Lawful.{book_behind}
 use Rattle.register_machine.specs.journal.Journals.{Journal, with_event}
 use Rattle.register_machine.specs.journal.Lawful.{IsLawful}
 
 -- They are what their households came to behind a correction where those that it touches are forgotten, and behind any other event.
-pub kept_behind : (journal : Journal) (event : Event) (rows : List (ℕ × HouseholdStates)) → IsLawful (with_event journal event) → AreKeptOf (book_behind journal) rows → (is_correction event.kind ≡ true → AreKeptOf (book_behind (with_event journal event)) rows) → AreKeptOf (book_behind (with_event journal event)) rows
+pub kept_behind : (journal : Journal) (event : Event) (rows : List (ℕ × List KeptState)) → IsLawful (with_event journal event) → AreKeptOf (book_behind journal) rows → (is_correction event.kind ≡ true → AreKeptOf (book_behind (with_event journal event)) rows) → AreKeptOf (book_behind (with_event journal event)) rows
 kept_behind journal event rows lawful are corrected = by_kind (is_correction event.kind) refl
   where
     by_kind : (corrects : Bool) → is_correction event.kind ≡ corrects → AreKeptOf (book_behind (with_event journal event)) rows

@@ -1,5 +1,6 @@
 -- Books in which room was made, and more households are listed under classes, show what they showed before; so do books whose kept
 -- states are others that still serve.
+use Rattle.kept_states.specs.declared.states.KeptState.{KeptState}
 use Rattle.std.proofs.Common.{List, refl, subst, sym, true, ℕ, ◌∙◌, ◌≡◌, ◌≤◌}
 use Rattle.agent_events.specs.declared.order.Party.{Party}
 use Rattle.checkpoint_replay.specs.Parts.{Households, part_in}
@@ -13,7 +14,6 @@ use Rattle.gain_loss_book.specs.Posted.{Books, cash_held, gains_kept}
 use Rattle.journal_tables.specs.TablesOfJournals.{AreTablesOf}
 use Rattle.kept_of_journals.specs.KeptOfBooks.{AreKeptOf}
 use Rattle.kept_of_journals.specs.waiting_laws.IndexOfJournals.{IsIndexOf}
-use Rattle.kept_states.specs.declared.states.HouseholdStates.{HouseholdStates}
 use Rattle.order_book.specs.Books.{NotedJournal}
 use Rattle.register_laws.specs.Lawful.{book_behind}
 use Rattle.register_machine.specs.journal.Journals.{Journal}
@@ -110,7 +110,7 @@ with_room_for_orders books book orders classes journal owners waiting listed =
     with_room books book books.prices orders classes books.ledger books.cash journal refl owners waiting listed (λ household. refl) (λ are. are) refl (λ party. refl) (λ place. refl) refl
 
 -- books whose kept states still are what the households came to show the same
-pub kept_show_the_same : (journal : Journal) (books : DeskBooks) (kept : List (ℕ × HouseholdStates)) → (AreKeptOf (book_behind journal) books.kept → AreKeptOf (book_behind journal) kept) → AreBooksOf journal books → AreBooksOf journal (record { book = books.book; tables = books.tables; prices = books.prices; orders = books.orders; classes = books.classes; ledger = books.ledger; cash = books.cash; kept = kept })
+pub kept_show_the_same : (journal : Journal) (books : DeskBooks) (kept : List (ℕ × List KeptState)) → (AreKeptOf (book_behind journal) books.kept → AreKeptOf (book_behind journal) kept) → AreBooksOf journal books → AreBooksOf journal (record { book = books.book; tables = books.tables; prices = books.prices; orders = books.orders; classes = books.classes; ledger = books.ledger; cash = books.cash; kept = kept })
 kept_show_the_same journal books kept stay are = record {
   noted = are.noted;
   lawful = are.lawful;

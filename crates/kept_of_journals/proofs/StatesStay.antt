@@ -13,7 +13,6 @@ use Rattle.waiting_laws.proofs.event_laws.PartsStay.{same_parts}
 use Rattle.waiting_laws.specs.event_laws.EventReplays.{is_correction, is_sheet, sheet_behind}
 use Rattle.kept_of_journals.specs.KeptOfBooks.{AreKeptOf, IsAsOf, LastIsAsOf, LawfulLeavesKept, LeavesSettled, LeftIsAsOf, PriceLeavesKept, part_to}
 use Rattle.kept_states.specs.KeptStates.{states_in}
-use Rattle.kept_states.specs.declared.states.HouseholdStates.{HouseholdStates}
 use Rattle.kept_states.specs.declared.states.KeptState.{KeptState}
 use Rattle.register_laws.proofs.BooksGoOn.{book_goes_on}
 use Rattle.register_laws.proofs.NothingBefore.{last-brought}
@@ -126,7 +125,7 @@ module _ (journal : Journal) (event : Event) (lawful : IsLawful (with_event jour
       by (EventKind.Sheet form) same = behind-sheet form same
       by kind same = behind-other (subst (λ k. is_sheet k ≡ false) (sym same) refl)
 
-pub lawful_leaves : (journal : Journal) (event : Event) (rows : List (ℕ × HouseholdStates)) → LawfulLeavesKept journal event rows
+pub lawful_leaves : (journal : Journal) (event : Event) (rows : List (ℕ × List KeptState)) → LawfulLeavesKept journal event rows
 lawful_leaves journal event rows lawful plain are household =
     All-weaker (IsAsOf (book_behind journal) household) (IsAsOf (book_behind (with_event journal event)) household)
     (λ kept is. behind-event journal event lawful plain household kept is) (states_in rows household) (are household)

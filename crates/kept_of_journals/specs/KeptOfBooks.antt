@@ -5,7 +5,6 @@ use Rattle.agent_events.specs.declared.event.EventKind.{EventKind}
 use Rattle.agent_events.specs.declared.request.FixPriceForm.{FixPriceForm}
 use Rattle.waiting_laws.specs.event_laws.EventReplays.{is_correction}
 use Rattle.kept_states.specs.KeptStates.{states_in}
-use Rattle.kept_states.specs.declared.states.HouseholdStates.{HouseholdStates}
 use Rattle.kept_states.specs.declared.states.KeptState.{KeptState}
 use Rattle.register_laws.specs.CorrectionReach.{EventReach, IsListedOn, LeavesPart}
 use Rattle.register_laws.specs.Households.{part_of}
@@ -32,7 +31,7 @@ pub record IsAsOf (book : Book) (household : ℕ) (kept : KeptState) : Type 0 wh
   pub settled : AreSettled book household kept.orders kept.sheet
 
 -- so is each one of each household
-abbrev pub AreKeptOf : Book → List (ℕ × HouseholdStates) → Type 0
+abbrev pub AreKeptOf : Book → List (ℕ × List KeptState) → Type 0
 AreKeptOf book rows = (household : ℕ) → All (IsAsOf book household) (states_in rows household)
 
 -- ---- What is kept, and what leaves it so.
@@ -50,7 +49,7 @@ abbrev pub LastIsAsOf : Book → ℕ → KeptState → Type 0
 LastIsAsOf book household kept = IsLast book household kept → IsAsOf book household kept
 
 -- An event that is no correction leaves them.
-abbrev pub LawfulLeavesKept : Journal → Event → List (ℕ × HouseholdStates) → Type 0
+abbrev pub LawfulLeavesKept : Journal → Event → List (ℕ × List KeptState) → Type 0
 LawfulLeavesKept journal event rows =
     IsLawful (with_event journal event) → is_correction event.kind ≡ false
     → AreKeptOf (book_behind journal) rows → AreKeptOf (book_behind (with_event journal event)) rows

@@ -3,7 +3,6 @@ ghost use Rattle.std.specs.Prelude.{[], List, ℕ};
 ghost use Rattle.agent_events.specs.Events.{Event};
 ghost use Rattle.agent_events.specs.declared.request.FixPriceForm.{FixPriceForm};
 ghost use Rattle.kept_of_journals.specs.KeptOfBooks.{AreKeptOf, LastIsAsOf, LawfulLeavesKept, LeftIsAsOf, PriceLeavesKept, TradesLead};
-ghost use Rattle.kept_states.specs.declared.states.HouseholdStates.{HouseholdStates};
 ghost use Rattle.kept_states.specs.declared.states.KeptState.{KeptState};
 ghost use Rattle.register_machine.specs.journal.Journals.{Journal};
 ghost use Rattle.register_machine.specs.pricing.CorrectedBook.{Book};
@@ -23,7 +22,7 @@ pub fn the_last_state_is_as_of_the_last_sheet()
 /// An event of a lawful journal that is no correction leaves each kept state what its household came to.
 #[tactic(auto, using(crate::proofs::StatesStay::lawful_leaves))]
 pub fn events_leave_kept_states()
-    ensures { (journal : Journal) (event : Event) (rows : List (ℕ × HouseholdStates))
+    ensures { (journal : Journal) (event : Event) (rows : List (ℕ × List KeptState))
         → LawfulLeavesKept journal event rows }
 {}
 

@@ -2,12 +2,11 @@
 use Rattle.std.specs.Map.{lookup}
 use Rattle.std.specs.Option.{option_map_or}
 use Rattle.std.specs.Prelude.{Bool, List, Option, [], None, Some, drop, fold, if◌then◌else◌, length, nat_eq, nat_le, nat_lt, slice_get, take, true, ℕ, ◌++◌, ◌+◌, ◌-◌, ◌∷◌}
-use Rattle.kept_states.specs.declared.states.HouseholdStates.{HouseholdStates}
 use Rattle.kept_states.specs.declared.states.KeptState.{KeptState}
 
 -- those of a household, by its number
-abbrev pub states_in : List (ℕ × HouseholdStates) → ℕ → List KeptState
-states_in rows household = option_map_or (λ (own : HouseholdStates). own.states.items) (lookup (nat_eq household) rows) []
+abbrev pub states_in : List (ℕ × List KeptState) → ℕ → List KeptState
+states_in rows household = option_map_or (λ (own : List KeptState). own) (lookup (nat_eq household) rows) []
 
 -- one more is due behind a sheet where the last one is 4 sheets older, or there is none
 abbrev pub is_due : List KeptState → ℕ → Bool

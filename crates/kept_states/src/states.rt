@@ -4,10 +4,11 @@ ghost use Rattle.kept_states.specs.KeptStates.{is_due, last_before, states_in, w
 ghost use Rattle.std.specs.Option.{option_copied};
 
 use household_fold::HouseholdState;
-use money_units::NoMemory;
+use money_units::{List, NoMemory};
 use std::alloc::Global;
 use std::collections::HashMap;
 use std::marker::Model;
+use std::mem;
 
 /// What a household came to behind a sheet: its positions, and how many trades it had by then. None of its orders among the first
 /// of the book, so many, is executed behind the sheet.
@@ -20,10 +21,7 @@ pub struct KeptState {
 }
 
 /// The states that are kept of one household, by rising sheet.
-#[derive(Drop)]
-pub struct HouseholdStates {
-    pub states: Vec<KeptState>,
-}
+pub type HouseholdStates = List<KeptState>;
 
 /// So many sheets at least lie between two states of a household.
 const SHEETS_BETWEEN: u32 = 4;
@@ -40,9 +38,9 @@ pub struct KeptStates {
 
 impl Model for KeptStates {
     ghost use Rattle.std.specs.Prelude.{ℕ, List};
-    ghost use Rattle.kept_states.specs.declared.states.HouseholdStates.{HouseholdStates};
+    ghost use Rattle.kept_states.specs.declared.states.KeptState.{KeptState};
 
-    ghost Value = { List (ℕ × HouseholdStates) };
+    ghost Value = { List (ℕ × List KeptState) };
 
     ghost view = { λ kept. kept.rows.entries };
 }
@@ -65,7 +63,7 @@ impl KeptStates {
             ≡ last_before sheet (states_in self.now household) }
     {
         match self.rows.get(&household) {
-            Some(own) => last_before(&own.states, sheet),
+            Some(own) => last_before(own.as_slice(), sheet),
             None => None,
         }
     }
@@ -75,7 +73,7 @@ impl KeptStates {
         ensures { result ≡ is_due (states_in self.now household) sheet }
     {
         match self.rows.get(&household) {
-            Some(own) => is_due(&own.states, sheet),
+            Some(own) => is_due(own.as_slice(), sheet),
             None => true,
         }
     }
@@ -101,7 +99,7 @@ impl KeptStates {
             → states_in self.new other ≡ states_in self.old other }
     {
         if let Some(own) = self.rows.get_mut(&household) {
-            keep_before(&mut own.states, sheet);
+            leave_before(self.alloc, own, sheet);
         }
     }
 }
@@ -149,7 +147,7 @@ fn keep_state(
         → states_in rows.new.entries other ≡ states_in rows.old.entries other }
 {
     if let Some(own) = rows.get_mut(&household) {
-        return add_state(&mut own.states, state);
+        return add_to(alloc, own, state);
     }
     put_first(rows, alloc, household, state)
 }
@@ -169,8 +167,19 @@ fn put_first(
 {
     let mut states = Vec::new(alloc);
     states.push(state)?;
-    rows.insert(household, HouseholdStates { states })?;
+    rows.insert(household, List::from_vec(states))?;
     Ok(())
+}
+
+// Adds a state to those of a household.
+fn add_to(alloc: Global, own: &mut HouseholdStates, state: KeptState) -> Result<(), NoMemory>
+    ensures ok { OnOk result (own.new ≡ with_one_more own.old state) }
+    ensures err { OnErr result (own.new ≡ without_second own.old) }
+{
+    let mut states = mem::replace(own, List::new(alloc)).into_vec();
+    let added = add_state(&mut states, state);
+    *own = List::from_vec(states);
+    added
 }
 
 // Adds a state, in the place of the second one where there is no place for one more.
@@ -192,7 +201,16 @@ fn thin(states: &mut Vec<KeptState>)
     }
 }
 
-// Leaves the states behind the sheets before this one.
+// Leaves the states of a household behind the sheets before this one.
+fn leave_before(alloc: Global, own: &mut HouseholdStates, sheet: u32)
+    ensures { own.new ≡ filter (λ kept. nat_lt kept.sheet sheet) own.old }
+{
+    let mut states = mem::replace(own, List::new(alloc)).into_vec();
+    keep_before(&mut states, sheet);
+    *own = List::from_vec(states);
+}
+
+// The same, of the states alone.
 fn keep_before(states: &mut Vec<KeptState>, sheet: u32)
     ensures { states.new.items ≡ filter (λ kept. nat_lt kept.sheet sheet) states.old.items }
 {

@@ -8,7 +8,6 @@ use Rattle.household_fold.specs.Households.{Household}
 use Rattle.desk_books.proofs.kept_of_journals.StatesStay.{last_is_as_of}
 use Rattle.desk_books.specs.kept_of_journals.KeptOfBooks.{AreKeptOf, IsAsOf}
 use Rattle.kept_states.specs.KeptStates.{states_in}
-use Rattle.kept_states.specs.declared.states.HouseholdStates.{HouseholdStates}
 use Rattle.kept_states.specs.declared.states.KeptState.{KeptState}
 use Rattle.desk_books.specs.ledger_of_journals.Ledgers.{IsLedgerOf}
 use Rattle.register_machine.specs.pricing.CorrectedBook.{Book}
@@ -39,7 +38,7 @@ shown-is-as-of book parts household kept ledger last shown counted settled =
     })
 
 -- with one more, kept states are still what the households came to
-pub one-more-kept : (book : Book) (household : ℕ) (state : KeptState) (old new : List (ℕ × HouseholdStates)) → All (λ kept. Contains (states_in old household) kept ⊎ (kept ≡ state)) (states_in new household) → ((other : ℕ) → nat_eq household other ≡ false → states_in new other ≡ states_in old other) → IsAsOf book household state → AreKeptOf book old → AreKeptOf book new
+pub one-more-kept : (book : Book) (household : ℕ) (state : KeptState) (old new : List (ℕ × List KeptState)) → All (λ kept. Contains (states_in old household) kept ⊎ (kept ≡ state)) (states_in new household) → ((other : ℕ) → nat_eq household other ≡ false → states_in new other ≡ states_in old other) → IsAsOf book household state → AreKeptOf book old → AreKeptOf book new
 one-more-kept book household state old new own others is are other = by (nat_eq household other) refl
   where
     each : (kept : KeptState) → Contains (states_in old household) kept ⊎ (kept ≡ state) → IsAsOf book household kept
