@@ -1,0 +1,149 @@
+-- Changes that name each party and each class once come to no more than the trades of both replays move.
+use Rattle.std.proofs.Common.{All, Bool, List, [], ap, arith, cond, count_by, flat_map, get_or, length, negsuc, pos, refl, subst, sum_by, sym, true, ℕ, ℤ, ◌*◌, ◌++◌, ◌+◌, ◌-ℤ◌, ◌<◌, ◌==◌, ◌∙◌, ◌∷◌, ◌≡◌, ◌≤◌}
+use Rattle.std.proofs.lemmas.Bool.{eqb-true, true≢false}
+use Rattle.std.proofs.lemmas.Int.{ints}
+use Rattle.std.proofs.lemmas.List.Sums.{sum_by-append, sum_by-cons, sum_by-le-sum_by}
+use Rattle.agent_events.specs.declared.order.Party.{Party}
+use Rattle.agent_events.specs.declared.totals.CashChange.{CashChange}
+use Rattle.agent_events.specs.declared.totals.Changes.{Changes}
+use Rattle.agent_events.specs.declared.totals.MilsChange.{MilsChange}
+use Rattle.agent_events.specs.declared.trade.Outcome.{Outcome}
+use Rattle.agent_events.specs.declared.trade.Trade.{Trade}
+use Rattle.agent_events.specs.declared.trade.TradeKind.{TradeKind}
+use Rattle.gain_loss_book.specs.Booked.{AreDifferences}
+use Rattle.gain_loss_book.specs.ClassGains.{mils_change, size_of_mils}
+use Rattle.gain_loss_book.specs.Flows.{fall, rise}
+use Rattle.gain_loss_book.specs.Posted.{cents_moved, size_of_cash}
+use Rattle.limit_laws.proofs.Counting.{counts-more, sum-within}
+use Rattle.limit_laws.proofs.KeyedSums.{alone, key-sum}
+use Rattle.limit_laws.specs.Moved.{cents_of, mils_by, mils_of}
+use Rattle.limit_laws.specs.Posts.{DifferencesFit, NamesEachOnce}
+use Rattle.register_laws.proofs.Comparisons.{eq-yes}
+use Rattle.register_laws.proofs.Sums.{sum-plus}
+use Rattle.register_laws.specs.Trades.{if_filled, mils_in, mils_in_by, mils_out}
+use Rattle.register_machine.specs.corrections.Cash.{Movement, cents_paid, cents_received, movements_in, movements_of, outstanding, same_party}
+use Rattle.register_machine.specs.replay.Trades.{Day}
+
+-- ---- parties
+
+same-back : (a b : Party) → same_party a b ≡ true → same_party b a ≡ true
+same-back (Party.Holder a) (Party.Holder b) e = eq-yes b a (sym (eqb-true a b e))
+same-back (Party.Class a) (Party.Class b) e = eq-yes b a (sym (eqb-true a b e))
+same-back (Party.Dealer a) (Party.Dealer b) e = eq-yes b a (sym (eqb-true a b e))
+same-back Party.Underwriter Party.Underwriter e = refl
+same-back Party.Agent Party.Agent e = refl
+same-back _ _ e = absurd (true≢false (sym e))
+
+itself : (a : Party) → same_party a a ≡ true
+itself (Party.Holder a) = eq-yes a a refl
+itself (Party.Class a) = eq-yes a a refl
+itself (Party.Dealer a) = eq-yes a a refl
+itself Party.Underwriter = refl
+itself Party.Agent = refl
+
+-- ---- one row
+
+-- a change is no larger than what it is the difference of
+size-of : (c : ℤ) (received paid received_before paid_before : ℕ) → pos (rise c) -ℤ pos (fall c) ≡ (pos received -ℤ pos paid) -ℤ (pos received_before -ℤ pos paid_before) → rise c + fall c ≤ received + (paid + (received_before + paid_before))
+size-of (pos n) received paid received_before paid_before e = omega (arith, ints, e)
+size-of (negsuc n) received paid received_before paid_before e = omega (arith, ints, e)
+
+size-between : (c : ℤ) (after before : ℕ) → pos (rise c) -ℤ pos (fall c) ≡ pos after -ℤ pos before → rise c + fall c ≤ after + before
+size-between (pos n) after before e = omega (arith, ints, e)
+size-between (negsuc n) after before e = omega (arith, ints, e)
+
+-- ---- cash
+
+cents-of_trades : (trades : List Trade) → cents_moved (movements_of trades) ≡ sum_by cents_of trades
+cents-of_trades [] = refl
+cents-of_trades (trade ∷ trades) =
+    omega (arith, cents-of_trades trades, sum_by-append (λ (m : Movement). m.cents) (movements_in trade.outcome trade) (movements_of trades), sum_by-cons cents_of trade trades)
+
+received-within : (rows : List CashChange) (movements : List Movement) → ((party : Party) → count_by (λ change. same_party change.party party) rows ≤ 1) → sum_by (λ row. cents_received movements row.party) rows ≤ cents_moved movements
+received-within rows movements once =
+    key-sum (λ (row : CashChange) (m : Movement). same_party m.taker row.party) (λ (m : Movement). m.cents) rows movements
+    (λ m. omega (arith, once m.taker, counts-more (λ (row : CashChange). same_party m.taker row.party) (λ (row : CashChange). same_party row.party m.taker) rows (λ k d short. same-back m.taker (get_or rows k d).party)))
+
+paid-within : (rows : List CashChange) (movements : List Movement) → ((party : Party) → count_by (λ change. same_party change.party party) rows ≤ 1) → sum_by (λ row. cents_paid movements row.party) rows ≤ cents_moved movements
+paid-within rows movements once =
+    key-sum (λ (row : CashChange) (m : Movement). same_party m.giver row.party) (λ (m : Movement). m.cents) rows movements
+    (λ m. omega (arith, once m.giver, counts-more (λ (row : CashChange). same_party m.giver row.party) (λ (row : CashChange). same_party row.party m.giver) rows (λ k d short. same-back m.giver (get_or rows k d).party)))
+
+abbrev of_four : List Movement → List Movement → CashChange → ℕ
+of_four before after row =
+    cents_received after row.party + (cents_paid after row.party + (cents_received before row.party + cents_paid before row.party))
+
+-- the sums of four sums
+four-sums : (before after : List Movement) (rows : List CashChange) → sum_by (of_four before after) rows ≡ sum_by (λ (row : CashChange). cents_received after row.party) rows + (sum_by (λ (row : CashChange). cents_paid after row.party) rows + (sum_by (λ (row : CashChange). cents_received before row.party) rows + sum_by (λ (row : CashChange). cents_paid before row.party) rows))
+four-sums before after [] = refl
+four-sums before after (row ∷ rows) =
+    omega (arith, four-sums before after rows, sum_by-cons (of_four before after) row rows, sum_by-cons (λ (r : CashChange). cents_received after r.party) row rows, sum_by-cons (λ (r : CashChange). cents_paid after r.party) row rows, sum_by-cons (λ (r : CashChange). cents_received before r.party) row rows, sum_by-cons (λ (r : CashChange). cents_paid before r.party) row rows)
+
+cash-within : (changes : Changes) (before after : Day) → NamesEachOnce changes → AreDifferences changes before after → size_of_cash changes.cash ≤ 2 * sum_by cents_of after.trades + 2 * sum_by cents_of before.trades
+cash-within changes before after names are =
+    let rows = changes.cash in
+    let first = movements_of before.trades in
+    let then_moved = movements_of after.trades in
+    let each = sum-within (λ (row : CashChange). rise row.cents + fall row.cents) (of_four first then_moved) rows
+    (λ k d short.
+    let row = get_or rows k d in
+    let own = λ (change : CashChange). same_party change.party row.party in
+    let rises = alone own (λ (change : CashChange). rise change.cents) rows k d (names.parties row.party) short (itself row.party) in
+    let falls = alone own (λ (change : CashChange). fall change.cents) rows k d (names.parties row.party) short (itself row.party) in
+    let net = ap (λ n. pos n -ℤ pos (fall row.cents)) (sym rises) ∙ (ap (λ n. pos (sum_by (λ (change : CashChange). cond (own change) (rise change.cents) 0) rows) -ℤ pos n) (sym falls) ∙ are.cash row.party) in
+    size-of row.cents (cents_received then_moved row.party) (cents_paid then_moved row.party) (cents_received first row.party) (cents_paid first row.party) net) in
+    omega (arith, each, four-sums first then_moved rows, received-within rows then_moved names.parties, paid-within rows then_moved names.parties, received-within rows first names.parties, paid-within rows first names.parties, cents-of_trades before.trades, cents-of_trades after.trades)
+
+-- ---- shares
+
+-- the class that a trade brings mils
+abbrev class_brought : TradeKind → Trade → ℕ
+class_brought TradeKind.Exchange trade = trade.to_class
+class_brought _ trade = trade.class
+
+brought-by : (kind : TradeKind) (class : ℕ) (trade : Trade) → mils_in_by kind class trade ≤ cond (class_brought kind trade == class) (mils_by kind trade) 0
+brought-by TradeKind.Buy class trade = omega arith
+brought-by TradeKind.Exchange class trade = omega arith
+brought-by TradeKind.DividendShares class trade = omega arith
+brought-by _ class trade = omega arith
+
+brought-in : (class : ℕ) (trade : Trade) → mils_in class trade ≤ cond (class_brought trade.kind trade == class) (mils_of trade) 0
+brought-in class trade =
+    elim trade.outcome as (λ outcome. if_filled outcome (mils_in_by trade.kind class trade) ≤ cond (class_brought trade.kind trade == class) (if_filled outcome (mils_by trade.kind trade)) 0) [
+      | Outcome.Filled ↦ brought-by trade.kind class trade
+      | Outcome.Unfilled why ↦ omega arith
+    ]
+
+mils-brought : (rows : List MilsChange) (day : Day) → ((class : ℕ) → count_by (λ change. change.class == class) rows ≤ 1) → ((class : ℕ) → outstanding day.register class + sum_by (mils_out class) day.trades ≡ sum_by (mils_in class) day.trades) → sum_by (λ row. outstanding day.register row.class) rows ≤ sum_by mils_of day.trades
+mils-brought rows day once shares =
+    let own = λ (row : MilsChange) (trade : Trade). class_brought trade.kind trade == row.class in
+    let each = sum_by-le-sum_by (λ (row : MilsChange). outstanding day.register row.class) (λ (row : MilsChange). sum_by (λ (trade : Trade). cond (own row trade) (mils_of trade) 0) day.trades) rows
+    (λ row. omega (arith, shares row.class, sum_by-le-sum_by (mils_in row.class) (λ (trade : Trade). cond (own row trade) (mils_of trade) 0) day.trades (brought-in row.class))) in
+    let all = key-sum own mils_of rows day.trades
+    (λ trade. omega (
+      arith,
+      once (class_brought trade.kind trade),
+      counts-more (λ (row : MilsChange). own row trade) (λ (row : MilsChange). row.class == class_brought trade.kind trade) rows
+          (λ k d short same. eq-yes (get_or rows k d).class (class_brought trade.kind trade) (sym (eqb-true (class_brought trade.kind trade) (get_or rows k d).class same))),
+    )) in
+    omega (arith, each, all)
+
+mils-within : (changes : Changes) (before after : Day) → NamesEachOnce changes → AreDifferences changes before after → ((class : ℕ) → outstanding before.register class + sum_by (mils_out class) before.trades ≡ sum_by (mils_in class) before.trades) → ((class : ℕ) → outstanding after.register class + sum_by (mils_out class) after.trades ≡ sum_by (mils_in class) after.trades) → size_of_mils changes.outstanding ≤ sum_by mils_of after.trades + sum_by mils_of before.trades
+mils-within changes before after names are shares_before shares_after =
+    let rows = changes.outstanding in
+    let each = sum-within (λ (row : MilsChange). rise row.mils + fall row.mils) (λ (row : MilsChange). outstanding after.register row.class + outstanding before.register row.class) rows
+    (λ k d short.
+    let row = get_or rows k d in
+    let own = λ (change : MilsChange). change.class == row.class in
+    let rises = alone own (λ (change : MilsChange). rise change.mils) rows k d (names.classes row.class) short (eq-yes row.class row.class refl) in
+    let falls = alone own (λ (change : MilsChange). fall change.mils) rows k d (names.classes row.class) short (eq-yes row.class row.class refl) in
+    let net = ap (λ n. pos n -ℤ pos (fall row.mils)) (sym rises) ∙ (ap (λ n. pos (sum_by (λ (change : MilsChange). cond (own change) (rise change.mils) 0) rows) -ℤ pos n) (sym falls) ∙ are.mils row.class) in
+    size-between row.mils (outstanding after.register row.class) (outstanding before.register row.class) net) in
+    let both = sum-plus (λ (row : MilsChange). outstanding after.register row.class) (λ (row : MilsChange). outstanding before.register row.class) (λ (row : MilsChange). outstanding after.register row.class + outstanding before.register row.class) (λ row. refl) rows in
+    omega (arith, each, both, mils-brought rows after names.classes shares_after, mils-brought rows before names.classes shares_before)
+
+pub differences_fit : (changes : Changes) (before after : Day) → DifferencesFit changes before after
+differences_fit changes before after moved_before moved_after names are = record {
+  cash = omega (arith, cash-within changes before after names are, moved_before.moves.cents, moved_after.moves.cents);
+  mils = omega (arith, mils-within changes before after names are moved_before.shares moved_after.shares, moved_before.moves.mils, moved_after.moves.mils);
+}
