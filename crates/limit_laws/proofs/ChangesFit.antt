@@ -20,7 +20,7 @@ use Rattle.limit_laws.specs.Moved.{cents_of, mils_by, mils_of}
 use Rattle.limit_laws.specs.Posts.{DifferencesFit, NamesEachOnce}
 use Rattle.register_laws.proofs.Comparisons.{eq-yes}
 use Rattle.register_laws.proofs.Sums.{sum-plus}
-use Rattle.register_laws.specs.Trades.{if_filled, mils_in, mils_in_by, mils_out}
+use Rattle.register_laws.specs.Trades.{IsOutstandingByTrades, if_filled, mils_in, mils_in_by}
 use Rattle.register_machine.specs.corrections.Cash.{Movement, cents_paid, cents_received, movements_in, movements_of, outstanding, same_party}
 use Rattle.register_machine.specs.replay.Trades.{Day}
 
@@ -54,37 +54,41 @@ size-between (negsuc n) after before e = omega (arith, ints, e)
 
 -- ---- cash
 
-cents-of_trades : (trades : List Trade) → cents_moved (movements_of trades) ≡ sum_by cents_of trades
+pub cents-of_trades : (trades : List Trade) → cents_moved (movements_of trades) ≡ sum_by cents_of trades
 cents-of_trades [] = refl
 cents-of_trades (trade ∷ trades) =
     omega (arith, cents-of_trades trades, sum_by-append (λ (m : Movement). m.cents) (movements_in trade.outcome trade) (movements_of trades), sum_by-cons cents_of trade trades)
 
-received-within : (rows : List CashChange) (movements : List Movement) → ((party : Party) → count_by (λ change. same_party change.party party) rows ≤ 1) → sum_by (λ row. cents_received movements row.party) rows ≤ cents_moved movements
-received-within rows movements once =
-    key-sum (λ (row : CashChange) (m : Movement). same_party m.taker row.party) (λ (m : Movement). m.cents) rows movements
-    (λ m. omega (arith, once m.taker, counts-more (λ (row : CashChange). same_party m.taker row.party) (λ (row : CashChange). same_party row.party m.taker) rows (λ k d short. same-back m.taker (get_or rows k d).party)))
+pub received-within : {Row : Type 0} (party : Row → Party) (rows : List Row) (movements : List Movement) → ((q : Party) → count_by (λ row. same_party (party row) q) rows ≤ 1) → sum_by (λ row. cents_received movements (party row)) rows ≤ cents_moved movements
+received-within party rows movements once =
+    key-sum (λ row (m : Movement). same_party m.taker (party row)) (λ (m : Movement). m.cents) rows movements
+    (λ m. omega (arith, once m.taker, counts-more (λ row. same_party m.taker (party row)) (λ row. same_party (party row) m.taker) rows (λ k d short. same-back m.taker (party (get_or rows k d)))))
 
-paid-within : (rows : List CashChange) (movements : List Movement) → ((party : Party) → count_by (λ change. same_party change.party party) rows ≤ 1) → sum_by (λ row. cents_paid movements row.party) rows ≤ cents_moved movements
-paid-within rows movements once =
-    key-sum (λ (row : CashChange) (m : Movement). same_party m.giver row.party) (λ (m : Movement). m.cents) rows movements
-    (λ m. omega (arith, once m.giver, counts-more (λ (row : CashChange). same_party m.giver row.party) (λ (row : CashChange). same_party row.party m.giver) rows (λ k d short. same-back m.giver (get_or rows k d).party)))
+pub paid-within : {Row : Type 0} (party : Row → Party) (rows : List Row) (movements : List Movement) → ((q : Party) → count_by (λ row. same_party (party row) q) rows ≤ 1) → sum_by (λ row. cents_paid movements (party row)) rows ≤ cents_moved movements
+paid-within party rows movements once =
+    key-sum (λ row (m : Movement). same_party m.giver (party row)) (λ (m : Movement). m.cents) rows movements
+    (λ m. omega (arith, once m.giver, counts-more (λ row. same_party m.giver (party row)) (λ row. same_party (party row) m.giver) rows (λ k d short. same-back m.giver (party (get_or rows k d)))))
 
-abbrev of_four : List Movement → List Movement → CashChange → ℕ
-of_four before after row =
-    cents_received after row.party + (cents_paid after row.party + (cents_received before row.party + cents_paid before row.party))
+-- what parties received and paid by movements before and behind, together
+abbrev pub of_four : List Movement → List Movement → Party → ℕ
+of_four before after party =
+    cents_received after party + (cents_paid after party + (cents_received before party + cents_paid before party))
 
--- the sums of four sums
-four-sums : (before after : List Movement) (rows : List CashChange) → sum_by (of_four before after) rows ≡ sum_by (λ (row : CashChange). cents_received after row.party) rows + (sum_by (λ (row : CashChange). cents_paid after row.party) rows + (sum_by (λ (row : CashChange). cents_received before row.party) rows + sum_by (λ (row : CashChange). cents_paid before row.party) rows))
-four-sums before after [] = refl
-four-sums before after (row ∷ rows) =
-    omega (arith, four-sums before after rows, sum_by-cons (of_four before after) row rows, sum_by-cons (λ (r : CashChange). cents_received after r.party) row rows, sum_by-cons (λ (r : CashChange). cents_paid after r.party) row rows, sum_by-cons (λ (r : CashChange). cents_received before r.party) row rows, sum_by-cons (λ (r : CashChange). cents_paid before r.party) row rows)
+four-sums : {Row : Type 0} (party : Row → Party) (before after : List Movement) (rows : List Row) → sum_by (λ row. of_four before after (party row)) rows ≡ sum_by (λ row. cents_received after (party row)) rows + (sum_by (λ row. cents_paid after (party row)) rows + (sum_by (λ row. cents_received before (party row)) rows + sum_by (λ row. cents_paid before (party row)) rows))
+four-sums party before after [] = refl
+four-sums party before after (row ∷ rows) =
+    omega (arith, four-sums party before after rows, sum_by-cons (λ r. of_four before after (party r)) row rows, sum_by-cons (λ r. cents_received after (party r)) row rows, sum_by-cons (λ r. cents_paid after (party r)) row rows, sum_by-cons (λ r. cents_received before (party r)) row rows, sum_by-cons (λ r. cents_paid before (party r)) row rows)
+
+pub four-within : {Row : Type 0} (party : Row → Party) (before after : List Trade) (rows : List Row) → ((q : Party) → count_by (λ row. same_party (party row) q) rows ≤ 1) → sum_by (λ row. of_four (movements_of before) (movements_of after) (party row)) rows ≤ 2 * sum_by cents_of after + 2 * sum_by cents_of before
+four-within party before after rows once =
+    omega (arith, four-sums party (movements_of before) (movements_of after) rows, received-within party rows (movements_of after) once, paid-within party rows (movements_of after) once, received-within party rows (movements_of before) once, paid-within party rows (movements_of before) once, cents-of_trades before, cents-of_trades after)
 
 cash-within : (changes : Changes) (before after : Day) → NamesEachOnce changes → AreDifferences changes before after → size_of_cash changes.cash ≤ 2 * sum_by cents_of after.trades + 2 * sum_by cents_of before.trades
 cash-within changes before after names are =
     let rows = changes.cash in
     let first = movements_of before.trades in
     let then_moved = movements_of after.trades in
-    let each = sum-within (λ (row : CashChange). rise row.cents + fall row.cents) (of_four first then_moved) rows
+    let each = sum-within (λ (row : CashChange). rise row.cents + fall row.cents) (λ (row : CashChange). of_four first then_moved row.party) rows
     (λ k d short.
     let row = get_or rows k d in
     let own = λ (change : CashChange). same_party change.party row.party in
@@ -92,7 +96,7 @@ cash-within changes before after names are =
     let falls = alone own (λ (change : CashChange). fall change.cents) rows k d (names.parties row.party) short (itself row.party) in
     let net = ap (λ n. pos n -ℤ pos (fall row.cents)) (sym rises) ∙ (ap (λ n. pos (sum_by (λ (change : CashChange). cond (own change) (rise change.cents) 0) rows) -ℤ pos n) (sym falls) ∙ are.cash row.party) in
     size-of row.cents (cents_received then_moved row.party) (cents_paid then_moved row.party) (cents_received first row.party) (cents_paid first row.party) net) in
-    omega (arith, each, four-sums first then_moved rows, received-within rows then_moved names.parties, paid-within rows then_moved names.parties, received-within rows first names.parties, paid-within rows first names.parties, cents-of_trades before.trades, cents-of_trades after.trades)
+    omega (arith, each, four-within (λ (row : CashChange). row.party) before.trades after.trades rows names.parties)
 
 -- ---- shares
 
@@ -114,21 +118,21 @@ brought-in class trade =
       | Outcome.Unfilled why ↦ omega arith
     ]
 
-mils-brought : (rows : List MilsChange) (day : Day) → ((class : ℕ) → count_by (λ change. change.class == class) rows ≤ 1) → ((class : ℕ) → outstanding day.register class + sum_by (mils_out class) day.trades ≡ sum_by (mils_in class) day.trades) → sum_by (λ row. outstanding day.register row.class) rows ≤ sum_by mils_of day.trades
-mils-brought rows day once shares =
-    let own = λ (row : MilsChange) (trade : Trade). class_brought trade.kind trade == row.class in
-    let each = sum_by-le-sum_by (λ (row : MilsChange). outstanding day.register row.class) (λ (row : MilsChange). sum_by (λ (trade : Trade). cond (own row trade) (mils_of trade) 0) day.trades) rows
-    (λ row. omega (arith, shares row.class, sum_by-le-sum_by (mils_in row.class) (λ (trade : Trade). cond (own row trade) (mils_of trade) 0) day.trades (brought-in row.class))) in
+pub mils-brought : {Row : Type 0} (class : Row → ℕ) (rows : List Row) (day : Day) → ((number : ℕ) → count_by (λ row. class row == number) rows ≤ 1) → ((number : ℕ) → IsOutstandingByTrades number day) → sum_by (λ row. outstanding day.register (class row)) rows ≤ sum_by mils_of day.trades
+mils-brought {Row = Row} class rows day once shares =
+    let own = λ (row : Row) (trade : Trade). class_brought trade.kind trade == class row in
+    let each = sum_by-le-sum_by (λ row. outstanding day.register (class row)) (λ row. sum_by (λ (trade : Trade). cond (own row trade) (mils_of trade) 0) day.trades) rows
+    (λ row. omega (arith, shares (class row), sum_by-le-sum_by (mils_in (class row)) (λ (trade : Trade). cond (own row trade) (mils_of trade) 0) day.trades (brought-in (class row)))) in
     let all = key-sum own mils_of rows day.trades
     (λ trade. omega (
       arith,
       once (class_brought trade.kind trade),
-      counts-more (λ (row : MilsChange). own row trade) (λ (row : MilsChange). row.class == class_brought trade.kind trade) rows
-          (λ k d short same. eq-yes (get_or rows k d).class (class_brought trade.kind trade) (sym (eqb-true (class_brought trade.kind trade) (get_or rows k d).class same))),
+      counts-more (λ row. own row trade) (λ row. class row == class_brought trade.kind trade) rows
+          (λ k d short same. eq-yes (class (get_or rows k d)) (class_brought trade.kind trade) (sym (eqb-true (class_brought trade.kind trade) (class (get_or rows k d)) same))),
     )) in
     omega (arith, each, all)
 
-mils-within : (changes : Changes) (before after : Day) → NamesEachOnce changes → AreDifferences changes before after → ((class : ℕ) → outstanding before.register class + sum_by (mils_out class) before.trades ≡ sum_by (mils_in class) before.trades) → ((class : ℕ) → outstanding after.register class + sum_by (mils_out class) after.trades ≡ sum_by (mils_in class) after.trades) → size_of_mils changes.outstanding ≤ sum_by mils_of after.trades + sum_by mils_of before.trades
+mils-within : (changes : Changes) (before after : Day) → NamesEachOnce changes → AreDifferences changes before after → ((class : ℕ) → IsOutstandingByTrades class before) → ((class : ℕ) → IsOutstandingByTrades class after) → size_of_mils changes.outstanding ≤ sum_by mils_of after.trades + sum_by mils_of before.trades
 mils-within changes before after names are shares_before shares_after =
     let rows = changes.outstanding in
     let each = sum-within (λ (row : MilsChange). rise row.mils + fall row.mils) (λ (row : MilsChange). outstanding after.register row.class + outstanding before.register row.class) rows
@@ -140,7 +144,7 @@ mils-within changes before after names are shares_before shares_after =
     let net = ap (λ n. pos n -ℤ pos (fall row.mils)) (sym rises) ∙ (ap (λ n. pos (sum_by (λ (change : MilsChange). cond (own change) (rise change.mils) 0) rows) -ℤ pos n) (sym falls) ∙ are.mils row.class) in
     size-between row.mils (outstanding after.register row.class) (outstanding before.register row.class) net) in
     let both = sum-plus (λ (row : MilsChange). outstanding after.register row.class) (λ (row : MilsChange). outstanding before.register row.class) (λ (row : MilsChange). outstanding after.register row.class + outstanding before.register row.class) (λ row. refl) rows in
-    omega (arith, each, both, mils-brought rows after names.classes shares_after, mils-brought rows before names.classes shares_before)
+    omega (arith, each, both, mils-brought (λ (row : MilsChange). row.class) rows after names.classes shares_after, mils-brought (λ (row : MilsChange). row.class) rows before names.classes shares_before)
 
 pub differences_fit : (changes : Changes) (before after : Day) → DifferencesFit changes before after
 differences_fit changes before after moved_before moved_after names are = record {

@@ -9,16 +9,14 @@ use Rattle.agent_events.specs.declared.event.EventKind.{EventKind}
 use Rattle.agent_events.specs.declared.request.DividendForm.{DividendForm}
 use Rattle.agent_events.specs.declared.request.FixRateForm.{FixRateForm}
 use Rattle.limit_laws.proofs.AllMoved.{counted_moves_little}
-use Rattle.limit_laws.proofs.ChangesFit.{differences_fit}
 use Rattle.limit_laws.proofs.FewPositions.{orders-stand}
 use Rattle.limit_laws.proofs.FewThings.{has_few_things}
 use Rattle.limit_laws.specs.InForm.{AreInForm, IsInForm, SaysInForm, most_rate}
 use Rattle.limit_laws.specs.Limited.{IsCounted, IsLimited, RatesInRange}
 use Rattle.limit_laws.specs.Moved.{InFormStaysWithin}
-use Rattle.limit_laws.specs.Posts.{EventFitsPost, HasMovedLittle}
+use Rattle.limit_laws.specs.Posts.{HasMovedLittle}
 use Rattle.register_laws.proofs.HouseholdCredit.{FoundAs, found-as}
 use Rattle.register_laws.proofs.LawfulReplaysKept.{has_a_lawful_book}
-use Rattle.register_laws.proofs.NothingBefore.{last-brought}
 use Rattle.register_laws.proofs.SharesByTrades.{shares_go_by_trades}
 use Rattle.register_laws.specs.Lawful.{book_behind}
 use Rattle.register_laws.specs.LawfulReplays.{EventInRange}
@@ -57,7 +55,7 @@ fix-low : (kind : EventKind) → SaysInForm kind → FoundAs LowFix (rate_fix_in
 fix-low (EventKind.FixRate form) says = says
 fix-low kind says = tt
 
-last-as : {X : Type 0} (P : X → Type 0) (test : X → Bool) (found : Option X) (xs : List X) → FoundAs P found → All P xs → FoundAs P (fold (λ found x. cond (test x) (Some x) found) found xs)
+pub last-as : {X : Type 0} (P : X → Type 0) (test : X → Bool) (found : Option X) (xs : List X) → FoundAs P found → All P xs → FoundAs P (fold (λ found x. cond (test x) (Some x) found) found xs)
 last-as P test found [] is all = is
 last-as P test found (x ∷ xs) is all =
     last-as P test (cond (test x) (Some x) found) xs
@@ -100,18 +98,12 @@ in_form_stays_within journal lawful says =
     } in
     record { limited = limited; counted = counted; moves = counted_moves_little book limited counted }
 
-moved-little : (journal : Journal) → IsLawful journal → AreInForm journal → HasMovedLittle (replay (book_behind journal))
+pub moved-little : (journal : Journal) → IsLawful journal → AreInForm journal → HasMovedLittle (replay (book_behind journal))
 moved-little journal lawful says =
     let is = in_form_stays_within journal lawful says in
     record { moves = is.moves; shares = λ class. shares_go_by_trades (book_behind journal) class is.limited.orderly }
 
 -- the events before the last one are in their forms too
-before-form : (journal : Journal) (event : Event) → AreInForm (with_event journal event) → AreInForm journal
+pub before-form : (journal : Journal) (event : Event) → AreInForm (with_event journal event) → AreInForm journal
 before-form journal event says k d short =
     subst IsInForm (get_or_append_left journal (event ∷ []) d k short) (says k d (omega (arith, short, length-append journal (event ∷ []))))
-
-pub event_fits_post : (journal : Journal) (event : Event) → IsLawful (with_event journal event) → EventFitsPost journal event
-event_fits_post journal event lawful says changes =
-    differences_fit changes (replay (book_behind journal)) (replay (book_behind (with_event journal event)))
-    (moved-little journal (last-brought journal event lawful).0 (before-form journal event says))
-    (moved-little (with_event journal event) lawful says)

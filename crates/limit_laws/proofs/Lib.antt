@@ -18,5 +18,11 @@ pub mod AllMoved
 pub mod KeyedSums
 -- changes between two replays
 pub mod ChangesFit
+-- the gains of a correction
+pub mod GainsFit
 -- the book of a lawful journal
 pub mod LawfulWithin
+-- events that fit a post, and what is booked
+pub mod PostsFit
+-- the rows of a tally
+pub mod TallyRows

@@ -1,5 +1,5 @@
 -- The proof of the law `events_of_lawful_journals_fit_a_post`.
-use Rattle.limit_laws.proofs.LawfulWithin.{event_fits_post}
+use Rattle.limit_laws.proofs.PostsFit.{event_fits_post}
 use Rattle.limit_laws.proofs.post_laws.events_of_lawful_journals_fit_a_post.Goals as goal
 
 pub returns : goal.returns
