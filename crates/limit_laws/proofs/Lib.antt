@@ -26,3 +26,7 @@ pub mod LawfulWithin
 pub mod PostsFit
 -- the rows of a tally
 pub mod TallyRows
+-- what is read from a text is in its form
+pub mod ReadInForm
+-- every script's run
+pub mod RunsInForm

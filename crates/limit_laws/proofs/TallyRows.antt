@@ -74,7 +74,7 @@ record CountsBy (tally : Tally) (q : Party) (holders classes dealers underwriter
 
 all-count : (tally : Tally) (q : Party) (h c d u a : ℕ) → h + (c + (d + (u + a))) ≤ 1 → CountsBy tally q h c d u a → count_by (of_party q) (cash_rows tally) ≤ 1
 all-count tally q h c d u a few by =
-    let one = λ (x : CashChange). cond (of_party q x) 1 0 in
+    let one : CashChange → ℕ = λ x. cond (of_party q x) 1 0 in
     let two = holder_rows tally.holders ++ class_rows tally.classes in
     let three = two ++ dealer_rows tally.dealers in
     let four = three ++ cash_row Party.Underwriter tally.underwriter in

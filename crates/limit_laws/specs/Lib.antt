@@ -11,3 +11,5 @@ pub mod SmallTrades
 pub mod Moved
 -- what a post may have, and that changes between two replays stay within it
 pub mod Posts
+-- every script's run stays within all limits
+pub mod Runs

@@ -4,4 +4,5 @@
 
 pub mod count_laws;
 pub mod post_laws;
+pub mod run_laws;
 pub mod trade_laws;
