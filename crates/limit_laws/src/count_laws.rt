@@ -11,6 +11,7 @@ pub fn lawful_journals_have_few_things()
 {}
 
 /// After each of its sheets, and after all, a class has at most 6,400,000 positions: one for each account at most.
+#[tactic(auto, using(crate::proofs::FewPositions::has_few_positions))]
 pub fn classes_have_few_positions()
     ensures { (journal : Journal) → IsLawful journal → HasFewPositions journal }
 {}

@@ -11,6 +11,7 @@ pub fn requests_are_read_in_form()
 {}
 
 /// What such a request brings has them too.
+#[tactic(auto, using(crate::proofs::RunsInForm::brings_in_form))]
 pub fn events_have_the_form_of_their_requests()
     ensures { (situation : Situation) (request : Request) → BringsInForm situation request }
 {}

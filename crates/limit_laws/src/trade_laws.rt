@@ -8,12 +8,14 @@ ghost use Rattle.limit_laws.specs.SmallTrades.{SheetsAddFewTrades, TradesAreSmal
 
 /// A sheet of a limited book pays at most one dividend and ends at most one letter for each account and price on it, and makes
 /// one trade of each of its orders, two where a purchase reaches its letter's amount.
+#[tactic(auto, using(crate::proofs::ReplayedTrades::sheets_add_few_trades))]
 pub fn sheets_add_few_trades()
     ensures { (book : Book) → SheetsAddFewTrades book }
 {}
 
 /// Every trade of a limited book is small: at most 10^12 mils, and cents by its kind, 10^15 of a purchase, 10^16 of a redemption
 /// and of an exchange, 10^14 of a dividend, and 85,000,000,000 of a letter that ends by date.
+#[tactic(auto, using(crate::proofs::ReplayedTrades::trades_are_small))]
 pub fn trades_are_small()
     ensures { (book : Book) → TradesAreSmall book }
 {}
@@ -25,6 +27,7 @@ pub fn trades_move_little_together()
 {}
 
 /// The book of a lawful journal whose events are in their forms is limited and has few things, so its trades move so little.
+#[tactic(auto, using(crate::proofs::LawfulWithin::in_form_stays_within))]
 pub fn lawful_journals_stay_within()
     ensures { (journal : Journal) → IsLawful journal → InFormStaysWithin journal }
 {}
