@@ -1,5 +1,5 @@
 -- Trades that are added behind others, with how many they are.
-use Rattle.std.proofs.Common.{All, List, [], append-nil, append_assoc, ap, arith, length, length-append, sym, ℕ, ◌++◌, ◌+◌, ◌∙◌, ◌≡◌, ◌≤◌, subst}
+use Rattle.std.proofs.Common.{All, List, [], append-nil, append_assoc, ap, arith, length, length-append, sym, ℕ, ◌++◌, ◌+◌, ◌∙◌, ◌≡◌, ◌≤◌}
 use Rattle.std.proofs.lemmas.List.Elements.{All-append, All-nil}
 use Rattle.agent_events.specs.declared.trade.Trade.{Trade}
 

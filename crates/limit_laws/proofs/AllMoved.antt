@@ -1,5 +1,5 @@
 -- The sum of what all trades move, by how many there are of each kind and how much one moves.
-use Rattle.std.proofs.Common.{All, List, [], ap, arith, count_by, filter, get_or, length, subst, sum_by, sym, take, true, ℕ, ◌*◌, ◌++◌, ◌+◌, ◌^◌, ◌∙◌, ◌≡◌, ◌≤◌}
+use Rattle.std.proofs.Common.{List, ap, arith, count_by, filter, get_or, length, subst, sum_by, sym, take, true, ℕ, ◌*◌, ◌++◌, ◌+◌, ◌^◌, ◌∙◌, ◌≡◌, ◌≤◌}
 use Rattle.std.proofs.Math.Nat.{mul-le-mul, mul-le-mul_right}
 use Rattle.std.proofs.lemmas.Bool.{true≢false}
 use Rattle.std.proofs.lemmas.List.{length-map, take_all}
@@ -15,7 +15,7 @@ use Rattle.forward_price.specs.declared.price_sheet.Sheet.{Sheet}
 use Rattle.gain_loss_book.specs.Posted.{cents_moved}
 use Rattle.limit_laws.proofs.Counting.{ones, sum-within}
 use Rattle.limit_laws.proofs.ReplayedTrades.{along-all}
-use Rattle.limit_laws.specs.Counts.{most_accounts, most_listings, most_orders_begun, prices_listed}
+use Rattle.limit_laws.specs.Counts.{most_accounts, most_listings, prices_listed}
 use Rattle.limit_laws.specs.Limited.{IsCounted, IsLimited}
 use Rattle.limit_laws.specs.Moved.{CountedMovesLittle, cents_of, mils_by, mils_of}
 use Rattle.limit_laws.specs.SmallTrades.{AddsFewTrades, IsLettersEnd, IsPayment, IsSmallTrade, is_dividend, most_cash_by}

@@ -1,5 +1,5 @@
 -- Changes that name each party and each class once come to no more than the trades of both replays move.
-use Rattle.std.proofs.Common.{All, Bool, List, [], ap, arith, cond, count_by, flat_map, get_or, length, negsuc, pos, refl, subst, sum_by, sym, true, ℕ, ℤ, ◌*◌, ◌++◌, ◌+◌, ◌-ℤ◌, ◌<◌, ◌==◌, ◌∙◌, ◌∷◌, ◌≡◌, ◌≤◌}
+use Rattle.std.proofs.Common.{List, [], ap, arith, cond, count_by, get_or, negsuc, pos, refl, sum_by, sym, true, ℕ, ℤ, ◌*◌, ◌+◌, ◌-ℤ◌, ◌==◌, ◌∙◌, ◌∷◌, ◌≡◌, ◌≤◌}
 use Rattle.std.proofs.lemmas.Bool.{eqb-true, true≢false}
 use Rattle.std.proofs.lemmas.Int.{ints}
 use Rattle.std.proofs.lemmas.List.Sums.{sum_by-append, sum_by-cons, sum_by-le-sum_by}
@@ -11,7 +11,7 @@ use Rattle.agent_events.specs.declared.trade.Outcome.{Outcome}
 use Rattle.agent_events.specs.declared.trade.Trade.{Trade}
 use Rattle.agent_events.specs.declared.trade.TradeKind.{TradeKind}
 use Rattle.gain_loss_book.specs.Booked.{AreDifferences}
-use Rattle.gain_loss_book.specs.ClassGains.{mils_change, size_of_mils}
+use Rattle.gain_loss_book.specs.ClassGains.{size_of_mils}
 use Rattle.gain_loss_book.specs.Flows.{fall, rise}
 use Rattle.gain_loss_book.specs.Posted.{cents_moved, size_of_cash}
 use Rattle.limit_laws.proofs.Counting.{counts-more, sum-within}

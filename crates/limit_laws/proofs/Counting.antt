@@ -1,5 +1,5 @@
 -- Counts of what passes a test, and sums over one list that are sums over another.
-use Rattle.std.proofs.Common.{All, Bool, List, [], arith, cond, count_by, false, get_or, length, refl, sum_by, sym, true, ℕ, ◌*◌, ◌+◌, ◌&&◌, ◌||◌, ◌∷◌, ◌≡◌, ◌≤◌}
+use Rattle.std.proofs.Common.{All, Bool, List, [], arith, cond, count_by, false, get_or, length, refl, sum_by, sym, true, ℕ, ◌*◌, ◌+◌, ◌||◌, ◌∷◌, ◌≡◌, ◌≤◌}
 use Rattle.std.proofs.lemmas.Bool.{and_parts, true≢false}
 use Rattle.std.proofs.lemmas.List.Elements.{All-cons, All-head, All-nil, All-tail}
 use Rattle.std.proofs.lemmas.List.Sums.{sum_by-cons, sum_by-le}

@@ -1,5 +1,5 @@
 -- A class has no more positions than there are accounts.
-use Rattle.std.proofs.Common.{All, Bool, List, [], arith, cond, count_by, false, filter, get_or, length, refl, subst, sum_by, sym, take, true, ℕ, ◌&&◌, ◌*◌, ◌==◌, ◌∙◌, ◌∷◌, ◌≡◌, ◌≤◌}
+use Rattle.std.proofs.Common.{All, Bool, List, arith, cond, false, filter, get_or, length, refl, subst, sum_by, sym, take, true, ℕ, ◌==◌, ◌≡◌, ◌≤◌}
 use Rattle.std.proofs.lemmas.Bool.{and_from, and_parts, eqb-true}
 use Rattle.std.proofs.lemmas.List.Elements.{All-filter, All-weaker}
 use Rattle.std.proofs.lemmas.List.Sums.{sum_by-le}

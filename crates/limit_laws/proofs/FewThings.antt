@@ -1,8 +1,8 @@
 -- A lawful journal has few accounts and orders, and each class is on few sheets.
-use Rattle.std.proofs.Common.{All, Bool, List, None, Option, Some, [], ap, arith, cond, count_by, false, fold, get_or, length, length-append, map, nat_lt, option_to_list, refl, subst, sum_by, sym, true, ℕ, ◌*◌, ◌+◌, ◌<◌, ◌&&◌, ◌++◌, ◌==◌, ◌||◌, ◌∙◌, ◌∷◌, ◌≡◌, ◌≤◌}
-use Rattle.std.proofs.lemmas.Bool.{and_parts, eqb-true, ltb-true, true≢false}
+use Rattle.std.proofs.Common.{All, Bool, List, None, Option, Some, [], ap, arith, cond, count_by, false, fold, get_or, length, length-append, map, nat_lt, option_to_list, refl, subst, sym, true, ℕ, ◌+◌, ◌<◌, ◌&&◌, ◌==◌, ◌||◌, ◌∙◌, ◌∷◌, ◌≡◌, ◌≤◌}
+use Rattle.std.proofs.lemmas.Bool.{and_parts, eqb-true, ltb-true}
 use Rattle.std.proofs.lemmas.List.{length-map}
-use Rattle.std.proofs.lemmas.List.Elements.{All-contains, All-get_or, All-head, All-map, All-nil, All-push, All-tail, All-weaker, Contains-get_or}
+use Rattle.std.proofs.lemmas.List.Elements.{All-contains, All-head, All-map, All-nil, All-push, All-tail, All-weaker, Contains-get_or}
 use Rattle.std.proofs.lemmas.List.Sums.{sum_by-cons, sum_by-le}
 use Rattle.std.specs.List.{list_any}
 use Rattle.std.specs.Prelude.{Contains}
@@ -28,7 +28,7 @@ use Rattle.register_laws.proofs.Comparisons.{eq-yes}
 use Rattle.register_laws.proofs.KeepsLimits.{keeps_its_limits}
 use Rattle.register_laws.proofs.NamesStand.{names_stand}
 use Rattle.register_laws.proofs.Sums.{sums-exchange}
-use Rattle.register_laws.proofs.TablesAreOrderly.{classes-seen, few_sheets, lists-corrected, orderly_tables}
+use Rattle.register_laws.proofs.TablesAreOrderly.{classes-seen, few_sheets, orderly_tables}
 use Rattle.register_laws.specs.Identities.{is_class, is_household}
 use Rattle.register_laws.specs.Lawful.{book_behind}
 use Rattle.register_laws.specs.NamesStand.{has_its_household}
@@ -36,7 +36,7 @@ use Rattle.register_laws.specs.Priced.{IsWithFewSheets, KeepsFewSheets, is_sheet
 use Rattle.register_machine.specs.journal.Journals.{Journal}
 use Rattle.register_machine.specs.journal.Kinds.{accounts_of, classes_of, each_in, households_of, price_fix_in, replacement_in}
 use Rattle.register_machine.specs.journal.Lawful.{IsLawful}
-use Rattle.register_machine.specs.pricing.CorrectedOrders.{order_begun, orders_begun, orders_of, row_as_corrected, struck_in}
+use Rattle.register_machine.specs.pricing.CorrectedOrders.{order_begun, orders_begun, row_as_corrected, struck_in}
 use Rattle.register_machine.specs.pricing.CorrectedPrices.{price_as_corrected, sheet_as_corrected}
 use Rattle.register_machine.specs.pricing.PublishedTable.{empty_table, table_after, table_behind, table_by, table_of}
 

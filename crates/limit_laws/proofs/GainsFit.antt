@@ -1,25 +1,22 @@
 -- The gains of a correction come to no more than a post may have.
-use Rattle.std.proofs.Common.{All, Bool, List, None, Option, Some, [], ap, arith, cond, count_by, false, filter, fold, get_or, length, nat_abs, neg_ℤ, negsuc, pos, refl, suc, sum_by, sym, true, zero, ℕ, ℤ, ◌*ℤ◌, ◌*◌, ◌++◌, ◌+◌, ◌-ℤ◌, ◌/◌, ◌==◌, ◌^◌, ◌&&◌, ◌∙◌, ◌∷◌, ◌≡◌, ◌≤◌}
-use Rattle.std.proofs.Math.Nat.{mul-le-mul, mul-le-mul_left}
-use Rattle.std.proofs.lemmas.Bool.{eqb-true, true≢false}
+use Rattle.std.proofs.Common.{List, None, Option, Some, [], arith, cond, count_by, false, nat_abs, neg_ℤ, negsuc, pos, refl, suc, sum_by, true, zero, ℕ, ℤ, ◌*ℤ◌, ◌*◌, ◌+◌, ◌-ℤ◌, ◌==◌, ◌^◌, ◌&&◌, ◌∷◌, ◌≡◌, ◌≤◌}
+use Rattle.std.proofs.Math.Nat.{mul-le-mul_left}
 use Rattle.std.proofs.lemmas.Int.{ints, unsigned_abs-mul}
-use Rattle.std.proofs.lemmas.List.Sums.{sum_by-append, sum_by-cons, sum_by-le-sum_by}
+use Rattle.std.proofs.lemmas.List.Sums.{sum_by-cons, sum_by-le-sum_by}
 use Rattle.std.specs.List.{cons_option}
 use Rattle.std.specs.Option.{option_map_or}
-use Rattle.std.specs.Prelude.{filter_map, map, nat_lt}
+use Rattle.std.specs.Prelude.{filter_map}
 use Rattle.agent_events.specs.declared.order.Party.{Party}
 use Rattle.agent_events.specs.declared.reply_lists.ClassGain.{ClassGain}
 use Rattle.forward_price.specs.declared.price_sheet.Sheet.{Sheet}
 use Rattle.gain_loss_book.specs.Flows.{fall, rise}
 use Rattle.gain_loss_book.specs.Posted.{size_of_gains}
 use Rattle.limit_laws.proofs.ChangesFit.{four-within, mils-brought, of_four}
-use Rattle.limit_laws.proofs.Counting.{counts-more, none-counted, sum-within}
-use Rattle.limit_laws.proofs.SmallTurns.{nav-low}
 use Rattle.limit_laws.specs.Posts.{HasMovedLittle}
 use Rattle.money_units.proofs.RoundingFacts.{half-le}
 use Rattle.money_units.specs.Rounding.{half, signed_half}
 use Rattle.register_laws.proofs.Sums.{sum-plus}
-use Rattle.register_laws.specs.ReplayKeeps.{SheetInRange, most_nav}
+use Rattle.register_laws.specs.ReplayKeeps.{most_nav}
 use Rattle.register_machine.specs.corrections.Cash.{balance, cents_paid, cents_received, movements_of, outstanding, same_party}
 use Rattle.register_machine.specs.corrections.Gains.{gain_by, gain_of, gain_unless_same, gains_between, is_nothing, latest_nav}
 use Rattle.register_machine.specs.replay.Trades.{Day}

@@ -1,5 +1,5 @@
 -- The book of a lawful journal is limited and has few things, where its events are in their forms.
-use Rattle.std.proofs.Common.{All, Bool, List, None, Option, Some, [], arith, cond, false, filter, find, fold, length, length-append, subst, true, ℕ, ◌∷◌, ◌≡◌, ◌≤◌}
+use Rattle.std.proofs.Common.{All, Bool, List, None, Option, Some, [], arith, cond, false, find, fold, length-append, subst, true, ◌∷◌, ◌≤◌}
 use Rattle.std.proofs.lemmas.List.{get_or_append_left}
 use Rattle.std.proofs.lemmas.List.Elements.{All-cons, All-head, All-nil, All-tail, All-weaker}
 use Rattle.std.proofs.lemmas.List.Sums.{count_by-le-length, length-filter}

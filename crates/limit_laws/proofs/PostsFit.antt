@@ -1,5 +1,5 @@
 -- Each event of a lawful journal fits a post, and what is booked behind the journal fits its type.
-use Rattle.std.proofs.Common.{All, Bool, List, None, Option, Some, [], ap, append-nil, append_assoc, arith, cond, count_by, false, filter, fold, length, length-append, refl, subst, sum_by, sym, true, ℕ, ◌*◌, ◌++◌, ◌+◌, ◌<◌, ◌==◌, ◌^◌, ◌∙◌, ◌∷◌, ◌≡◌, ◌≤◌}
+use Rattle.std.proofs.Common.{All, Bool, List, None, Option, Some, [], ap, append_assoc, arith, cond, count_by, false, filter, fold, length, length-append, refl, subst, sum_by, sym, true, ℕ, ◌*◌, ◌++◌, ◌+◌, ◌<◌, ◌==◌, ◌^◌, ◌∙◌, ◌∷◌, ◌≡◌, ◌≤◌}
 use Rattle.std.proofs.lemmas.Bool.{eqb-true}
 use Rattle.std.proofs.lemmas.List.{get_or_append_left}
 use Rattle.std.proofs.lemmas.List.Sums.{sum_by-append, sum_by-cons, sum_by-le-sum_by}
@@ -14,7 +14,7 @@ use Rattle.forward_price.specs.PriceTables.{Table}
 use Rattle.forward_price.specs.Sheets.{lists_class}
 use Rattle.forward_price.specs.declared.price_sheet.Sheet.{Sheet}
 use Rattle.gain_loss_book.proofs.PostedFacts.{paid-within}
-use Rattle.gain_loss_book.specs.Booked.{correction_at, correction_by}
+use Rattle.gain_loss_book.specs.Booked.{correction_by}
 use Rattle.gain_loss_book.specs.Posted.{cents_moved, most_gains, size_of_correction, size_of_gains}
 use Rattle.limit_laws.proofs.ChangesFit.{cents-of_trades, differences_fit}
 use Rattle.limit_laws.proofs.GainsFit.{gains-within}
@@ -25,21 +25,21 @@ use Rattle.limit_laws.specs.Posts.{EventFitsPost, InFormBooksFit}
 use Rattle.register_laws.proofs.Comparisons.{eq-yes, three}
 use Rattle.register_laws.proofs.HouseholdCredit.{FoundAs}
 use Rattle.register_laws.proofs.KeepsLimits.{keeps_its_limits}
-use Rattle.register_laws.proofs.LawfulJournals.{all-follow, lawful-before}
+use Rattle.register_laws.proofs.LawfulJournals.{all-follow}
 use Rattle.register_laws.proofs.NothingBefore.{last-brought}
 use Rattle.register_laws.proofs.Runs.{table-one}
 use Rattle.register_laws.proofs.Sums.{sum-filtered, sum-plus}
 use Rattle.register_laws.specs.Lawful.{book_behind}
 use Rattle.register_laws.specs.ReplayKeeps.{SheetInRange, most_nav}
-use Rattle.register_machine.specs.corrections.Cash.{Movement, cents_paid, cents_paid_in, cents_received, cents_received_in, movements_of, same_party}
-use Rattle.register_machine.specs.corrections.Gains.{class_numbers_of, gains_at, gains_between, in_its_place, latest_nav, rising_numbers}
+use Rattle.register_machine.specs.corrections.Cash.{Movement, cents_paid_in, cents_received_in, movements_of, same_party}
+use Rattle.register_machine.specs.corrections.Gains.{class_numbers_of, gains_at, gains_between, in_its_place, latest_nav}
 use Rattle.register_machine.specs.corrections.Payments.{bearer_in, booked_movements, payments_for, payments_from, payments_of}
 use Rattle.register_machine.specs.journal.Choices.{last_of}
 use Rattle.register_machine.specs.journal.Journals.{Journal, with_event}
 use Rattle.register_machine.specs.journal.Kinds.{classes_of}
 use Rattle.register_machine.specs.journal.Lawful.{AllFollow, IsLawful}
 use Rattle.register_machine.specs.pricing.CorrectedBook.{book_of}
-use Rattle.register_machine.specs.pricing.PublishedTable.{empty_table, table_after, table_behind, table_by, table_of}
+use Rattle.register_machine.specs.pricing.PublishedTable.{table_after, table_behind, table_by, table_of}
 use Rattle.register_machine.specs.replay.Replay.{replay}
 use Rattle.register_machine.specs.replay.Trades.{nav_of}
 

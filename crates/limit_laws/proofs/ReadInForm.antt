@@ -15,7 +15,6 @@ use Rattle.agent_events.specs.declared.request.EntryForm.{EntryForm}
 use Rattle.agent_events.specs.declared.request.Request.{Request}
 use Rattle.agent_events.specs.declared.request.SheetForm.{SheetForm}
 use Rattle.fund_calendar.specs.DayText.{read_day}
-use Rattle.limit_laws.specs.InForm.{most_rate}
 use Rattle.limit_laws.specs.Runs.{ArePrices, AskedInForm}
 use Rattle.money_units.specs.Texts.{money, rate as millionths}
 use Rattle.register_laws.proofs.Choosing.{none_some}

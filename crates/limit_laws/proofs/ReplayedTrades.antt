@@ -1,5 +1,5 @@
 -- The trades of a replay, sheet by sheet: each sheet adds few, and each trade is small.
-use Rattle.std.proofs.Common.{All, List, Some, [], ap, append_assoc, arith, length, refl, slice_get, subst, suc, sym, take, zero, ℕ, ◌*◌, ◌++◌, ◌+◌, ◌<◌, ◌∙◌, ◌∷◌, ◌≡◌, ◌≤◌}
+use Rattle.std.proofs.Common.{All, List, Some, [], ap, append_assoc, arith, length, refl, slice_get, subst, suc, sym, take, zero, ℕ, ◌++◌, ◌+◌, ◌<◌, ◌∙◌, ◌∷◌, ◌≡◌, ◌≤◌}
 use Rattle.std.proofs.lemmas.List.Elements.{All-append, All-nil, All-weaker}
 use Rattle.std.proofs.lemmas.List.Sums.{fold_more}
 use Rattle.std.proofs.lemmas.Option.{get_or_from_slice_get, slice_get_within}
@@ -15,7 +15,7 @@ use Rattle.register_laws.proofs.OrdersInTurn.{rows-standing}
 use Rattle.register_laws.proofs.RegistersKept.{at-last}
 use Rattle.register_laws.specs.ReplayKeeps.{RowInRange, SheetInRange}
 use Rattle.register_machine.specs.pricing.CorrectedBook.{Book}
-use Rattle.register_machine.specs.replay.DayStep.{day_after_orders, day_step}
+use Rattle.register_machine.specs.replay.DayStep.{day_step}
 use Rattle.register_machine.specs.replay.Dividend.{day_after_dividends}
 use Rattle.register_machine.specs.replay.Letter.{day_after_letter_ends}
 use Rattle.register_machine.specs.replay.Replay.{day_after_sheet, first_day, orders_on, priced_orders, replay, replay_to}

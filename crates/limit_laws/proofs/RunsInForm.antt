@@ -1,10 +1,10 @@
 -- The events of a script's run are in their forms, so all limits hold of it.
-use Rattle.std.proofs.Common.{All, Bool, Err, List, None, Ok, Option, Some, [], cond, drop, false, fold, length, map, nat_lt, subst, sym, true, ℕ, ◌++◌, ◌∷◌, ◌≡◌}
+use Rattle.std.proofs.Common.{All, Bool, Err, List, None, Ok, Option, Some, [], cond, drop, false, fold, length, map, nat_lt, subst, sym, true, ℕ, ◌∷◌}
 use Rattle.std.proofs.lemmas.List.Elements.{All-append, All-cons, All-head, All-nil, All-tail}
-use Rattle.agent_events.specs.Events.{Event, event_of, order_request, request_of}
+use Rattle.agent_events.specs.Events.{order_request, request_of}
 use Rattle.agent_events.specs.Fields.{moment}
 use Rattle.agent_events.specs.Forms.{field, is_key_text}
-use Rattle.agent_events.specs.Items.{asked_by, batch_line, script_item, script_item_at}
+use Rattle.agent_events.specs.Items.{asked_by, script_item, script_item_at}
 use Rattle.agent_events.specs.VerbForms.{Asked}
 use Rattle.agent_events.specs.declared.event.EventKind.{EventKind}
 use Rattle.agent_events.specs.declared.event.Source.{Source}

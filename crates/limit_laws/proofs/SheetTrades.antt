@@ -1,11 +1,10 @@
 -- The trades that a sheet adds, phase by phase: dividends, letters that end by date, and orders.
-use Rattle.std.proofs.Common.{All, Bool, List, None, Option, Some, [], ap, append_assoc, arith, cond, count_by, false, filter, fold, get_or, inl, inr, length, map, max, min, nat_le, nat_lt, not, refl, subst, sum_by, sym, true, ℕ, ◌*◌, ◌++◌, ◌+◌, ◌-◌, ◌==◌, ◌^◌, ◌||◌, ◌∙◌, ◌∷◌, ◌≡◌, ◌≤◌}
+use Rattle.std.proofs.Common.{All, Bool, List, None, Option, Some, [], ap, arith, cond, count_by, false, filter, fold, get_or, length, map, nat_lt, refl, subst, sum_by, sym, true, ℕ, ◌*◌, ◌+◌, ◌-◌, ◌==◌, ◌^◌, ◌||◌, ◌∙◌, ◌∷◌, ◌≡◌, ◌≤◌}
 use Rattle.std.proofs.Math.Nat.{mul-le-mul}
 use Rattle.std.proofs.lemmas.Bool.{and_parts, eqb-true, ltb-false, or_parts}
 use Rattle.std.proofs.lemmas.List.{length-map}
 use Rattle.std.proofs.lemmas.List.Elements.{All-cons, All-filter, All-head, All-map, All-nil, All-tail}
 use Rattle.std.proofs.lemmas.List.Sums.{length-filter, sum_by-le}
-use Rattle.std.specs.List.{list_any}
 use Rattle.std.specs.Option.{option_map_or}
 use Rattle.agent_events.specs.declared.order.OrderRow.{OrderRow}
 use Rattle.agent_events.specs.declared.request.ClassForm.{ClassForm}
@@ -28,7 +27,7 @@ use Rattle.limit_laws.specs.SmallTrades.{IsLettersEnd, IsPayment, IsSmallTrade}
 use Rattle.money_units.proofs.RoundingFacts.{half-le}
 use Rattle.offering_price.proofs.RateFacts.{bracket-ceiling}
 use Rattle.offering_price.specs.Accumulation.{bracket}
-use Rattle.register_laws.proofs.Comparisons.{eq-yes, not-zero}
+use Rattle.register_laws.proofs.Comparisons.{eq-yes}
 use Rattle.register_laws.proofs.DayTurns.{dividend-turns, letter_end-turns, order-turns, reinvested, settled_by, trades_added, with_letter_ended}
 use Rattle.register_laws.proofs.HouseholdCredit.{FoundAs, found-as}
 use Rattle.register_laws.proofs.PositionsInOrder.{own-account, put-all}
@@ -44,7 +43,7 @@ use Rattle.register_machine.specs.replay.Dividend.{cash_dividend_trade, day_afte
 use Rattle.register_machine.specs.replay.Letter.{day_after_end_of, day_after_letter_end, day_after_letter_ends, has_letter_over, keys_of_letters_over, letter_end_trade, letter_is_over}
 use Rattle.register_machine.specs.replay.Positions.{Position, PositionKey, Register, fresh_position, is_position, key_of, mils_of, position_at, position_of}
 use Rattle.register_machine.specs.replay.Trades.{Day}
-use Rattle.share_lots.specs.Lots.{cost_total, held_total, most_cost, most_mils}
+use Rattle.share_lots.specs.Lots.{cost_total, most_cost, most_mils}
 use Rattle.dividend_reinvest.specs.declared.payment.Payment.TheVariants as pays
 
 -- what stands of the register within a sheet: its positions, their accounts, and its letters

@@ -1,18 +1,16 @@
 -- The trades of an order's turn are small, and two at most.
-use Rattle.std.proofs.Common.{All, Bool, List, None, Option, Some, [], arith, cond, find, length, option_map, sum_by, unwrap_or, ℕ, ◌*◌, ◌+◌, ◌==◌, ◌^◌, ◌∷◌, ◌≡◌, ◌≤◌, subst}
+use Rattle.std.proofs.Common.{All, List, None, Option, Some, [], arith, find, length, option_map, sum_by, unwrap_or, ℕ, ◌*◌, ◌+◌, ◌==◌, ◌^◌, ◌∷◌, ◌≡◌, ◌≤◌, subst}
 use Rattle.std.proofs.Math.Nat.{mul-le-mul}
 use Rattle.std.proofs.lemmas.List.Elements.{All-cons, All-head, All-nil}
 use Rattle.agent_events.specs.declared.order.Body.{Body}
-use Rattle.agent_events.specs.declared.order.OrderRow.{OrderRow}
 use Rattle.agent_events.specs.declared.trade.Outcome.{Outcome}
 use Rattle.agent_events.specs.declared.trade.Trade.{Trade}
 use Rattle.agent_events.specs.declared.trade.TradeKind.{TradeKind}
-use Rattle.contingent_charge.proofs.ChargeLemmas.{mils_of as piece_mils, value-zero, values-from}
+use Rattle.contingent_charge.proofs.ChargeLemmas.{values-from}
 use Rattle.contingent_charge.specs.DeferredCharge.{charge_of_pieces}
 use Rattle.forward_price.specs.declared.price_sheet.Sheet.{Sheet}
 use Rattle.limit_laws.specs.SmallTrades.{IsSmallTrade}
 use Rattle.money_units.proofs.RoundingFacts.{half-le}
-use Rattle.money_units.specs.Rounding.{half}
 use Rattle.register_laws.proofs.DayTurns.{Turn, bought_by, elected_by, exchanged_by, keys_done, position_asked, reached_by, rows_done, sold_by, trade_of, trades_added}
 use Rattle.register_laws.proofs.HouseholdCredit.{FoundAs, found-as}
 use Rattle.register_laws.proofs.RegistersStand.{RegisterStands, Stands, looked_up-stands}

@@ -1,5 +1,5 @@
 -- The rows of a tally name each party and each class once.
-use Rattle.std.proofs.Common.{All, Bool, List, [], arith, cond, count_by, false, flat_map, nat_eq, refl, sum_by, sym, true, ℕ, ◌++◌, ◌+◌, ◌==◌, ◌∷◌, ◌≡◌, ◌≤◌}
+use Rattle.std.proofs.Common.{Bool, List, [], arith, cond, count_by, false, flat_map, nat_eq, refl, sym, true, ℕ, ◌++◌, ◌+◌, ◌==◌, ◌∷◌, ◌≡◌, ◌≤◌}
 use Rattle.std.proofs.lemmas.Bool.{eqb-true}
 use Rattle.std.proofs.lemmas.List.Sums.{sum_by-append, sum_by-cons}
 use Rattle.std.proofs.lemmas.Map.Keys.{sorted_head, sorted_tail}

@@ -1,6 +1,5 @@
 -- How much one trade moves at most, and how many trades a sheet makes.
 use Rattle.std.specs.Prelude.{All, Bool, List, Some, false, length, slice_get, true, ℕ, ◌*◌, ◌++◌, ◌+◌, ◌^◌, ◌≡◌, ◌≤◌}
-use Rattle.agent_events.specs.declared.order.OrderRow.{OrderRow}
 use Rattle.agent_events.specs.declared.trade.Trade.{Trade}
 use Rattle.agent_events.specs.declared.trade.TradeKind.{TradeKind}
 use Rattle.forward_price.specs.declared.price_sheet.Sheet.{Sheet}

@@ -1,5 +1,4 @@
 //! Laws of counts: how many accounts, orders, listings on sheets and positions a lawful journal has at most.
-ghost use Rattle.std.specs.Prelude.{ℕ};
 ghost use Rattle.register_machine.specs.journal.Journals.{Journal};
 ghost use Rattle.register_machine.specs.journal.Lawful.{IsLawful};
 ghost use Rattle.limit_laws.specs.Counts.{HasFewPositions, HasFewThings};

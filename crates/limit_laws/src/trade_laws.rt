@@ -1,5 +1,4 @@
 //! Laws of trades within the limits: how many a sheet makes, how much one moves, and how much all of them move.
-ghost use Rattle.std.specs.Prelude.{ℕ};
 ghost use Rattle.register_machine.specs.journal.Journals.{Journal};
 ghost use Rattle.register_machine.specs.journal.Lawful.{IsLawful};
 ghost use Rattle.register_machine.specs.pricing.CorrectedBook.{Book};
