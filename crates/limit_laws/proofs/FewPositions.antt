@@ -1,5 +1,5 @@
 -- A class has no more positions than there are accounts.
-use Rattle.std.proofs.Common.{All, Bool, List, arith, cond, false, filter, get_or, length, refl, subst, sum_by, sym, take, true, ℕ, ◌==◌, ◌≡◌, ◌≤◌}
+use Rattle.std.proofs.Common.{All, Bool, List, arith, cond, false, filter, get_or, length, refl, subst, sum_by, sym, take, true, ℕ, ◌*◌, ◌==◌, ◌≡◌, ◌≤◌}
 use Rattle.std.proofs.lemmas.Bool.{and_from, and_parts, eqb-true}
 use Rattle.std.proofs.lemmas.List.Elements.{All-filter, All-weaker}
 use Rattle.std.proofs.lemmas.List.Sums.{sum_by-le}
@@ -9,7 +9,7 @@ use Rattle.agent_events.specs.declared.request.AccountForm.{AccountForm}
 use Rattle.forward_price.proofs.OrderlyFacts.{any_from, found_in}
 use Rattle.limit_laws.proofs.Counting.{all-of, any-counted, sum-within}
 use Rattle.limit_laws.proofs.FewThings.{has_few_things}
-use Rattle.limit_laws.specs.Counts.{HasFewPositions, most_accounts, positions_in}
+use Rattle.limit_laws.specs.Counts.{HasFewPositions, HasFewShares, most_accounts, most_outstanding, positions_in}
 use Rattle.limit_laws.specs.Limited.{IsPlacedAmong, stands_among}
 use Rattle.register_laws.proofs.Comparisons.{eq-yes}
 use Rattle.register_laws.proofs.KnownAccounts.{known-replay}
@@ -17,20 +17,22 @@ use Rattle.register_laws.proofs.NamesStand.{names_stand}
 use Rattle.register_laws.proofs.OrderlyBooks.{lawful_book_is_orderly}
 use Rattle.register_laws.proofs.PositionsInOrder.{Once, at_place, once}
 use Rattle.register_laws.proofs.RegistersKept.{at-last, keeps_registers}
-use Rattle.register_laws.proofs.Sums.{sums-exchange}
+use Rattle.register_laws.proofs.Sums.{passing, sums-exchange}
 use Rattle.register_laws.specs.Identities.{has_number, is_class}
 use Rattle.register_laws.specs.Lawful.{book_behind}
 use Rattle.register_laws.specs.NamesStand.{is_placed_in}
-use Rattle.register_laws.specs.ReplayKeeps.{AreInOrder}
+use Rattle.register_laws.specs.ReplayKeeps.{AreInOrder, IsKeptPosition}
+use Rattle.register_machine.specs.corrections.Cash.{outstanding, outstanding_in}
 use Rattle.register_machine.specs.journal.Journals.{Journal}
 use Rattle.register_machine.specs.journal.Kinds.{accounts_of, classes_of}
 use Rattle.register_machine.specs.journal.Lawful.{IsLawful}
 use Rattle.register_machine.specs.pricing.CorrectedOrders.{orders_of, stands}
 use Rattle.register_machine.specs.pricing.OrderClasses.{classes_in}
 use Rattle.register_machine.specs.replay.Dividend.{is_of_class}
-use Rattle.register_machine.specs.replay.Positions.{Position, Register, is_position}
+use Rattle.register_machine.specs.replay.Positions.{Position, Register, is_position, mils_of}
 use Rattle.register_machine.specs.replay.Replay.{replay_to}
 use Rattle.register_machine.specs.replay.Trades.{Day}
+use Rattle.share_lots.specs.Lots.{most_mils}
 
 abbrev pub PositionsStand : List AccountForm → Register → Type 0
 PositionsStand accounts register = All (λ (x : Position). stands_among accounts x.account ≡ true) register
@@ -78,4 +80,32 @@ has_few_positions journal lawful =
     record {
       up_to = few-up_to journal lawful;
       at_last = λ class. subst (λ (day : Day). positions_in day.register class ≤ most_accounts) (at-last book) (few-up_to journal lawful (length book.table.sheets) class);
+    }
+
+-- ---- the shares of a class
+
+one-position : (class : ℕ) (x : Position) → IsKeptPosition x → outstanding_in class x ≤ cond (is_of_class class x) most_mils 0
+one-position class x kept = elim (x.class == class) as (λ b. cond b (mils_of x.holding) 0 ≤ cond b most_mils 0) [
+  | true ↦ kept.few_mils
+  | false ↦ omega arith
+]
+
+few-shares : (class positions : ℕ) (register : Register) → All IsKeptPosition register → positions_in register class ≤ positions → outstanding register class ≤ most_mils * positions
+few-shares class positions register kept few =
+    let each = sum-within (outstanding_in class) (λ (x : Position). cond (is_of_class class x) most_mils 0) register
+    (λ k d short. one-position class (get_or register k d) (kept k d short)) in
+    omega (arith, each, passing (is_of_class class) most_mils register, few)
+
+shares-up_to : (journal : Journal) → IsLawful journal → (number class : ℕ) → outstanding (replay_to (book_behind journal) number).register class ≤ most_outstanding
+shares-up_to journal lawful number class =
+    let kept = keeps_registers (book_behind journal) (lawful_book_is_orderly journal lawful) in
+    omega (arith, few-shares class most_accounts (replay_to (book_behind journal) number).register (kept.up_to number).positions (few-up_to journal lawful number class))
+
+pub has_few_shares : (journal : Journal) → IsLawful journal → HasFewShares journal
+has_few_shares journal lawful =
+    let book = book_behind journal in
+    record {
+      up_to = shares-up_to journal lawful;
+      at_last = λ class. subst (λ (day : Day). outstanding day.register class ≤ most_outstanding) (at-last book) (shares-up_to journal lawful (length book.table.sheets) class);
+      fits = omega arith;
     }

@@ -1,10 +1,11 @@
 -- How many things of each kind a lawful journal can have, by the counts that the machine's rules keep.
-use Rattle.std.specs.Prelude.{List, count_by, length, sum_by, ℕ, ◌≤◌}
+use Rattle.std.specs.Prelude.{List, count_by, length, sum_by, ℕ, ◌*◌, ◌<◌, ◌^◌, ◌≤◌}
 use Rattle.forward_price.specs.Sheets.{lists_class}
 use Rattle.forward_price.specs.declared.price_sheet.Sheet.{Sheet}
 use Rattle.fund_calendar.specs.PricingDays.{longest_span}
 use Rattle.limit_laws.specs.InForm.{AreInForm}
 use Rattle.register_laws.specs.Lawful.{book_behind}
+use Rattle.register_machine.specs.corrections.Cash.{outstanding}
 use Rattle.register_machine.specs.journal.Journals.{Journal}
 use Rattle.register_machine.specs.journal.Kinds.{accounts_of}
 use Rattle.register_machine.specs.pricing.CorrectedOrders.{orders_of}
@@ -47,3 +48,12 @@ positions_in register class = count_by (is_of_class class) register
 pub record HasFewPositions (journal : Journal) : Type 0 where
   pub up_to : (number class : ℕ) → positions_in (replay_to (book_behind journal) number).register class ≤ most_accounts
   pub at_last : (class : ℕ) → positions_in (replay (book_behind journal)).register class ≤ most_accounts
+
+-- So the shares of a class fit 63 bits: 6,400,000 positions of at most 10^12 mils.
+abbrev pub most_outstanding : ℕ
+most_outstanding = 6400000 * 10 ^ 12
+
+pub record HasFewShares (journal : Journal) : Type 0 where
+  pub up_to : (number class : ℕ) → outstanding (replay_to (book_behind journal) number).register class ≤ most_outstanding
+  pub at_last : (class : ℕ) → outstanding (replay (book_behind journal)).register class ≤ most_outstanding
+  pub fits : most_outstanding < 2 ^ 63
