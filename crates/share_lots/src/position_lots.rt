@@ -17,7 +17,7 @@ use money_units::{Cents, Mils, NoMemory};
 use std::alloc::Global;
 
 /// So many lots of its own has a position before and behind those in common. More of them go into a new block.
-const MOST_OWN: usize = 24;
+const MOST_OWN: usize = 12;
 
 /// The lots of a position by rank.
 #[derive(Debug, Drop)]
