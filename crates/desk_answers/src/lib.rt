@@ -12,3 +12,4 @@ pub use crate::answering::{Answered, answer_request};
 pub use crate::asking::{asker_of, request_of};
 pub use crate::following::follows;
 pub use correction_trials::{DeskBooks, EventChange};
+pub use desk_replies::order_state;

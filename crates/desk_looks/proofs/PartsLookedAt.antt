@@ -44,9 +44,13 @@ found-in_part book household row of =
     found-within (is_own_trade (is_of_household book.accounts household)) (is_trade_of row.order.account row.order.ref_no)
     (own-trade book.accounts household row.order.account row.order.ref_no of) (replay book).trades
 
+-- what became of an order by its household's trades is what became of it by all
+pub traced-in_part : (book : Book) (household : ℕ) (row : OrderRow) → is_of_household book.accounts household row.order.account ≡ true → trace_among book (part_in book household).trades row ≡ trace_of_row book row
+traced-in_part book household row of =
+    ap (λ (found : Option Trade). cond row.struck (bare_trace row OrderState.Struck (unwrap_or (due_moment book row) 0)) (trace_by book row found)) (found-in_part book household row of)
+
 pub traces_by_part : (situation : Situation) (household : ℕ) (form : TraceForm) (row : OrderRow) → TracesByPart situation household form row
 traces_by_part situation household form row named of =
     let book = situation.book in
-    let whole : trace_among book (part_in book household).trades row ≡ trace_of_row book row = ap (λ (found : Option Trade). cond row.struck (bare_trace row OrderState.Struck (unwrap_or (due_moment book row) 0)) (trace_by book row found)) (found-in_part book household row of) in
-    ap Reply.Trace whole
+    ap Reply.Trace (traced-in_part book household row of)
     ∙ sym (ap (λ (found : Option OrderRow). option_map_or (λ (r : OrderRow). Reply.Trace (trace_of_row book r)) found (Reply.Refused (Refusal.NoSuch 2))) named)

@@ -12,4 +12,4 @@ mod sheet_trades;
 pub use crate::event_replies::{event_reply, repeat_reply};
 pub use crate::holdings::show_reply;
 pub use crate::kept_books::{ClassShares, books_reply};
-pub use crate::order_traces::trace_reply;
+pub use crate::order_traces::{order_state, trace_reply};

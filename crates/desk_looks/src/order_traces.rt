@@ -6,7 +6,7 @@ ghost use Rattle.forward_price.specs.Turns.{due_of};
 ghost use Rattle.register_machine.specs.pricing.CorrectedBook.{Book, due_at, due_moment};
 ghost use Rattle.register_machine.specs.queries.Trace.{bare_trace, has_numbers, loose_by, state_by, trace_of_trade, with_numbers};
 ghost use Rattle.register_machine.specs.replay.Replay.{priced_in};
-ghost use Rattle.desk_looks.specs.OrderTraces.{IsFoundOn, NeverFall, book_over, trace_among, trade_among};
+ghost use Rattle.desk_looks.specs.OrderTraces.{IsFoundOn, NeverFall, book_over, state_among, state_by_outcome, trace_among, trade_among};
 
 use crate::sheet_trades::trade_on;
 use agent_events::{Body, OrderRow, OrderState, Outcome, Reply, TraceReply, Trade, Why};
@@ -27,6 +27,31 @@ pub fn trace_reply(prices: &PriceBook, trades: &[Trade], row: &OrderRow) -> Repl
         → result ≡ AnyReply.Trace (trace_among book trades.now row.now) }
 {
     Reply::Trace(trace_of(prices, trades, row))
+}
+
+/// The state of an order as `trace_reply` shows it, by the same trades at the same cost, without its numbers.
+pub fn order_state(prices: &PriceBook, trades: &[Trade], row: &OrderRow) -> OrderState
+    requires fall { NeverFall trades.now }
+    requires found { row.now.struck ≡ false
+        → IsFoundOn prices.now.table.sheets trades.now row.now }
+    ensures { result ≡ state_among trades.now row.now }
+{
+    if row.struck {
+        return OrderState::Struck;
+    }
+    match trade_of(prices, trades, row) {
+        Some(trade) => state_by_outcome(&trade.outcome),
+        None => OrderState::Pending,
+    }
+}
+
+fn state_by_outcome(outcome: &Outcome) -> OrderState
+    ensures { result ≡ state_by_outcome outcome.now }
+{
+    match outcome {
+        Outcome::Filled => OrderState::Filled,
+        Outcome::Unfilled(why) => state_by(why),
+    }
 }
 
 fn trace_of(prices: &PriceBook, trades: &[Trade], row: &OrderRow) -> TraceReply

@@ -1,15 +1,21 @@
 -- An order is traced among its household's trades, on the sheet of its next price.
-use Rattle.std.proofs.Common.{All, Bool, List, Some, [], arith, cond, false, find, subst, sym, true, ℕ, ◌==◌, ◌∷◌, ◌≡◌, ◌≤◌}
+use Rattle.std.proofs.Common.{All, Bool, Contains, List, Some, [], arith, cond, false, find, subst, sym, true, ℕ, ◌==◌, ◌∷◌, ◌≡◌, ◌≤◌}
 use Rattle.std.proofs.lemmas.Bool.{and_parts, eqb-true}
-use Rattle.std.proofs.lemmas.List.Elements.{All-head, All-tail}
+use Rattle.std.proofs.lemmas.List.Elements.{All-contains, All-head, All-tail}
+use Rattle.std.specs.List.{list_any}
 use Rattle.agent_events.specs.declared.order.OrderRow.{OrderRow}
 use Rattle.desk_looks.proofs.FitForLooks.{fit_for_looks}
 use Rattle.desk_looks.specs.HouseholdLooks.{IsFoundInPart, part_in}
 use Rattle.desk_looks.specs.OrderTraces.{IsFoundOn}
-use Rattle.desk_replies.specs.NamedAccounts.{IsOfHousehold}
+use Rattle.desk_replies.specs.NamedAccounts.{HasAccount, IsOfHousehold}
+use Rattle.forward_price.proofs.OrderlyFacts.{all_to}
 use Rattle.fund_calendar.proofs.LookUpLemmas.{find_passes}
+use Rattle.register_laws.proofs.NamesStand.{names_stand}
+use Rattle.register_laws.proofs.Tests.{find-any}
 use Rattle.register_laws.specs.Households.{is_of_household}
+use Rattle.register_laws.specs.Identities.{has_number}
 use Rattle.register_laws.specs.Lawful.{book_behind}
+use Rattle.register_laws.specs.NamesStand.{is_placed_in}
 use Rattle.register_machine.specs.journal.Journals.{Journal}
 use Rattle.register_machine.specs.journal.Kinds.{accounts_of}
 use Rattle.register_machine.specs.journal.Lawful.{IsLawful}
@@ -42,3 +48,15 @@ found_on_its_sheet journal household account ref_no row lawful is of least stand
     let named = named_row journal account ref_no row is in
     found-holds (IsFoundInPart (book_behind journal) household) (λ (r : OrderRow). is_named account ref_no r.order) (orders_of journal) row (fit_for_looks journal household lawful).found is
     (its_household journal household account ref_no row is of) (omega (arith, named.1, least)) standing
+
+-- the account of an order of a lawful journal stands
+pub account_stands : (journal : Journal) (row : OrderRow) → IsLawful journal → Contains (orders_of journal) row → HasAccount journal row.order.account
+account_stands journal row lawful there =
+    find-any (has_number row.order.account) (accounts_of journal)
+    ∙ (and_parts (list_any (has_number row.order.account) (accounts_of journal)) _ (all_to (λ (other : OrderRow). is_placed_in journal other.order) (orders_of journal) row (names_stand journal lawful).orders there)).0
+
+-- and an order has its trade on its sheet, however it is found
+pub found_by_itself : (journal : Journal) (household : ℕ) (row : OrderRow) → IsLawful journal → Contains (orders_of journal) row → IsOfHousehold journal household row.order.account → 1 ≤ row.order.ref_no → row.struck ≡ false → IsFoundOn (book_behind journal).table.sheets (part_in (book_behind journal) household).trades row
+found_by_itself journal household row lawful there of least standing =
+    All-contains (IsFoundInPart (book_behind journal) household) (orders_of journal) row (fit_for_looks journal household lawful).found there
+    of (omega (arith, least)) standing

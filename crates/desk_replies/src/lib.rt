@@ -9,4 +9,4 @@ mod looks;
 mod statements;
 
 pub use crate::events::{event_reply, repeat_reply};
-pub use crate::looks::look_reply;
+pub use crate::looks::{look_reply, order_state};

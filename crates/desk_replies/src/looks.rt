@@ -1,19 +1,19 @@
 //! Replies to looks.
-ghost use Rattle.std.specs.Prelude.{◌≡◌, IfOk, Some, ℕ};
+ghost use Rattle.std.specs.Prelude.{◌≡◌, Contains, IfOk, Some, ℕ};
 ghost use Rattle.agent_events.specs.declared.verdict.Caller.{Caller as AnyCaller};
 ghost use Rattle.desk_books.specs.BooksOfJournals.{AreBooksOf};
 ghost use Rattle.desk_replies.specs.NamedAccounts.{HasAccount, NamesAnAccount};
 ghost use Rattle.desk_replies.specs.Replies.{IsLook};
-ghost use Rattle.register_laws.specs.Lawful.{own_at};
+ghost use Rattle.register_laws.specs.Lawful.{book_behind, own_at};
 ghost use Rattle.register_machine.specs.pricing.CorrectedOrders.{order_named, orders_of};
 ghost use Rattle.register_machine.specs.queries.Show.{show_reply};
-ghost use Rattle.register_machine.specs.queries.Trace.{trace_reply};
+ghost use Rattle.register_machine.specs.queries.Trace.{trace_of_row, trace_reply};
 ghost use Rattle.register_machine.specs.run.Answers.{query_reply};
 
 use crate::balances::{books_reply, class_numbers};
 use crate::households::{household_of, state_of, trades_of};
 use crate::statements::statement_reply;
-use agent_events::{Identifier, OrderRow, Refusal, Reply, Request, TraceForm};
+use agent_events::{Identifier, OrderRow, OrderState, Refusal, Reply, Request, TraceForm};
 use desk_books::DeskBooks;
 use money_units::NoMemory;
 use std::alloc::Global;
@@ -88,4 +88,15 @@ fn trace_of_row(books: &DeskBooks, form: &TraceForm, row: &OrderRow) -> Reply
     let household = household_of(books, form.account.number());
     let trades = trades_of(books, household);
     desk_looks::trace_reply(&books.prices, trades, row)
+}
+
+/// The state of an order of the register, as its trace shows it, by its household's trades: two searches among them.
+pub fn order_state(books: &DeskBooks, row: &OrderRow) -> OrderState
+    requires books { AreBooksOf books.now.book.journal books.now }
+    requires there { Contains (orders_of books.now.book.journal) row.now }
+    ensures { result ≡ (trace_of_row (book_behind books.now.book.journal) row.now).state }
+{
+    let _least = row.order.ref_no.number();
+    let household = household_of(books, row.order.account.number());
+    desk_looks::order_state(&books.prices, trades_of(books, household), row)
 }

@@ -35,7 +35,7 @@ pub(crate) fn payment_on(position: &KeptPosition, rate: u64, nav: Nav) -> Paymen
     let cost = position.holding().cost();
     let room = Mils(MAX_POSITION_MILS - mils.0);
     let cost_room = Cents(MAX_POSITION_CENTS - cost.0);
-    pay(mils, rate, nav, position.in_cash, room, cost_room)
+    pay(mils, rate, nav, position.in_cash(), room, cost_room)
 }
 
 /// The payment on the position of an account and class, as it stands.

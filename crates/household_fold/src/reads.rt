@@ -17,7 +17,7 @@ pub(crate) fn letter_of(register: &HouseholdRegister, account: u32, class: u32) 
     ensures { result ≡ (position_of register.now account class).letter }
 {
     match register.find(account, class) {
-        Some(position) => position.letter,
+        Some(position) => position.letter(),
         None => None,
     }
 }

@@ -16,15 +16,21 @@ use std::alloc::Global;
 use std::marker::Model;
 use std::rc::Rc;
 
-/// What an account holds of a class, as a register keeps it. A copy of it takes no memory: its lots are common to both, and the
-/// one that is taken out of its register copies them, unless it is the last that has them.
+/// What an account holds of a class, as a register keeps it: its key, and the rest in memory that copies of it have in common. A
+/// copy takes no memory, and the one that is taken out of its register copies the rest, unless it is the last that has it.
 #[derive(Debug, Drop)]
 pub struct KeptPosition {
     pub account: u32,
     pub class: u32,
-    holding: Rc<Position>,
-    pub in_cash: bool,
-    pub letter: Option<Letter>,
+    kept: Rc<KeptHolding>,
+}
+
+/// What a position has beside its key; what each sheet looks at comes first.
+#[derive(Debug, Drop)]
+struct KeptHolding {
+    in_cash: bool,
+    letter: Option<Letter>,
+    holding: Position,
 }
 
 impl Model for KeptPosition {
@@ -35,9 +41,9 @@ impl Model for KeptPosition {
     ghost view = { λ p. record {
       account = p.account;
       class = p.class;
-      holding = p.holding.value;
-      in_cash = p.in_cash;
-      letter = p.letter;
+      holding = p.kept.value.holding;
+      in_cash = p.kept.value.in_cash;
+      letter = p.kept.value.letter;
     } };
 }
 
@@ -53,13 +59,18 @@ impl KeptPosition {
             in_cash,
             letter,
         } = position;
-        let holding = kept_holding(alloc, holding)?;
+        let kept = keep_holding(
+            alloc,
+            KeptHolding {
+                in_cash,
+                letter,
+                holding,
+            },
+        )?;
         Ok(KeptPosition {
             account,
             class,
-            holding,
-            in_cash,
-            letter,
+            kept,
         })
     }
 
@@ -70,11 +81,13 @@ impl KeptPosition {
         let KeptPosition {
             account,
             class,
-            holding,
+            kept,
+        } = self;
+        let KeptHolding {
             in_cash,
             letter,
-        } = self;
-        let holding = own_holding(alloc, holding)?;
+            holding,
+        } = own_holding(alloc, kept)?;
         Ok(HeldPosition {
             account,
             class,
@@ -88,21 +101,33 @@ impl KeptPosition {
     pub(crate) fn shared(&self) -> Result<KeptPosition, NoMemory>
         ensures { IfOk result (λ copy. copy ≡ self.now) }
     {
-        let holding = shared_holding(&self.holding)?;
+        let kept = shared_holding(&self.kept)?;
         Ok(KeptPosition {
             account: self.account,
             class: self.class,
-            holding,
-            in_cash: self.in_cash,
-            letter: self.letter,
+            kept,
         })
+    }
+
+    /// Whether its dividends are paid in cash.
+    pub fn in_cash(&self) -> bool
+        ensures { result ≡ self.now.in_cash }
+    {
+        self.kept.as_ref().in_cash
+    }
+
+    /// Its open letter.
+    pub fn letter(&self) -> Option<Letter>
+        ensures { result ≡ self.now.letter }
+    {
+        self.kept.as_ref().letter
     }
 
     /// Its lots.
     pub fn holding(&self) -> &Position
         ensures { result.now ≡ self.now.holding }
     {
-        self.holding.as_ref()
+        &self.kept.as_ref().holding
     }
 
     /// Its account and class.
@@ -140,41 +165,47 @@ impl KeptPosition {
     fn letter_is_over(&self, day: Day) -> bool
         ensures { result ≡ option_map_or (λ letter. has_expired letter day) self.now.letter false }
     {
-        match &self.letter {
+        match self.letter() {
             Some(letter) => letter.expired(day),
             None => false,
         }
     }
 }
 
-/// Lots that several positions may have in common.
-fn kept_holding(alloc: Global, holding: Position) -> Result<Rc<Position>, NoMemory>
+/// The rest of a position, which several positions may have in common.
+fn keep_holding(alloc: Global, holding: KeptHolding) -> Result<Rc<KeptHolding>, NoMemory>
     ensures { IfOk result (λ kept. kept.value ≡ holding) }
 {
     let kept = Rc::new(alloc, holding)?;
     Ok(kept)
 }
 
-/// The same lots once more.
-fn shared_holding(holding: &Rc<Position>) -> Result<Rc<Position>, NoMemory>
-    ensures { IfOk result (λ shared. shared.value ≡ holding.now.value) }
+/// The same rest once more.
+fn shared_holding(kept: &Rc<KeptHolding>) -> Result<Rc<KeptHolding>, NoMemory>
+    ensures { IfOk result (λ shared. shared.value ≡ kept.now.value) }
 {
-    let shared = holding.clone()?;
+    let shared = kept.clone()?;
     Ok(shared)
 }
 
-/// The lots themselves where no other position has them, and else a copy of them.
-fn own_holding(alloc: Global, holding: Rc<Position>) -> Result<Position, NoMemory>
-    ensures { IfOk result (λ own. own ≡ holding.value) }
+/// The rest of a position itself where no other has it, and else a copy of it.
+fn own_holding(alloc: Global, kept: Rc<KeptHolding>) -> Result<KeptHolding, NoMemory>
+    ensures { IfOk result (λ own. own ≡ kept.value) }
 {
-    match Rc::try_unwrap(holding) {
+    match Rc::try_unwrap(kept) {
         Ok(own) => Ok(own),
         Err(shared) => copied_holding(alloc, &shared),
     }
 }
 
-fn copied_holding(alloc: Global, holding: &Rc<Position>) -> Result<Position, NoMemory>
-    ensures { IfOk result (λ copy. copy ≡ holding.now.value) }
+fn copied_holding(alloc: Global, kept: &Rc<KeptHolding>) -> Result<KeptHolding, NoMemory>
+    ensures { IfOk result (λ copy. copy ≡ kept.now.value) }
 {
-    holding.as_ref().copied(alloc)
+    let kept = kept.as_ref();
+    let holding = kept.holding.copied(alloc)?;
+    Ok(KeptHolding {
+        in_cash: kept.in_cash,
+        letter: kept.letter,
+        holding,
+    })
 }

@@ -93,7 +93,7 @@ impl HouseholdRegister {
         ensures { result ≡ (position_of self.now account class).letter }
     {
         match self.find(account, class) {
-            Some(position) => position.letter,
+            Some(position) => position.letter(),
             None => None,
         }
     }
@@ -103,7 +103,7 @@ impl HouseholdRegister {
         ensures { result ≡ (position_of self.now account class).in_cash }
     {
         match self.find(account, class) {
-            Some(position) => position.in_cash,
+            Some(position) => position.in_cash(),
             None => false,
         }
     }

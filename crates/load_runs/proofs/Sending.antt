@@ -1,8 +1,6 @@
 -- One request after the other: what is sent is a step of the run, and the rest comes no earlier.
 use Rattle.std.proofs.Common.{Bool, List, None, Some, [], ap, arith, cond, drop, false, fold, length, refl, slice_get, subst, sym, true, ℕ, ◌++◌, ◌+◌, ◌∙◌, ◌∷◌, ◌≡◌, ◌≤◌}
 use Rattle.std.proofs.Math.Nat.{mul-le-mul}
-use Rattle.std.proofs.lemmas.List.Elements.{filter_map-append}
-use Rattle.agent_events.specs.Events.{Event}
 use Rattle.agent_events.specs.declared.reply.Reply.{Reply}
 use Rattle.agent_events.specs.declared.verdict.Caller.{Caller}
 use Rattle.load_requests.proofs.CountFacts.{count_requests}
@@ -11,16 +9,10 @@ use Rattle.load_requests.specs.Requests.{requests_of}
 use Rattle.load_requests.specs.Runs.{LoadRun, NeverFall, answer_to, first_run, is_refusal, load_step, run_over}
 use Rattle.load_requests.specs.declared.load.Load.{Load}
 use Rattle.load_requests.specs.declared.load.Sent.{Sent}
-use Rattle.load_runs.specs.OrderNames.{name_begun, order_names}
 use Rattle.load_runs.specs.Running.{most_requests}
 use Rattle.register_laws.specs.Lawful.{own_at}
 use Rattle.register_machine.specs.journal.Journals.{Journal, last_moment}
 use Rattle.register_machine.specs.run.Answers.{Answer, answer}
-
--- ---- the names
-
-pub names_more : (journal events : Journal) → order_names (journal ++ events) ≡ order_names journal ++ order_names events
-names_more journal events = filter_map-append (λ (event : Event). name_begun event.kind) journal events
 
 -- ---- a step
 

@@ -1,5 +1,5 @@
 -- The names of the orders of a journal, each by the event that began it.
-use Rattle.std.specs.Prelude.{List, None, Option, Some, [], ◌++◌, ◌∷◌}
+use Rattle.std.specs.Prelude.{List, None, Option, Some}
 use Rattle.agent_events.specs.declared.event.EventKind.{EventKind}
 use Rattle.agent_events.specs.declared.order.Order.{Order}
 use Rattle.agent_events.specs.declared.request.TraceForm.{TraceForm}
@@ -18,8 +18,3 @@ name_begun _ = None
 
 abbrev pub order_names : Journal → List TraceForm
 order_names journal = each_in name_begun journal
-
--- one name more, where there is one
-abbrev pub with_name : List TraceForm → Option TraceForm → List TraceForm
-with_name names None = names
-with_name names (Some name) = names ++ name ∷ []

@@ -2,7 +2,6 @@
 use Rattle.std.specs.Prelude.{ℕ, ◌≡◌}
 use Rattle.agent_keeper.specs.Memory.{surely_kept}
 use Rattle.load_requests.specs.Runs.{LoadRun}
-use Rattle.load_runs.specs.OrderNames.{order_names}
 use Rattle.load_runs.specs.declared.running.Running.{Running}
 use Rattle.register_desk.specs.Rows.{rows_of}
 
@@ -10,10 +9,9 @@ use Rattle.register_desk.specs.Rows.{rows_of}
 abbrev pub run_at : Running → LoadRun
 run_at running = record { journal = running.desk.book.journal; refused = running.refused }
 
--- The keeper keeps the rows of the journal, and each of its orders is named, in order.
-pub record HasRun (running : Running) : Type 0 where
-  pub kept : (surely_kept running.keeper).rows ≡ rows_of running.desk.book.journal
-  pub names : running.names ≡ order_names running.desk.book.journal
+-- the keeper keeps the rows of the journal
+abbrev pub HasRun : Running → Type 0
+HasRun running = (surely_kept running.keeper).rows ≡ rows_of running.desk.book.journal
 
 -- no load has so many requests
 abbrev pub most_requests : ℕ

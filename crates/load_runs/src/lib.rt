@@ -5,7 +5,6 @@ mod answers;
 mod laws;
 mod load;
 mod looks;
-mod names;
 mod running;
 mod summary;
 mod text;

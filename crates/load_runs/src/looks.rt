@@ -1,14 +1,16 @@
 //! What the operator sees at the end of a load.
 ghost use Rattle.std.specs.Prelude.{◌≡◌, ◌<◌, ◌+◌, if◌then◌else◌, IfOk};
-ghost use Rattle.std.specs.List.{count_by};
 ghost use Rattle.agent_keeper.specs.Memory.{surely_kept};
+ghost use Rattle.load_requests.specs.Summaries.{orders_in};
 ghost use Rattle.load_requests.specs.Summaries as summaries;
 ghost use Rattle.load_runs.specs.Looks as spec;
 ghost use Rattle.register_desk.specs.Rows.{rows_of};
+ghost use Rattle.register_laws.specs.Lawful.{book_behind};
+ghost use Rattle.register_machine.specs.pricing.CorrectedOrders.{orders_of};
 
 use crate::answers::ask;
 use crate::running::one_if;
-use agent_events::{BooksOfClasses, OrderState, Reply, Request, TraceForm};
+use agent_events::{BooksOfClasses, OrderRow, OrderState, Reply, Request};
 use agent_keeper::SureKeeper;
 use household_fold::Steps;
 use money_units::NoMemory;
@@ -40,15 +42,6 @@ fn look<L: StepLedger>(
     Ok(prepared.reply)
 }
 
-fn state_in(reply: &Reply) -> Option<OrderState>
-    ensures { result ≡ spec.state_in reply.now }
-{
-    match reply {
-        Reply::Trace(trace) => Some(trace.state),
-        _ => None,
-    }
-}
-
 fn is_filled(state: OrderState) -> bool
     ensures { result ≡ summaries.is_filled state }
 {
@@ -70,67 +63,40 @@ fn is_unfilled(state: OrderState) -> bool
     }
 }
 
-fn with_filled(filled: u64, state: Option<OrderState>) -> u64
-    requires { filled < 18446744073709551615 }
-    ensures { result ≡ filled + (if spec.is_so summaries.is_filled state then 1 else 0) }
+/// One more where this holds.
+fn with_one(count: u64, holds: bool) -> u64
+    requires { count < 18446744073709551615 }
+    ensures { result ≡ count + (if holds then 1 else 0) }
 {
-    match state {
-        Some(state) => filled + one_if(is_filled(state)),
-        None => filled,
-    }
+    count + one_if(holds)
 }
 
-fn with_unfilled(unfilled: u64, state: Option<OrderState>) -> u64
-    requires { unfilled < 18446744073709551615 }
-    ensures { result ≡ unfilled + (if spec.is_so summaries.is_unfilled state then 1 else 0) }
+/// Counts the filled and the unfilled among all orders, each by its state as a trace shows it.
+pub(crate) fn count_orders(desk: &Desk) -> OrdersCounted
+    ensures filled { result.filled
+        ≡ orders_in summaries.is_filled (book_behind desk.now.book.journal) }
+    ensures unfilled { result.unfilled
+        ≡ orders_in summaries.is_unfilled (book_behind desk.now.book.journal) }
 {
-    match state {
-        Some(state) => unfilled + one_if(is_unfilled(state)),
-        None => unfilled,
-    }
+    count_rows(desk, desk.orders())
 }
 
-/// The state of an order that is named, as its trace shows it.
-fn state_of<L: StepLedger>(
-    desk: &mut Desk,
-    keeper: &mut SureKeeper,
-    name: &TraceForm,
-    steps: &mut Steps<L>,
-) -> Result<Option<OrderState>, NoMemory>
-    requires told { (surely_kept keeper.old).rows ≡ rows_of desk.old.book.journal }
-    ensures state { IfOk result (λ state. state
-        ≡ spec.state_traced desk.old.book.journal name.now) }
-    ensures journal { desk.new.book.journal ≡ desk.old.book.journal }
-    ensures keeper { keeper.new ≡ keeper.old }
-{
-    let reply = look(desk, keeper, &Request::Trace(*name), steps)?;
-    Ok(state_in(&reply))
-}
-
-/// Counts the filled and the unfilled among the orders that are named.
 #[tactic(auto, using(crate::proofs::TracesCounted::count_one_more))]
-pub(crate) fn count_orders<L: StepLedger>(
-    desk: &mut Desk,
-    keeper: &mut SureKeeper,
-    names: &[TraceForm],
-    steps: &mut Steps<L>,
-) -> Result<OrdersCounted, NoMemory>
-    requires told { (surely_kept keeper.old).rows ≡ rows_of desk.old.book.journal }
-    ensures filled { IfOk result (λ counted. counted.filled
-        ≡ count_by (spec.is_traced summaries.is_filled desk.old.book.journal) names.now) }
-    ensures unfilled { IfOk result (λ counted. counted.unfilled
-        ≡ count_by (spec.is_traced summaries.is_unfilled desk.old.book.journal) names.now) }
-    ensures journal { desk.new.book.journal ≡ desk.old.book.journal }
-    ensures keeper { keeper.new ≡ keeper.old }
+fn count_rows(desk: &Desk, rows: &[OrderRow]) -> OrdersCounted
+    requires { rows.now ≡ orders_of desk.now.book.journal }
+    ensures filled { result.filled
+        ≡ orders_in summaries.is_filled (book_behind desk.now.book.journal) }
+    ensures unfilled { result.unfilled
+        ≡ orders_in summaries.is_unfilled (book_behind desk.now.book.journal) }
 {
     let mut filled = 0;
     let mut unfilled = 0;
-    for name in names {
-        let state = state_of(desk, keeper, name, steps)?;
-        filled = with_filled(filled, state);
-        unfilled = with_unfilled(unfilled, state);
+    for row in rows {
+        let state = desk.order_state(row);
+        filled = with_one(filled, is_filled(state));
+        unfilled = with_one(unfilled, is_unfilled(state));
     }
-    Ok(OrdersCounted { filled, unfilled })
+    OrdersCounted { filled, unfilled }
 }
 
 fn classes_in(alloc: Global, reply: Reply) -> BooksOfClasses

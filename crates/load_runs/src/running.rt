@@ -5,22 +5,20 @@ ghost use Rattle.load_runs.specs.Running.{HasRun, most_requests, run_at};
 ghost use Rattle.register_machine.specs.journal.Journals.{last_moment};
 
 use crate::answers::{ask, keep, start};
-use crate::names::{OrderNames, push_begun};
 use agent_events::Reply;
 use agent_keeper::SureKeeper;
 use household_fold::Steps;
 use load_requests::{LoadRequests, Sent};
-use money_units::{List, NoMemory};
+use money_units::NoMemory;
 use register_desk::Desk;
 use std::alloc::Global;
 use std::sync::ledger::Ledger as StepLedger;
 
-/// The desk with its keeper, the names of the accepted orders, and how many requests were refused.
+/// The desk with its keeper, and how many requests were refused.
 #[derive(Drop)]
 pub struct Running {
     pub desk: Desk,
     pub keeper: SureKeeper,
-    pub names: OrderNames,
     pub refused: u64,
 }
 
@@ -34,7 +32,6 @@ pub(crate) fn open<L: StepLedger>(alloc: Global, steps: &mut Steps<L>) -> Result
     Ok(Running {
         desk,
         keeper,
-        names: List::new(alloc),
         refused: 0,
     })
 }
@@ -74,7 +71,6 @@ fn send<L: StepLedger>(
         &sent.request,
         steps,
     )?;
-    push_begun(&mut running.names, &prepared.change)?;
     running.refused += one_if(is_refusal(prepared.reply()));
     keep(&mut running.desk, &mut running.keeper, prepared)?;
     Ok(())

@@ -4,7 +4,7 @@ ghost use Rattle.load_requests.specs.Summaries.{summary_of};
 ghost use Rattle.load_runs.specs.Running.{HasRun, run_at};
 ghost use Rattle.load_runs.specs.Seen.{summary_seen};
 
-use crate::laws::{classes_are_shown, orders_are_counted};
+use crate::laws::classes_are_shown;
 use crate::looks::{classes_of, count_orders};
 use crate::running::Running;
 use agent_events::BooksOfClasses;
@@ -34,16 +34,9 @@ pub(crate) fn summary_of<L: StepLedger>(
     requires { HasRun running.old }
     ensures { IfOk result (λ summary. summary_seen summary ≡ summary_of (run_at running.old)) }
 {
-    orders_are_counted();
     classes_are_shown();
     sheets_are_counted();
-    running.desk.journal_is_lawful();
-    let orders = count_orders(
-        &mut running.desk,
-        &mut running.keeper,
-        running.names.as_slice(),
-        steps,
-    )?;
+    let orders = count_orders(&running.desk);
     let classes = classes_of(alloc, &mut running.desk, &mut running.keeper, steps)?;
     Ok(Summary {
         events: running.desk.len(),

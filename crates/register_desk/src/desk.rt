@@ -1,5 +1,5 @@
 //! The desk.
-ghost use Rattle.std.specs.Prelude.{◌≡◌, ◌≢◌, ◌⊎◌, ◌≤◌, ◌++◌, [], IfOk, OnOk, OnErr, Ok, IsTrue, length, ℕ};
+ghost use Rattle.std.specs.Prelude.{◌≡◌, ◌≢◌, ◌⊎◌, ◌≤◌, ◌++◌, [], Contains, IfOk, OnOk, OnErr, Ok, IsTrue, length, ℕ};
 ghost use Rattle.agent_keeper.specs.Calls.{Counts, GoesOn};
 ghost use Rattle.agent_keeper.specs.Content.{Content, after};
 ghost use Rattle.desk_answers.specs.Answered.{IsCaller, events_of};
@@ -9,15 +9,17 @@ ghost use Rattle.register_desk.specs.Rows.{TellsRowsOf, rows_of};
 ghost use Rattle.register_laws.specs.Lawful.{book_behind, own_at};
 ghost use Rattle.register_machine.specs.journal.Journals.{last_moment};
 ghost use Rattle.register_machine.specs.journal.Lawful.{IsLawful};
+ghost use Rattle.register_machine.specs.pricing.CorrectedOrders.{orders_of};
+ghost use Rattle.register_machine.specs.queries.Trace.{trace_of_row};
 ghost use Rattle.register_machine.specs.rules.Callers.{caller_of};
 ghost use Rattle.register_machine.specs.run.Answers.{answer};
 ghost use Rattle.register_machine.specs.run.Verdicts.{verdict};
 
 use crate::faults::LedgerFault;
 use crate::prepared::{Prepared, batch_of, give_up_answer, give_up_change, give_up_reply};
-use agent_events::{Caller, Request};
+use agent_events::{Caller, OrderRow, OrderState, Request};
 use agent_keeper::{KeepFault, Keeper};
-use desk_answers::{DeskBooks, answer_request};
+use desk_answers::{DeskBooks, answer_request, order_state};
 use household_fold::Steps;
 use money_units::{Moment, NoMemory};
 use std::alloc::Global;
@@ -173,5 +175,19 @@ impl Desk {
         ensures { result ≡ length (book_behind self.now.book.journal).table.sheets }
     {
         self.books.prices.sheets().len()
+    }
+    /// All orders as they are corrected, in the order of their first events.
+    pub fn orders(&self) -> &[OrderRow]
+        ensures { result.now ≡ orders_of self.now.book.journal }
+    {
+        self.books.book.orders().orders()
+    }
+
+    /// The state of one of these orders, as its trace shows it.
+    pub fn order_state(&self, row: &OrderRow) -> OrderState
+        requires { Contains (orders_of self.now.book.journal) row.now }
+        ensures { result ≡ (trace_of_row (book_behind self.now.book.journal) row.now).state }
+    {
+        order_state(&self.books, row)
     }
 }

@@ -1,11 +1,9 @@
 -- That `send` keeps its contract.
-use Rattle.std.proofs.Common.{Bool, List, ap, cond, sym, ℕ, ◌++◌, ◌+◌, ◌∙◌}
+use Rattle.std.proofs.Common.{Bool, List, ap, cond, ℕ, ◌++◌, ◌+◌, ◌∙◌}
 use Rattle.agent_events.specs.Events.{Event}
-use Rattle.agent_events.specs.declared.request.TraceForm.{TraceForm}
 use Rattle.register_desk.specs.desk_answers.Answered.{events_of}
 use Rattle.load_requests.specs.Runs.{is_refusal}
-use Rattle.load_runs.proofs.Sending.{names_more, step_is}
-use Rattle.load_runs.specs.OrderNames.{order_names}
+use Rattle.load_runs.proofs.Sending.{step_is}
 use Rattle.load_runs.specs.Running.{run_at}
 use Rattle.load_runs.proofs.running.send.Goals as goal
 
@@ -22,16 +20,3 @@ returns-clause-run g c =
           ap (λ (n : ℕ). c.args.running.now.refused + n)
           (c.one_if.ensures.value ∙ ap {B = ℕ} (λ (b : Bool). cond b 1 0) (c.is_refusal.ensures ∙ ap is_refusal c.reply.ensures));
     })
-
-pub returns-clause-has_run : goal.returns-clause-has_run
-returns-clause-has_run g c =
-    let events = events_of c.in_ok-prepared.prepared.change in
-    let before = c.args.running.now.desk.book.journal in
-    record {
-      kept = c.keep.ensures.told;
-      names =
-          c.in_ok-push_begun.ensures.ok
-          ∙ (ap (λ (names : List TraceForm). names ++ order_names events) c.requires.has_run.names
-          ∙ (sym (names_more before events)
-          ∙ ap order_names (sym (c.in_ok-keep.ensures.ok ∙ ap (λ (journal : List Event). journal ++ events) c.ask.ensures.journal))));
-    }
