@@ -1,5 +1,5 @@
 -- An order is traced among its household's trades, on the sheet of its next price.
-use Rattle.std.proofs.Common.{All, Bool, Contains, List, Some, [], arith, cond, false, find, subst, sym, true, ℕ, ◌==◌, ◌∷◌, ◌≡◌, ◌≤◌}
+use Rattle.std.proofs.Common.{All, Bool, Contains, List, Some, [], arith, cond, false, find, subst, sym, true, ℕ, ◌==◌, ◌∙◌, ◌∷◌, ◌≡◌, ◌≤◌}
 use Rattle.std.proofs.lemmas.Bool.{and_parts, eqb-true}
 use Rattle.std.proofs.lemmas.List.Elements.{All-contains, All-head, All-tail}
 use Rattle.std.specs.List.{list_any}

@@ -13,10 +13,10 @@ use Rattle.forward_price.specs.PriceTables.{Table}
 use Rattle.register_laws.specs.Lawful.{book_behind}
 use Rattle.desk_replies.proofs.looks.order_state.Goals as goal
 
-pub household_of-requires-clause-there : goal.household_of-requires-clause-there
-household_of-requires-clause-there c =
+pub household_of-household-requires-clause-there : goal.household_of-household-requires-clause-there
+household_of-household-requires-clause-there c =
     let journal = c.args.books.now.book.journal in
-    subst (λ n. HasAccount journal n) (sym c.number-2.ensures.value) (account_stands journal c.args.row.now c.requires.books.lawful c.requires.there)
+    subst (λ n. HasAccount journal n) (sym c.number.ensures.value) (account_stands journal c.args.row.now c.requires.books.lawful c.requires.there)
 
 pub order_state-requires-clause-fall : goal.order_state-requires-clause-fall
 order_state-requires-clause-fall c =
@@ -30,7 +30,7 @@ order_state-requires-clause-found c = λ standing.
     let journal = books.book.journal in
     let household = c.household_of-household.result in
     let row = c.args.row.now in
-    let of = subst (λ n. IsOfHousehold journal household n) c.number-2.ensures.value c.household_of-household.ensures in
+    let of = subst (λ n. IsOfHousehold journal household n) c.number.ensures.value c.household_of-household.ensures in
     let least : 1 ≤ row.order.ref_no = omega (arith, c.number-least.ensures.value, c.number-least.ensures.least) in
     subst (λ (t : Table). IsFoundOn t.sheets c.trades_of.result.now row) (sym c.requires.books.prices)
     (subst (λ (trades : List Trade). IsFoundOn (book_behind journal).table.sheets trades row) (sym c.trades_of.ensures)
@@ -42,7 +42,7 @@ returns c =
     let journal = books.book.journal in
     let household = c.household_of-household.result in
     let row = c.args.row.now in
-    let of = subst (λ n. IsOfHousehold journal household n) c.number-2.ensures.value c.household_of-household.ensures in
+    let of = subst (λ n. IsOfHousehold journal household n) c.number.ensures.value c.household_of-household.ensures in
     c.order_state.ensures
     ∙ (ap (λ (trades : List Trade). state_among trades row) c.trades_of.ensures
     ∙ (state_shown (book_behind journal) (part_in (book_behind journal) household).trades row
