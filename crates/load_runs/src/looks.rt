@@ -63,12 +63,18 @@ fn is_unfilled(state: OrderState) -> bool
     }
 }
 
-/// One more where this holds.
-fn with_one(count: u64, holds: bool) -> u64
-    requires { count < 18446744073709551615 }
-    ensures { result ≡ count + (if holds then 1 else 0) }
+fn with_filled(filled: u64, state: OrderState) -> u64
+    requires { filled < 18446744073709551615 }
+    ensures { result ≡ filled + (if summaries.is_filled state then 1 else 0) }
 {
-    count + one_if(holds)
+    filled + one_if(is_filled(state))
+}
+
+fn with_unfilled(unfilled: u64, state: OrderState) -> u64
+    requires { unfilled < 18446744073709551615 }
+    ensures { result ≡ unfilled + (if summaries.is_unfilled state then 1 else 0) }
+{
+    unfilled + one_if(is_unfilled(state))
 }
 
 /// Counts the filled and the unfilled among all orders, each by its state as a trace shows it.
@@ -93,8 +99,8 @@ fn count_rows(desk: &Desk, rows: &[OrderRow]) -> OrdersCounted
     let mut unfilled = 0;
     for row in rows {
         let state = desk.order_state(row);
-        filled = with_one(filled, is_filled(state));
-        unfilled = with_one(unfilled, is_unfilled(state));
+        filled = with_filled(filled, state);
+        unfilled = with_unfilled(unfilled, state);
     }
     OrdersCounted { filled, unfilled }
 }
