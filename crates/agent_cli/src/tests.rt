@@ -4,7 +4,7 @@ ghost use Rattle.std.specs.Prelude.{◌≡◌, ◌<◌};
 use crate::ends::Status;
 use crate::run::run;
 use agent_edge::{Connections, MemoryClock, MemoryDoor, MemorySink, MemorySource};
-use agent_keeper::{Keeper, MemoryKeeper, SureKeeper};
+use agent_keeper::{Batch, KeepFault, Keeper, MemoryKeeper, SureKeeper};
 use household_fold::Steps;
 use money_units::{Bytes, Moment};
 use std::alloc::{AllocError, Global};
@@ -201,6 +201,35 @@ fn each_call_fails<L: Ledger>(alloc: Global, blank: Blank) -> Result<bool, Fail>
 #[test]
 fn a_keeper_that_fails_is_status_5(rt: HostRuntime) -> Result<(), Fail> {
     assert!(rt; each_call_fails::<Brand>(rt.alloc(), Blank::new(1))?);
+    Ok(())
+}
+
+// Keeps a row behind those of the store, whatever it holds.
+fn keep_row<K: Keeper>(alloc: Global, keeper: &mut K, row: &[u8]) -> Result<(), KeepFault> {
+    keeper.attach("r")?;
+    let mut batch = Batch::new(alloc);
+    batch.rows.push(Bytes::from_slice(alloc, row)?)?;
+    let base = keeper.len()?;
+    keeper.commit(base, &batch)
+}
+
+// A row behind the eleven of the preamble is no event's: nothing is answered, and its place is told, counted from 0.
+fn names_the_row<L: Ledger>(alloc: Global, blank: Blank) -> Result<bool, Fail>
+    requires name { blank.name ≡ L.name }
+    requires parts { blank.parts ≡ L.parts }
+    requires some { 0 < blank.parts }
+{
+    let mut steps = Steps::<L>::new(blank);
+    let mut keeper = SureKeeper::new(alloc);
+    let _ = outcome(alloc, &mut keeper, PREAMBLE, &mut steps)?;
+    keep_row(alloc, &mut keeper, b"no event")?;
+    let (status, lines) = outcome(alloc, &mut keeper, SECOND, &mut steps)?;
+    Ok(status == 6 && lines.as_slice() == b"damaged 11\n".as_slice())
+}
+
+#[test]
+fn a_damaged_row_is_status_6(rt: HostRuntime) -> Result<(), Fail> {
+    assert!(rt; names_the_row::<Brand>(rt.alloc(), Blank::new(1))?);
     Ok(())
 }
 
