@@ -4,7 +4,7 @@ pub mod LooksName
 pub mod NumbersPlaced
 -- the numbers of the tables are those of the journal's classes
 pub mod ClassNumbers
--- the dealers of the events, one by one
+-- the dealers, one by one
 pub mod DealersGathered
 -- what is kept of a household
 pub mod HouseholdParts

@@ -25,7 +25,7 @@ use Rattle.order_book.specs.declared.numbers.Numbers.{Numbers}
 use Rattle.order_book.specs.declared.order_index.OrderName.{OrderName}
 use Rattle.order_book.specs.declared.orders.Orders.{Orders}
 use Rattle.register_machine.specs.journal.Journals.{Journal}
-use Rattle.register_machine.specs.journal.Kinds.{class_in, classes_of, each_in}
+use Rattle.register_machine.specs.journal.Kinds.{class_in, classes_of, dealer_in, dealers_of, each_in}
 use Rattle.register_machine.specs.pricing.CorrectedOrders.{is_named, order_named, orders_of}
 
 pub got-first : (identities : Identities) (events : List Event) (journal : Journal) (identity : Identity) (found : Option ℕ)
@@ -113,9 +113,22 @@ pub got-classes : (numbers : Numbers) (events : List Event) (journal : Journal) 
 got-classes numbers events journal events_are kept =
     ap length kept.classes ∙ (places-length class_in 0 events ∙ ap (λ es. length (classes_of es)) events_are)
 
+pub got-dealers : (numbers : Numbers) (events : List Event) (journal : Journal) → events ≡ journal → KeepsNumbers numbers events → length numbers.dealers.items ≡ length (dealers_of journal)
+got-dealers numbers events journal events_are kept =
+    ap length kept.dealers ∙ (places-length dealer_in 0 events ∙ ap (λ es. length (dealers_of es)) events_are)
+
+-- what a kept place of a kind gives is the item of that kind at that index
+got-at : {X : Type 0} (chosen : EventKind → Option X) (places : List ℕ) (events : List Event) (journal : Journal) (index : ℕ) → events ≡ journal → places ≡ places_from (λ kind. is_some (chosen kind)) 0 events
+    → slice_get (each_in chosen journal) index ≡ option_and_then (λ place. option_and_then (λ event. chosen event.kind) (slice_get events place)) (slice_get places index)
+got-at chosen places events journal index events_are places_are =
+    ap (λ es. slice_get (each_in chosen es) index) (sym events_are)
+    ∙ (got-in-order chosen events index
+    ∙ ap (λ ps. option_and_then (λ place. option_and_then (λ (event : Event). chosen event.kind) (slice_get events place)) (slice_get ps index)) (sym places_are))
+
 pub got-class : (numbers : Numbers) (events : List Event) (journal : Journal) (index : ℕ) → events ≡ journal → KeepsNumbers numbers events
     → slice_get (classes_of journal) index ≡ option_and_then (λ place. option_and_then (λ event. class_in event.kind) (slice_get events place)) (slice_get numbers.classes.items index)
-got-class numbers events journal index events_are kept =
-    ap (λ es. slice_get (classes_of es) index) (sym events_are)
-    ∙ (got-in-order class_in events index
-    ∙ ap (λ places. option_and_then (λ place. option_and_then (λ (event : Event). class_in event.kind) (slice_get events place)) (slice_get places index)) (sym kept.classes))
+got-class numbers events journal index events_are kept = got-at class_in numbers.classes.items events journal index events_are kept.classes
+
+pub got-dealer : (numbers : Numbers) (events : List Event) (journal : Journal) (index : ℕ) → events ≡ journal → KeepsNumbers numbers events
+    → slice_get (dealers_of journal) index ≡ option_and_then (λ place. option_and_then (λ event. dealer_in event.kind) (slice_get events place)) (slice_get numbers.dealers.items index)
+got-dealer numbers events journal index events_are kept = got-at dealer_in numbers.dealers.items events journal index events_are kept.dealers

@@ -23,7 +23,7 @@ use Rattle.order_book.specs.declared.rates.RateName.{RateName}
 use Rattle.order_book.specs.declared.tally.Tally.{Tally}
 use Rattle.register_laws.proofs.OneEventMore.{gathers-on}
 use Rattle.register_machine.specs.journal.Journals.{Journal, with_event}
-use Rattle.register_machine.specs.journal.Kinds.{account_in, accounts_of, calendar_in, dealer_in, each_in, household_in}
+use Rattle.register_machine.specs.journal.Kinds.{account_in, accounts_of, calendar_in, each_in, household_in}
 use Rattle.register_machine.specs.rules.Limits.{is_of_account}
 
 -- ---- as before
@@ -142,7 +142,6 @@ few-in {X} chosen (event ∷ journal) = by_found (chosen event.kind) (few-in cho
 pub counts-are-low : (indexes : Indexes) (journal : Journal) → length journal < 100000000 → KeepsAll indexes journal → CountsAreLow indexes
 counts-are-low indexes journal short kept = record {
   calendars = omega (arith, kept.numbers.calendars, few-in calendar_in journal);
-  dealers = omega (arith, kept.numbers.dealers, few-in dealer_in journal);
   households = omega (arith, kept.numbers.households, few-in household_in journal);
   orders = λ account. omega (arith, kept.order_counts.counts account, count_by-le-length (is_of_account account) journal);
   accounts = λ household. omega (arith, kept.account_counts.counts household, count_by-le-length (λ (account : AccountForm). account.household == household) (accounts_of journal), few-in account_in journal);

@@ -11,7 +11,7 @@ use Rattle.agent_events.specs.declared.request.FixRateForm.{FixRateForm}
 use Rattle.agent_events.specs.declared.request.HouseholdForm.{HouseholdForm}
 use Rattle.order_book.proofs.Places.{got-behind}
 use Rattle.order_book.specs.LastPlaces.{places_from}
-use Rattle.order_book.specs.Numbers.{KeepsNumbers, KeepsRates, fixed_rate, opens_class, same_rate}
+use Rattle.order_book.specs.Numbers.{KeepsNumbers, KeepsRates, fixed_rate, opens_class, registers_dealer, same_rate}
 use Rattle.order_book.specs.declared.numbers.Numbers.{Numbers}
 use Rattle.order_book.specs.declared.rates.FixedRates.{FixedRates}
 use Rattle.order_book.specs.declared.rates.RateName.{RateName}
@@ -122,23 +122,29 @@ rates-left rates journal event no_fix kept = record {
 
 -- ---- the numbers
 
+-- the place of an event of a kind is behind those before it
+place-taken : (test : EventKind → Bool) (journal : Journal) (event : Event) (place : ℕ) (old new : List ℕ) → place ≡ length journal
+    → new ≡ old ++ cond (test event.kind) (place ∷ []) []
+    → old ≡ places_from test 0 journal → new ≡ places_from test 0 (with_event journal event)
+place-taken test journal event place old new at new_is old_is =
+    new_is
+    ∙ (ap (λ places. places ++ cond (test event.kind) (place ∷ []) []) old_is
+    ∙ (ap (λ n. places_from test 0 journal ++ cond (test event.kind) (n ∷ []) []) at
+    ∙ sym (places-more test journal event)))
+
 pub numbers-taken : (old new : Numbers) (journal : Journal) (moment place : ℕ) (kind by : EventKind)
     → kind ≡ by → place ≡ length journal
     → new.calendars ≡ old.calendars + length (option_to_list (calendar_in by))
     → new.classes.items ≡ old.classes.items ++ cond (opens_class by) (place ∷ []) []
-    → new.dealers ≡ old.dealers + length (option_to_list (dealer_in by))
+    → new.dealers.items ≡ old.dealers.items ++ cond (registers_dealer by) (place ∷ []) []
     → new.households ≡ old.households + length (option_to_list (household_in by))
     → KeepsNumbers old journal → KeepsNumbers new (with_event journal (record { moment = moment; kind = kind }))
 numbers-taken old new journal moment place kind by kind_is at calendars classes dealers households kept =
     subst (λ (k : EventKind). KeepsNumbers new (with_event journal (record { moment = moment; kind = k }))) (sym kind_is)
     (record {
       calendars = calendars ∙ gathered-more calendar_in journal (record { moment = moment; kind = by }) old.calendars kept.calendars;
-      classes =
-          classes
-          ∙ (ap (λ (places : List ℕ). places ++ cond (opens_class by) (place ∷ []) []) kept.classes
-          ∙ (ap (λ n. places_from opens_class 0 journal ++ cond (opens_class by) (n ∷ []) []) at
-          ∙ sym (places-more opens_class journal (record { moment = moment; kind = by }))));
-      dealers = dealers ∙ gathered-more dealer_in journal (record { moment = moment; kind = by }) old.dealers kept.dealers;
+      classes = place-taken opens_class journal (record { moment = moment; kind = by }) place old.classes.items new.classes.items at classes kept.classes;
+      dealers = place-taken registers_dealer journal (record { moment = moment; kind = by }) place old.dealers.items new.dealers.items at dealers kept.dealers;
       households = households ∙ gathered-more household_in journal (record { moment = moment; kind = by }) old.households kept.households;
     })
 
@@ -162,11 +168,14 @@ none-opened _ no_calendar no_class no_dealer no_household = record { calendar = 
 same-number : {X : Type 0} (found : Option X) (n : ℕ) → found ≡ None → n ≡ n + length (option_to_list found)
 same-number {X} found n none = omega (arith, ap (λ (f : Option X). length (option_to_list f)) none)
 
+no-place : {X : Type 0} (found : Option X) (places : List ℕ) (place : ℕ) → found ≡ None → places ≡ places ++ cond (is_some found) (place ∷ []) []
+no-place {X} found places place none = sym (append-nil places) ∙ ap (λ (f : Option X). places ++ cond (is_some f) (place ∷ []) []) (sym none)
+
 pub numbers-left : (numbers : Numbers) (journal : Journal) (moment place : ℕ) (kind : EventKind) → OpensNone kind → place ≡ length journal → KeepsNumbers numbers journal → KeepsNumbers numbers (with_event journal (record { moment = moment; kind = kind }))
 numbers-left numbers journal moment place kind none at kept =
     numbers-taken numbers numbers journal moment place kind kind refl at
     (same-number (calendar_in kind) numbers.calendars none.calendar)
-    (sym (append-nil numbers.classes.items) ∙ ap (λ (found : Option ClassForm). numbers.classes.items ++ cond (is_some found) (place ∷ []) []) (sym none.class))
-    (same-number (dealer_in kind) numbers.dealers none.dealer)
+    (no-place (class_in kind) numbers.classes.items place none.class)
+    (no-place (dealer_in kind) numbers.dealers.items place none.dealer)
     (same-number (household_in kind) numbers.households none.household)
     kept

@@ -5,7 +5,7 @@ use Rattle.std.proofs.lemmas.List.Elements.{filter-append}
 use Rattle.agent_events.specs.Events.{Event}
 use Rattle.agent_events.specs.declared.event.EventKind.{EventKind}
 use Rattle.agent_events.specs.declared.order.OrderRow.{OrderRow}
-use Rattle.order_book.specs.Trials.{TrialFits, row_after, row_begun, row_on_trial, standing_of, with_trial}
+use Rattle.order_book.specs.Trials.{TrialFits, row_after, row_begun, row_on_trial, with_trial}
 use Rattle.register_laws.proofs.OrdersGoOn.{orders_go_on}
 use Rattle.register_laws.specs.OneEventMore.{orders_after}
 use Rattle.register_machine.specs.journal.Journals.{Journal}
@@ -24,7 +24,7 @@ trial-by-row journal None fits = sym (append-nil (map (λ (row : OrderRow). row)
 trial-by-row journal (Some event) fits = orders_go_on journal event fits.untouched ∙ after-by-row (length journal) (orders_of journal) event.kind
 
 -- the standing ones: those among the rows as they are left, and the one that is begun
-pub standing-by-row : (journal : Journal) (trial : Option Event) → TrialFits journal trial → standing_of (with_trial journal trial) ≡ filter stands (map (row_on_trial trial) (orders_of journal)) ++ filter stands (option_to_list (row_begun (length journal) trial))
+pub standing-by-row : (journal : Journal) (trial : Option Event) → TrialFits journal trial → filter stands (orders_of (with_trial journal trial)) ≡ filter stands (map (row_on_trial trial) (orders_of journal)) ++ filter stands (option_to_list (row_begun (length journal) trial))
 standing-by-row journal trial fits =
     ap (filter stands) (trial-by-row journal trial fits)
     ∙ filter-append stands (map (row_on_trial trial) (orders_of journal)) (option_to_list (row_begun (length journal) trial))

@@ -34,7 +34,6 @@ pub record HasAllRoom (indexes : Indexes) (events : ℕ) : Type 0 where
 -- none of the counts is as high as the number of events that a journal may have
 pub record CountsAreLow (indexes : Indexes) : Type 0 where
   pub calendars : indexes.numbers.calendars < 100000000
-  pub dealers : indexes.numbers.dealers < 100000000
   pub households : indexes.numbers.households < 100000000
   pub orders : (account : ℕ) → count_of indexes.order_counts account < 100000000
   pub accounts : (household : ℕ) → count_of indexes.account_counts household < 100000000

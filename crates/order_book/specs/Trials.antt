@@ -1,12 +1,12 @@
 -- The orders with an event on trial behind the journal.
-use Rattle.std.specs.Prelude.{List, None, Option, Some, filter, ℕ}
+use Rattle.std.specs.Prelude.{None, Option, Some, ℕ}
 use Rattle.agent_events.specs.Events.{Event}
 use Rattle.agent_events.specs.declared.event.EventKind.{EventKind}
 use Rattle.agent_events.specs.declared.order.OrderRow.{OrderRow}
 use Rattle.order_book.specs.Books.{Fits}
 use Rattle.register_laws.specs.OneEventMore.{replaced_by, struck_by}
 use Rattle.register_machine.specs.journal.Journals.{Journal, with_event}
-use Rattle.register_machine.specs.pricing.CorrectedOrders.{order_begun, orders_of, stands}
+use Rattle.register_machine.specs.pricing.CorrectedOrders.{order_begun}
 
 -- the journal with the event on trial, where there is one
 abbrev pub with_trial : Journal → Option Event → Journal
@@ -32,7 +32,3 @@ row_on_trial (Some event) row = row_after event.kind row
 abbrev pub row_begun : ℕ → Option Event → Option OrderRow
 row_begun place None = None
 row_begun place (Some event) = order_begun place event.kind
-
--- the orders that aren't struck, by place
-abbrev pub standing_of : Journal → List OrderRow
-standing_of journal = filter stands (orders_of journal)

@@ -19,7 +19,7 @@ use crate::kinds::{class_in, dealer_in, household_in};
 use crate::order_index::OrderName;
 use crate::rates::RateName;
 use crate::room::{item_at, push_event};
-use agent_events::{ClassForm, Event, OrderRow};
+use agent_events::{ClassForm, DealerForm, Event, OrderRow};
 use money_units::{Moment, NoMemory};
 use std::alloc::Global;
 use std::marker::Model;
@@ -164,7 +164,17 @@ impl OrderBook {
     pub fn dealers(&self) -> usize
         ensures { result ≡ length (dealers_of self.now.journal) }
     {
-        self.indexes.numbers.dealers()
+        self.indexes.numbers.dealers().len()
+    }
+
+    /// The dealers in the order of their registration, from 0; `None` exactly past the last.
+    pub fn dealer_at(&self, index: usize) -> Option<&DealerForm>
+        ensures { option_copied result ≡ slice_get (dealers_of self.now.journal) index }
+    {
+        match item_at(self.indexes.numbers.dealers(), index) {
+            Some(place) => dealer_of(item_at(self.events.as_slice(), *place)),
+            None => None,
+        }
     }
 
     /// How many households there are.
@@ -189,7 +199,7 @@ impl OrderBook {
         ensures { result ≡ dealer_with_key self.now.journal key.now }
     {
         match self.indexes.dealer_keys.place(key) {
-            Some(place) => dealer_of(item_at(self.events.as_slice(), place)),
+            Some(place) => dealer_number(item_at(self.events.as_slice(), place)),
             None => None,
         }
     }
@@ -300,15 +310,22 @@ fn household_of(event: Option<&Event>) -> Option<u32>
     }
 }
 
-fn dealer_of(event: Option<&Event>) -> Option<u32>
+fn dealer_of(event: Option<&Event>) -> Option<&DealerForm>
+    ensures { option_copied result
+        ≡ option_and_then (λ event. dealer_in event.kind) (option_copied event.entry) }
+{
+    match event {
+        Some(event) => dealer_in(event.kind()),
+        None => None,
+    }
+}
+
+fn dealer_number(event: Option<&Event>) -> Option<u32>
     ensures { result ≡ option_map (λ form. form.dealer)
         (option_and_then (λ event. dealer_in event.kind) (option_copied event.entry)) }
 {
-    match event {
-        Some(event) => match dealer_in(event.kind()) {
-            Some(form) => Some(form.dealer.number()),
-            None => None,
-        },
+    match dealer_of(event) {
+        Some(form) => Some(form.dealer.number()),
         None => None,
     }
 }

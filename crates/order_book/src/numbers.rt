@@ -1,4 +1,4 @@
-//! How many calendars, classes, dealers and households there are.
+//! How many calendars and households there are, and where classes and dealers are opened.
 ghost use Rattle.std.specs.Prelude.{◌≡◌, ◌≤◌, ◌<◌, ◌+◌, ℕ, [], OnOk, length};
 ghost use Rattle.order_book.specs.Numbers.{KeepsNumbers, HasNumberRoom};
 ghost use Rattle.register_machine.specs.journal.Journals.{Journal, with_event};
@@ -8,12 +8,12 @@ use agent_events::EventKind;
 use money_units::NoMemory;
 use std::alloc::Global;
 
-/// The numbers of calendars, dealers and households, and the places of the events that open classes.
+/// The numbers of calendars and households, and the places of the events that open classes and of those that register dealers.
 #[derive(Drop)]
 pub struct Numbers {
     calendars: usize,
     classes: Vec<usize>,
-    dealers: usize,
+    dealers: Vec<usize>,
     households: usize,
 }
 
@@ -24,7 +24,7 @@ impl Numbers {
         Numbers {
             calendars: 0,
             classes: Vec::new(alloc),
-            dealers: 0,
+            dealers: Vec::new(alloc),
             households: 0,
         }
     }
@@ -33,12 +33,6 @@ impl Numbers {
         ensures { result ≡ self.now.calendars }
     {
         self.calendars
-    }
-
-    pub fn dealers(&self) -> usize
-        ensures { result ≡ self.now.dealers }
-    {
-        self.dealers
     }
 
     pub fn households(&self) -> usize
@@ -54,6 +48,13 @@ impl Numbers {
         self.classes.as_slice()
     }
 
+    /// The places of the events that register dealers, in order.
+    pub fn dealers(&self) -> &[usize]
+        ensures { result.now ≡ self.now.dealers.items }
+    {
+        self.dealers.as_slice()
+    }
+
     /// Takes the memory for so many events.
     pub fn reserve(&mut self, events: usize) -> Result<(), NoMemory>
         ensures same { (journal : Journal) → KeepsNumbers self.old journal
@@ -62,6 +63,7 @@ impl Numbers {
         ensures kept { (n : ℕ) → HasNumberRoom self.old n → HasNumberRoom self.new n }
     {
         self.classes.reserve(events)?;
+        self.dealers.reserve(events)?;
         Ok(())
     }
 
@@ -69,7 +71,6 @@ impl Numbers {
     pub fn take(&mut self, kind: &EventKind, place: usize)
         requires room { HasNumberRoom self.old 1 }
         requires calendars { self.old.calendars < 100000000 }
-        requires dealers { self.old.dealers < 100000000 }
         requires households { self.old.households < 100000000 }
         ensures kept { (journal : Journal) (moment : ℕ) → place ≡ length journal
             → KeepsNumbers self.old journal
@@ -80,7 +81,7 @@ impl Numbers {
         match kind {
             EventKind::Calendar(_) => self.calendars += 1,
             EventKind::Class(_) => push_within(&mut self.classes, &place),
-            EventKind::Dealer(_) => self.dealers += 1,
+            EventKind::Dealer(_) => push_within(&mut self.dealers, &place),
             EventKind::Household(_) => self.households += 1,
             _ => {}
         }

@@ -1,50 +1,12 @@
 //! The orders with an event on trial behind the journal.
-ghost use Rattle.std.specs.Prelude.{◌≡◌, ◌++◌, ◌∷◌, [], filter, option_to_list, IfOk};
+ghost use Rattle.std.specs.Prelude.{◌≡◌};
 ghost use Rattle.std.specs.Option.{option_copied};
-ghost use Rattle.order_book.specs.Trials.{row_after, row_begun, row_on_trial, standing_of, with_trial, TrialFits};
+ghost use Rattle.order_book.specs.Trials.{row_after, row_begun, row_on_trial};
 ghost use Rattle.register_laws.specs.OneEventMore.{replaced_by, struck_by};
-ghost use Rattle.register_machine.specs.pricing.CorrectedOrders.{order_begun, row_as_sent, stands};
+ghost use Rattle.register_machine.specs.pricing.CorrectedOrders.{order_begun, row_as_sent};
 
-use crate::book::OrderBook;
-use agent_events::{EntryForm, Event, EventKind, Identifier, Order, OrderRow, Reference, Standing};
-use money_units::{List, Moment, NoMemory};
-use std::alloc::Global;
-
-impl OrderBook {
-    /// The orders that aren't struck, by place, with an event on trial behind the journal where there is one. It goes over all
-    /// orders; those of one account are walked by `last_order` and `earlier_order`, each with `row_on_trial`.
-    pub fn standing(&self, alloc: Global, trial: Option<&Event>) -> Result<Standing, NoMemory>
-        requires { TrialFits self.now.journal (option_copied trial) }
-        ensures { IfOk result (λ rows. rows
-            ≡ standing_of (with_trial self.now.journal (option_copied trial.entry))) }
-    {
-        let mut standing = List::new(alloc);
-        for row in self.orders() {
-            push_standing(&mut standing, &row_on_trial(trial, row))?;
-        }
-        push_begun(&mut standing, row_begun(trial, self.len()))?;
-        Ok(standing)
-    }
-}
-
-fn push_standing(standing: &mut Standing, row: &OrderRow) -> Result<(), NoMemory>
-    ensures { IfOk result (λ _. standing.new ≡ standing.old ++ filter stands (row.now ∷ [])) }
-{
-    if !row.struck {
-        standing.push_copy(row)?;
-    }
-    Ok(())
-}
-
-fn push_begun(standing: &mut Standing, begun: Option<OrderRow>) -> Result<(), NoMemory>
-    ensures { IfOk result (λ _. standing.new
-        ≡ standing.old ++ filter stands (option_to_list begun)) }
-{
-    match begun {
-        Some(row) => push_standing(standing, &row),
-        None => Ok(()),
-    }
-}
+use agent_events::{EntryForm, Event, EventKind, Identifier, Order, OrderRow, Reference};
+use money_units::Moment;
 
 /// An order as an event on trial leaves it.
 pub fn row_on_trial(trial: Option<&Event>, row: &OrderRow) -> OrderRow

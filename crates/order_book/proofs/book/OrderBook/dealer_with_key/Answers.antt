@@ -13,7 +13,7 @@ use Rattle.order_book.proofs.book.OrderBook.dealer_with_key.Goals as goal
 
 pub returns-in-Some : goal.returns-in-Some
 returns-in-Some c =
-    c.dealer_of.ensures
+    c.dealer_number.ensures
     ∙ (ap (λ found. option_map (λ (form : DealerForm). form.dealer) (option_and_then (λ (event : Event). dealer_in event.kind) found)) (c.item_at.ensures ∙ ap (λ (es : List Event). slice_get es c.in-Some.place) c.as_slice.ensures.value)
     ∙ sym (dealer-key-found c.args.self.now.journal c.args.key.now
     ∙ ap (λ found. option_map (λ (form : DealerForm). form.dealer) (option_and_then (λ (event : Event). dealer_in event.kind) found)) (got-key dealer_key_in c.self.inside.indexes.dealer_keys c.self.inside.events.items c.args.self.now.journal c.args.key.now c.place.result
