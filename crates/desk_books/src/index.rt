@@ -96,12 +96,13 @@ pub(crate) fn apply_orders(
         OrderChange::Nothing => {}
         OrderChange::Begins(household) => orders.begin(household),
         OrderChange::Enters(household) => {
+            let place = orders.owners().len();
             orders.begin(household);
-            orders.leave(book, prices);
+            orders.settle(book, prices, place);
         }
         OrderChange::Replaces(place) => {
             orders.wait_again(place);
-            orders.leave(book, prices);
+            orders.settle(book, prices, place);
         }
         OrderChange::Priced => orders.leave_taken(book, prices, last_number(prices)),
     }

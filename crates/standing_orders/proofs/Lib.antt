@@ -10,5 +10,6 @@ pub mod PickedRows
 pub mod PricedLast
 pub mod PricedOrders
 pub mod RisingPlaces
+pub mod SettledPlaces
 pub mod SortedEntries
 pub mod WaitingKept

@@ -17,9 +17,9 @@ use Rattle.register_laws.proofs.Comparisons.{eq-yes}
 use Rattle.register_machine.specs.replay.Replay.{is_priced_on, priced_in}
 use Rattle.standing_orders.proofs.PricedOrders.{or-first, or-second}
 use Rattle.standing_orders.specs.Entries.{is_priced}
-use Rattle.standing_orders.specs.Places.{is_among, passes_at}
+use Rattle.standing_orders.specs.Places.{is_among, is_other_or_passes, passes_at}
 use Rattle.standing_orders.specs.Rows.{could_price, is_settled, is_taken, is_within, sheet_number, stays, waits}
-use Rattle.standing_orders.specs.WaitingLaws.{AllLeftWait, IsNumbered, LastLeaves, LastTakes, PricedAfterWaiting}
+use Rattle.standing_orders.specs.WaitingLaws.{AllLeftWait, AllSettledWait, IsNumbered, LastLeaves, LastTakes, PricedAfterWaiting}
 
 not-earlier : (a b : Sheet) → b.moment ≤ a.moment → is_earlier a b ≡ false
 not-earlier a b le = by_test (is_earlier a b) refl
@@ -178,3 +178,29 @@ pub all_left_wait : (sheets : List Sheet) (rows : List OrderRow) (places : List 
 all_left_wait sheets rows places place row there among standing =
     sym (ap (λ (found : Option OrderRow). option_map_or (waits sheets) found false) there)
     ∙ filtered-passes (passes_at (waits sheets) rows) place places among
+
+-- ---- what stays once one is settled
+
+among-unfiltered : (test : ℕ → Bool) (k : ℕ) (xs : List ℕ) → is_among (filter test xs) k ≡ true → is_among xs k ≡ true
+among-unfiltered test k [] is = is
+among-unfiltered test k (x ∷ xs) is = by_test (test x) is (among-unfiltered test k xs)
+  where
+    by_same : (same : Bool) → (same || is_among (filter test xs) k) ≡ true → (is_among (filter test xs) k ≡ true → is_among xs k ≡ true) → (same || is_among xs k) ≡ true
+    by_same true h later = refl
+    by_same false h later = later h
+
+    by_test : (b : Bool) → is_among (cond b (x ∷ filter test xs) (filter test xs)) k ≡ true → (is_among (filter test xs) k ≡ true → is_among xs k ≡ true) → is_among (x ∷ xs) k ≡ true
+    by_test true h later = by_same (k == x) h later
+    by_test false h later = or-second (k == x) (is_among xs k) (later h)
+
+pub all_settled_wait : (sheets : List Sheet) (rows : List OrderRow) (place : ℕ) (places : List ℕ) → AllSettledWait sheets rows place places
+all_settled_wait sheets rows place places others k row there among standing = by_place (k == place) refl
+  where
+    by_place : (b : Bool) → (k == place) ≡ b → waits sheets row ≡ true
+    by_place true e =
+        sym (ap (λ (found : Option OrderRow). option_map_or (waits sheets) found false) there)
+        ∙ (sym (ap (λ is. not is || passes_at (waits sheets) rows k) e)
+        ∙ filtered-passes (is_other_or_passes (waits sheets) rows place) k places among)
+    by_place false e =
+        others k row (λ same. false≢true (sym e ∙ eq-yes k place same)) there
+        (among-unfiltered (is_other_or_passes (waits sheets) rows place) k places among) standing

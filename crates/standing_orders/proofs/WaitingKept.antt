@@ -1,17 +1,17 @@
 -- What keeps the households and the waiting places.
-use Rattle.std.proofs.Common.{Bool, List, None, Option, Some, [], ap, arith, cond, false, filter, find, length, map, nat_lt, option_map, refl, subst, suc, sym, true, zero, ℕ, ◌++◌, ◌==◌, ◌∙◌, ◌∷◌, ◌≡◌, ◌||◌, ◌⊎◌, inl, inr}
+use Rattle.std.proofs.Common.{Bool, List, None, Option, Some, [], ap, arith, cond, false, filter, find, length, map, nat_lt, not, option_map, refl, subst, suc, sym, true, zero, ℕ, ◌++◌, ◌==◌, ◌∙◌, ◌∷◌, ◌≡◌, ◌≢◌, ◌||◌, ◌⊎◌, inl, inr}
 use Rattle.std.proofs.lemmas.Bool.{eqb-true, ltb-false, true≢false}
 use Rattle.std.proofs.lemmas.List.{map-append}
 use Rattle.std.specs.List.{slice_get}
 use Rattle.std.specs.Option.{option_map_or}
 use Rattle.agent_events.specs.declared.order.OrderRow.{OrderRow}
 use Rattle.agent_events.specs.declared.request.AccountForm.{AccountForm}
-use Rattle.register_laws.proofs.Comparisons.{eq-yes}
+use Rattle.register_laws.proofs.Comparisons.{eq-no, eq-yes}
 use Rattle.register_machine.specs.journal.Kinds.{account_numbered, household_of}
 use Rattle.standing_orders.proofs.InTurn.{head-same, tail-same}
 use Rattle.standing_orders.proofs.PricedOrders.{or-first, or-second}
-use Rattle.standing_orders.specs.Places.{is_among, passes_at, with_place}
-use Rattle.standing_orders.specs.WaitingLaws.{AnotherWaits, OneMoreOwned, OneMoreWaits, OthersLeave, OwnedWhenChanged, OwnedWithAccount, StillWaits}
+use Rattle.standing_orders.specs.Places.{is_among, is_other_or_passes, passes_at, with_place}
+use Rattle.standing_orders.specs.WaitingLaws.{AnotherWaits, OneIsSettled, OneMoreOwned, OneMoreWaits, OthersLeave, OwnedWhenChanged, OwnedWithAccount, StillWaits}
 
 -- ---- households
 
@@ -122,6 +122,16 @@ place-among place (x ∷ xs) = by_less (nat_lt x place) refl (nat_lt place x) re
         let high = ltb-false place x f in
         or-first (place == x) (is_among xs place) (eq-yes place x (omega (arith, low, high)))
 
+-- the others were there before
+pub among-others : (place k : ℕ) (xs : List ℕ) → k ≢ place → is_among (with_place place xs) k ≡ true → is_among xs k ≡ true
+among-others place k [] apart is = sym (ap (λ own. own || false) (eq-no k place apart)) ∙ is
+among-others place k (x ∷ xs) apart is = by_less (nat_lt x place) (nat_lt place x) is (among-others place k xs apart)
+  where
+    by_less : (less more : Bool) → is_among (cond less (x ∷ with_place place xs) (cond more (place ∷ x ∷ xs) (x ∷ xs))) k ≡ true → (is_among (with_place place xs) k ≡ true → is_among xs k ≡ true) → is_among (x ∷ xs) k ≡ true
+    by_less true more h later = or-either (k == x) (is_among (with_place place xs) k) (is_among xs k) h later
+    by_less false true h later = sym (ap (λ own. own || is_among (x ∷ xs) k) (eq-no k place apart)) ∙ h
+    by_less false false h later = h
+
 pub another_waits : (test : OrderRow → Bool) (rows changed : List OrderRow) (places : List ℕ) (place : ℕ) → AnotherWaits test rows changed places place
 another_waits test rows changed places place others each k row there passes = by_place (k == place) refl
   where
@@ -149,3 +159,8 @@ pub others_leave : (test : OrderRow → Bool) (rows : List OrderRow) (places : L
 others_leave test rows places each place row there passes =
     among-filter (passes_at test rows) place places (each place row there passes)
     (ap (λ (found : Option OrderRow). option_map_or test found false) there ∙ passes)
+
+pub one_is_settled : (test : OrderRow → Bool) (rows : List OrderRow) (places : List ℕ) (place : ℕ) → OneIsSettled test rows places place
+one_is_settled test rows places place each k row there passes =
+    among-filter (is_other_or_passes test rows place) k places (each k row there passes)
+    (or-second (not (k == place)) (passes_at test rows k) (ap (λ (found : Option OrderRow). option_map_or test found false) there ∙ passes))

@@ -1,7 +1,7 @@
 -- Places in a list.
 use Rattle.std.specs.List.{list_any, slice_get}
 use Rattle.std.specs.Option.{option_map_or}
-use Rattle.std.specs.Prelude.{Bool, List, Option, [], ℕ, ◌++◌, ◌+◌, ◌∷◌, ◌≤◌, false, filter, if◌then◌else◌, nat_eq, nat_le, nat_lt, option_and_then, suc}
+use Rattle.std.specs.Prelude.{Bool, List, Option, [], ℕ, ◌++◌, ◌+◌, ◌∷◌, ◌≤◌, false, filter, if◌then◌else◌, nat_eq, nat_le, nat_lt, not, option_and_then, suc, ◌==◌, ◌||◌}
 use Rattle.register_machine.specs.journal.Choices.{when}
 
 -- the places, from a place on, at which something passes
@@ -38,3 +38,15 @@ with_place place (other ∷ places) =
     if nat_lt other place then other ∷ with_place place places
     else if nat_lt place other then place ∷ other ∷ places
     else other ∷ places
+
+-- the place is another one than this, or what stands there passes
+abbrev pub is_other_or_passes : {X : Type 0} → (X → Bool) → List X → ℕ → ℕ → Bool
+is_other_or_passes test xs place other = not (other == place) || passes_at test xs other
+
+-- places of which one is settled: it stays only where it passes, and every other one stays
+abbrev pub with_settled : {X : Type 0} → (X → Bool) → List X → ℕ → List ℕ → List ℕ
+with_settled test xs place places = filter (is_other_or_passes test xs place) places
+
+-- places without this one
+abbrev pub without_place : ℕ → List ℕ → List ℕ
+without_place place places = filter (λ other. not (other == place)) places

@@ -9,7 +9,7 @@ use Rattle.register_machine.specs.journal.Kinds.{household_of}
 use Rattle.register_machine.specs.pricing.CorrectedOrders.{stands}
 use Rattle.register_machine.specs.pricing.OrderClasses.{classes_in}
 use Rattle.standing_orders.specs.Entries.{is_priced}
-use Rattle.standing_orders.specs.Places.{is_among, passes_at, with_place}
+use Rattle.standing_orders.specs.Places.{is_among, passes_at, with_place, with_settled}
 use Rattle.standing_orders.specs.Priced.{TakesWhatItPrices}
 use Rattle.standing_orders.specs.Rows.{AreOwners, HasEach, stays, waits}
 
@@ -59,6 +59,10 @@ StillWaits test now rows changed places =
 abbrev pub OthersLeave : (OrderRow → Bool) → List OrderRow → List ℕ → Type 0
 OthersLeave test rows places = HasEach test rows places → HasEach test rows (filter (passes_at test rows) places)
 
+-- one that is settled leaves unless it waits
+abbrev pub OneIsSettled : (OrderRow → Bool) → List OrderRow → List ℕ → ℕ → Type 0
+OneIsSettled test rows places place = HasEach test rows places → HasEach test rows (with_settled test rows place places)
+
 -- ---- What a sheet prices that is published behind the others.
 
 -- no sheet before that prices the order has its number, or is later
@@ -80,6 +84,12 @@ AllWait sheets rows places =
     (place : ℕ) (row : OrderRow) → slice_get rows place ≡ Some row → is_among places place ≡ true → stands row ≡ true
     → waits sheets row ≡ true
 
+-- each of the other places is
+abbrev pub AllOthersWait : List Sheet → List OrderRow → ℕ → List ℕ → Type 0
+AllOthersWait sheets rows place places =
+    (other : ℕ) (row : OrderRow) → other ≢ place → slice_get rows other ≡ Some row → is_among places other ≡ true
+    → stands row ≡ true → waits sheets row ≡ true
+
 -- the sheet is published behind the others, under a number of its own
 abbrev pub IsNumbered : List Sheet → Sheet → Type 0
 IsNumbered sheets last = sheet_numbered (sheets ++ last ∷ []) last.number ≡ Some last
@@ -100,3 +110,8 @@ LastLeaves rows sheets last places =
 -- what is left of any places by that test all waits
 abbrev pub AllLeftWait : List Sheet → List OrderRow → List ℕ → Type 0
 AllLeftWait sheets rows places = AllWait sheets rows (filter (passes_at (waits sheets) rows) places)
+
+-- where all others wait, all wait once that one is settled
+abbrev pub AllSettledWait : List Sheet → List OrderRow → ℕ → List ℕ → Type 0
+AllSettledWait sheets rows place places =
+    AllOthersWait sheets rows place places → AllWait sheets rows (with_settled (waits sheets) rows place places)

@@ -2,11 +2,11 @@
 ghost use Rattle.std.specs.Prelude.{◌≡◌, ◌≤◌, ◌<◌, ◌-◌, ◌+◌, ◌++◌, ◌∷◌, [], ℕ, Some, IfOk, OnOk, filter, length, slice_get, take, vec_capacity};
 ghost use Rattle.order_book.specs.LastPlaces.{last_place};
 ghost use Rattle.register_machine.specs.pricing.CorrectedOrders.{orders_of};
-ghost use Rattle.standing_orders.specs.Places.{passes_at, with_place, RisesWithin};
+ghost use Rattle.standing_orders.specs.Places.{passes_at, with_place, with_settled, RisesWithin};
 ghost use Rattle.standing_orders.specs.Rows.{is_owner, stays, waits};
 
 use crate::chains::Chains;
-use crate::waiting::{keep_staying, keep_waiting, put_among};
+use crate::waiting::{keep_staying, put_among, settle_among};
 use forward_price::PriceBook;
 use money_units::NoMemory;
 use order_book::OrderBook;
@@ -130,16 +130,16 @@ impl HouseholdOrders {
         keep_staying(&mut self.waiting, book, prices, sheet);
     }
 
-    /// Lets the orders go that are struck or that any sheet prices, among those that wait alone: as after an order was entered
-    /// or replaced. It takes no memory.
-    pub fn leave(&mut self, book: &OrderBook, prices: &PriceBook)
+    /// Settles the order at a place, as after it was entered or replaced: it waits on only where it stands and no sheet prices
+    /// it, and the others are left as they are. It looks at no other order and takes no memory.
+    pub fn settle(&mut self, book: &OrderBook, prices: &PriceBook, place: usize)
         ensures owners { self.new.owners ≡ self.old.owners }
         ensures waiting { self.new.waiting
-            ≡ filter (passes_at (waits prices.now.table.sheets) (orders_of book.now.journal))
+            ≡ with_settled (waits prices.now.table.sheets) (orders_of book.now.journal) place
             self.old.waiting }
         ensures spare { self.new.spare ≡ self.old.spare }
     {
-        keep_waiting(&mut self.waiting, book, prices);
+        settle_among(&mut self.waiting, book, prices, place);
     }
 }
 

@@ -3,7 +3,7 @@ ghost use Rattle.std.specs.Prelude.{Bool, List, ℕ};
 ghost use Rattle.agent_events.specs.declared.order.OrderRow.{OrderRow as Row};
 ghost use Rattle.agent_events.specs.declared.request.AccountForm.{AccountForm as Form};
 ghost use Rattle.forward_price.specs.declared.price_sheet.Sheet.{Sheet};
-ghost use Rattle.standing_orders.specs.WaitingLaws.{AllLeftWait, AnotherWaits, LastLeaves, LastTakes, OneMoreOwned, OneMoreWaits, OthersLeave, OwnedWhenChanged, OwnedWithAccount, PricedAfterWaiting, StillWaits};
+ghost use Rattle.standing_orders.specs.WaitingLaws.{AllLeftWait, AllSettledWait, AnotherWaits, LastLeaves, LastTakes, OneIsSettled, OneMoreOwned, OneMoreWaits, OthersLeave, OwnedWhenChanged, OwnedWithAccount, PricedAfterWaiting, StillWaits};
 
 /// The households stay those of the rows with an order more, with an account more, and where orders keep their accounts.
 #[tactic(auto, using(crate::proofs::WaitingKept::one_more_owned, crate::proofs::WaitingKept::owned_with_account, crate::proofs::WaitingKept::owned_when_changed))]
@@ -17,8 +17,8 @@ pub fn households_are_kept()
 {}
 
 /// Every order that waits stays among the waiting with an order more, with another that waits again, where what passes passed
-/// before, and where the others leave.
-#[tactic(auto, using(crate::proofs::WaitingKept::still_waits, crate::proofs::WaitingKept::others_leave))]
+/// before, where the others leave, and where one is settled.
+#[tactic(auto, using(crate::proofs::WaitingKept::still_waits, crate::proofs::WaitingKept::others_leave, crate::proofs::WaitingKept::one_is_settled))]
 pub fn waiting_orders_are_kept()
     ensures order { (test : Row → Bool) (rows : List Row) (places : List ℕ) (row : Row)
         → OneMoreWaits test rows places row }
@@ -28,6 +28,8 @@ pub fn waiting_orders_are_kept()
         → StillWaits test now rows changed places }
     ensures leave { (test : Row → Bool) (rows : List Row) (places : List ℕ)
         → OthersLeave test rows places }
+    ensures settled { (test : Row → Bool) (rows : List Row) (places : List ℕ) (place : ℕ)
+        → OneIsSettled test rows places place }
 {}
 
 /// What a sheet prices that is published behind the others has waited until then, where no sheet before that prices it is later.
@@ -38,7 +40,7 @@ pub fn priced_orders_have_waited()
 {}
 
 /// Where every order that waits waits for the last sheet, that sheet takes what it prices, and those that stay are those that
-/// wait on; and what is left by the test of all sheets all waits.
+/// wait on; what is left by the test of all sheets all waits, and so do all where the others waited before one was settled.
 pub fn last_sheet_takes_what_waits()
     ensures takes { (rows : List Row) (sheets : List Sheet) (last : Sheet) (places : List ℕ)
         → LastTakes rows sheets last places }
@@ -46,4 +48,6 @@ pub fn last_sheet_takes_what_waits()
         → LastLeaves rows sheets last places }
     ensures left { (sheets : List Sheet) (rows : List Row) (places : List ℕ)
         → AllLeftWait sheets rows places }
+    ensures settled { (sheets : List Sheet) (rows : List Row) (place : ℕ) (places : List ℕ)
+        → AllSettledWait sheets rows place places }
 {}

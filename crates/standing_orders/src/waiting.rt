@@ -1,7 +1,7 @@
 //! The places of the orders that wait, rising.
 ghost use Rattle.std.specs.Prelude.{◌≡◌, ◌≤◌, ◌<◌, filter, vec_capacity};
 ghost use Rattle.register_machine.specs.pricing.CorrectedOrders.{orders_of};
-ghost use Rattle.standing_orders.specs.Places.{passes_at, with_place, RisesWithin};
+ghost use Rattle.standing_orders.specs.Places.{passes_at, with_place, with_settled, without_place, RisesWithin};
 ghost use Rattle.standing_orders.specs.Rows.{stays, waits};
 
 use crate::row_sheet::{row_stays, row_waits};
@@ -26,14 +26,37 @@ pub(crate) fn put_among(places: &mut Vec<usize>, place: usize)
     }
 }
 
-/// Keeps the places of the orders that still stand and that no sheet prices, where they are.
-pub(crate) fn keep_waiting(places: &mut Vec<usize>, book: &OrderBook, prices: &PriceBook)
+/// Keeps a place only where its order still stands and no sheet prices it, and every other place: it looks at this order alone.
+pub(crate) fn settle_among(
+    places: &mut Vec<usize>,
+    book: &OrderBook,
+    prices: &PriceBook,
+    place: usize,
+)
+    requires { RisesWithin 0 (vec_capacity places.old) places.old.items }
     ensures items { places.new.items
-        ≡ filter (passes_at (waits prices.now.table.sheets) (orders_of book.now.journal))
+        ≡ with_settled (waits prices.now.table.sheets) (orders_of book.now.journal) place
         places.old.items }
     ensures capacity { vec_capacity places.new ≡ vec_capacity places.old }
 {
-    places.retain(|place| waits_at(book, prices, *place));
+    if !waits_at(book, prices, place) {
+        take_out(places, place);
+    }
+}
+
+// Takes a place out from among the others, where it is there: no memory.
+fn take_out(places: &mut Vec<usize>, place: usize)
+    requires { RisesWithin 0 (vec_capacity places.old) places.old.items }
+    ensures items { places.new.items ≡ without_place place places.old.items }
+    ensures capacity { vec_capacity places.new ≡ vec_capacity places.old }
+{
+    let found: Result<_, _> = places.as_slice().binary_search(&place);
+    match found {
+        Ok(at) => {
+            places.remove(at);
+        }
+        Err(_) => {}
+    }
 }
 
 /// Keeps the places of the orders that still stand and that one sheet couldn't price, where they are.

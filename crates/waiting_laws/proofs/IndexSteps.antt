@@ -36,13 +36,13 @@ use Rattle.register_machine.specs.pricing.CorrectedPrices.{sheet_as_corrected}
 use Rattle.register_machine.specs.pricing.OrderClasses.{classes_in}
 use Rattle.register_machine.specs.replay.Replay.{Priced}
 use Rattle.standing_orders.proofs.OwnOrders.{account-replaced}
-use Rattle.standing_orders.proofs.PricedLast.{all_left_wait, last_leaves}
+use Rattle.standing_orders.proofs.PricedLast.{all_left_wait, all_settled_wait, last_leaves}
 use Rattle.standing_orders.proofs.RisingPlaces.{rises-behind, rises-filter, rises-with}
-use Rattle.standing_orders.proofs.WaitingKept.{another_waits, one_more_owned, one_more_waits, others_leave, owned_when_changed, owned_with_account, still_waits}
-use Rattle.standing_orders.specs.Places.{RisesWithin, is_among, passes_at, with_place}
+use Rattle.standing_orders.proofs.WaitingKept.{among-others, another_waits, one_is_settled, one_more_owned, one_more_waits, others_leave, owned_when_changed, owned_with_account, still_waits}
+use Rattle.standing_orders.specs.Places.{RisesWithin, is_among, is_other_or_passes, passes_at, with_place}
 use Rattle.standing_orders.specs.Rows.{AreOwners, HasEach, sheet_number, stays, waits}
-use Rattle.standing_orders.specs.WaitingLaws.{AllWait, IsNumbered}
-use Rattle.waiting_laws.specs.IndexOfJournals.{IsIndexOf, LawfulBeginsOrder, LawfulEntersOrder, LawfulLeavesIndex, LawfulReplacesOrder, LawfulSheetTakes, left_waiting, leaves_index, sheets_of}
+use Rattle.standing_orders.specs.WaitingLaws.{AllOthersWait, AllWait, IsNumbered}
+use Rattle.waiting_laws.specs.IndexOfJournals.{IsIndexOf, LawfulBeginsOrder, LawfulEntersOrder, LawfulLeavesIndex, LawfulReplacesOrder, LawfulSheetTakes, leaves_index, settled_waiting, sheets_of}
 
 -- the index over plain lists
 pub record Keeps (accounts : List AccountForm) (sheets : List Sheet) (rows : List OrderRow) (owners waiting : List ℕ) : Type 0 where
@@ -162,6 +162,10 @@ leaves_the_index journal event owners waiting lawful plain is =
 
 -- ---- what an index is, once those that don't wait have left
 
+-- those of some places that wait in a journal
+abbrev left_waiting : Journal → List ℕ → List ℕ
+left_waiting journal waiting = filter (passes_at (waits (sheets_of journal)) (orders_of journal)) waiting
+
 left-index : (journal : Journal) (owners waiting : List ℕ) → AreOwners (accounts_of journal) (orders_of journal) owners → RisesWithin 0 (length owners) waiting → HasEach (waits (sheets_of journal)) (orders_of journal) waiting → IsIndexOf journal owners (left_waiting journal waiting)
 left-index journal owners waiting owned within enough = record {
   owned = owned;
@@ -180,6 +184,30 @@ left-behind journal event lawful kind is owners waiting owned within enough =
     within
     (subst (λ s. HasEach (waits s) (orders_of (with_event journal event)) waiting) (sym (sheets-behind journal event lawful kind is))
     (subst (λ r. HasEach (waits (corrected_table_by (corrected_table journal) event.moment kind).sheets) r waiting) rows enough))
+
+-- ---- and once one order is settled, where all others wait
+
+settled-index : (journal : Journal) (place : ℕ) (owners waiting : List ℕ) → AreOwners (accounts_of journal) (orders_of journal) owners → RisesWithin 0 (length owners) waiting → HasEach (waits (sheets_of journal)) (orders_of journal) waiting → AllOthersWait (sheets_of journal) (orders_of journal) place waiting → IsIndexOf journal owners (settled_waiting journal place waiting)
+settled-index journal place owners waiting owned within enough others = record {
+  owned = owned;
+  within = rises-filter (is_other_or_passes (waits (sheets_of journal)) (orders_of journal) place) 0 (length owners) waiting within;
+  enough = one_is_settled (waits (sheets_of journal)) (orders_of journal) waiting place enough;
+  all_wait = all_settled_wait (sheets_of journal) (orders_of journal) place waiting others;
+}
+
+-- behind an event of a kind
+settled-behind : (journal : Journal) (event : Event) (lawful : IsLawful (with_event journal event)) (kind : EventKind) → event.kind ≡ kind → (place : ℕ) (owners waiting : List ℕ) → AreOwners (accounts_of journal ++ option_to_list (account_in kind)) (orders_after (length journal) (orders_of journal) kind) owners → RisesWithin 0 (length owners) waiting → HasEach (waits (corrected_table_by (corrected_table journal) event.moment kind).sheets) (orders_after (length journal) (orders_of journal) kind) waiting → AllOthersWait (corrected_table_by (corrected_table journal) event.moment kind).sheets (orders_after (length journal) (orders_of journal) kind) place waiting → IsIndexOf (with_event journal event) owners (settled_waiting (with_event journal event) place waiting)
+settled-behind journal event lawful kind is place owners waiting owned within enough others =
+    let rows = sym (rows-behind journal event lawful kind is) in
+    let sheets = sym (sheets-behind journal event lawful kind is) in
+    settled-index (with_event journal event) place owners waiting
+    (subst (λ accounts. AreOwners accounts (orders_of (with_event journal event)) owners) (sym (accounts-behind journal event lawful kind is))
+    (subst (λ r. AreOwners (accounts_of journal ++ option_to_list (account_in kind)) r owners) rows owned))
+    within
+    (subst (λ s. HasEach (waits s) (orders_of (with_event journal event)) waiting) sheets
+    (subst (λ r. HasEach (waits (corrected_table_by (corrected_table journal) event.moment kind).sheets) r waiting) rows enough))
+    (subst (λ s. AllOthersWait s (orders_of (with_event journal event)) place waiting) sheets
+    (subst (λ r. AllOthersWait (corrected_table_by (corrected_table journal) event.moment kind).sheets r place waiting) rows others))
 
 -- where no account is opened
 pub owned-still : (accounts : List AccountForm) (rows : List OrderRow) (owners : List ℕ) → AreOwners accounts rows owners → AreOwners (accounts ++ []) rows owners
@@ -217,6 +245,12 @@ pub more-enough : (sheets : List Sheet) (rows : List OrderRow) (owners waiting :
 more-enough sheets rows owners waiting row many enough =
     subst (λ n. HasEach (waits sheets) (rows ++ row ∷ []) (waiting ++ n ∷ [])) many (one_more_waits (waits sheets) rows waiting row enough)
 
+-- those that waited wait on
+wait-on : (sheets : List Sheet) (rows : List OrderRow) (owners waiting : List ℕ) → length rows ≡ length owners → AllWait sheets rows waiting → (k : ℕ) (found : OrderRow) → slice_get rows k ≡ Some found → is_among (waiting ++ length owners ∷ []) k ≡ true → stands found ≡ true → waits sheets found ≡ true
+wait-on sheets rows owners waiting many all k found there among on =
+    let less = within-list rows k found there in
+    all k found there (among-before waiting (length owners) k (omega (arith, less, many)) among) on
+
 -- one that is placed waits
 pub keeps-placed : (journal : Journal) (event : Event) (placed : Placed) (household : ℕ) (owners waiting : List ℕ) → IsLawful (with_event journal event) → event.kind ≡ EventKind.Order placed → household_of (accounts_of journal) placed.order.account ≡ Some household → IsIndexOf journal owners waiting → Keeps (accounts_of journal ++ []) (sheets_of journal) (orders_of journal ++ row_as_sent (length journal) placed.receipt placed.order ∷ []) (owners ++ household ∷ []) (waiting ++ length owners ∷ [])
 keeps-placed journal event placed household owners waiting lawful kind own is = record {
@@ -239,9 +273,7 @@ keeps-placed journal event placed household owners waiting lawful kind own is = 
 
     all : AllWait (sheets_of journal) (rows ++ row ∷ []) (waiting ++ length owners ∷ [])
     all place found there among on = elim (got-more rows row found place there) [
-      | inl before ↦
-          let less = within-list rows place found before in
-          is.all_wait place found before (among-before waiting (length owners) place (omega (arith, less, many)) among) on
+      | inl before ↦ wait-on (sheets_of journal) rows owners waiting many is.all_wait place found before among on
       | inr last ↦ subst (λ r. waits (sheets_of journal) r ≡ true) last.1 new-waits
     ]
 
@@ -253,13 +285,29 @@ begins_order journal event placed household owners waiting lawful kind own is =
 
 pub enters_order : (journal : Journal) (event : Event) (form : EntryForm) (household : ℕ) (owners waiting : List ℕ) → LawfulEntersOrder journal event form household owners waiting
 enters_order journal event form household owners waiting lawful kind own is =
-    let rows = orders_of journal in
-    let row = row_as_sent (length journal) form.receipt form.order in
-    let now = owners ++ household ∷ [] in
-    left-behind journal event lawful (EventKind.Enter form) kind now (waiting ++ length owners ∷ [])
+    settled-behind journal event lawful (EventKind.Enter form) kind (length owners) now (waiting ++ length owners ∷ [])
     (owned-still (accounts_of journal) (rows ++ row ∷ []) now (one_more_owned (accounts_of journal) rows owners row household own is.owned))
     (rises-more owners waiting household is.within)
-    (more-enough (sheets_of journal) rows owners waiting row (as-many (accounts_of journal) rows owners is.owned) is.enough)
+    (more-enough (sheets_of journal) rows owners waiting row many is.enough)
+    others
+  where
+    rows : List OrderRow
+    rows = orders_of journal
+
+    row : OrderRow
+    row = row_as_sent (length journal) form.receipt form.order
+
+    now : List ℕ
+    now = owners ++ household ∷ []
+
+    many : length rows ≡ length owners
+    many = as-many (accounts_of journal) rows owners is.owned
+
+    others : AllOthersWait (sheets_of journal) (rows ++ row ∷ []) (length owners) (waiting ++ length owners ∷ [])
+    others k found apart there among on = elim (got-more rows row found k there) [
+      | inl before ↦ wait-on (sheets_of journal) rows owners waiting many is.all_wait k found before among on
+      | inr last ↦ absurd (apart (last.0 ∙ many))
+    ]
 
 -- ---- an order that is replaced
 
@@ -324,10 +372,12 @@ replaces_order journal event form place owners waiting lawful kind row there nam
     let rows = orders_of journal in
     let less = within-list rows place row there in
     let many = as-many (accounts_of journal) rows owners is.owned in
-    left-behind journal event lawful (EventKind.Replace form) kind owners (with_place place waiting)
+    let stay = others-stay journal event form place lawful row there named in
+    settled-behind journal event lawful (EventKind.Replace form) kind place owners (with_place place waiting)
     (owned-still (accounts_of journal) (map (replaced_by form) rows) owners (owned_when_changed (accounts_of journal) rows owners (replaced_by form) (account-replaced form) is.owned))
     (rises-with place 0 (length owners) waiting (omega arith) (omega (arith, less, many)) is.within)
-    (another_waits (waits (sheets_of journal)) rows (map (replaced_by form) rows) waiting place (others-stay journal event form place lawful row there named) is.enough)
+    (another_waits (waits (sheets_of journal)) rows (map (replaced_by form) rows) waiting place stay is.enough)
+    (λ k found apart got among on. is.all_wait k found (sym (stay k apart) ∙ got) (among-others place k waiting apart among) on)
 
 -- ---- a sheet
 

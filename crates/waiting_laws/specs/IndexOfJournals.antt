@@ -13,7 +13,7 @@ use Rattle.register_machine.specs.journal.Journals.{Journal, with_event}
 use Rattle.register_machine.specs.journal.Kinds.{accounts_of, household_of}
 use Rattle.register_machine.specs.journal.Lawful.{IsLawful}
 use Rattle.register_machine.specs.pricing.CorrectedOrders.{orders_of, replaces}
-use Rattle.standing_orders.specs.Places.{RisesWithin, passes_at, with_place}
+use Rattle.standing_orders.specs.Places.{RisesWithin, passes_at, with_place, with_settled}
 use Rattle.standing_orders.specs.Rows.{AreOwners, HasEach, stays, waits}
 use Rattle.standing_orders.specs.WaitingLaws.{AllWait}
 
@@ -28,9 +28,9 @@ pub record IsIndexOf (journal : Journal) (owners waiting : List ℕ) : Type 0 wh
   pub enough : HasEach (waits (sheets_of journal)) (orders_of journal) waiting
   pub all_wait : AllWait (sheets_of journal) (orders_of journal) waiting
 
--- those of some places that wait in a journal
-abbrev pub left_waiting : Journal → List ℕ → List ℕ
-left_waiting journal waiting = filter (passes_at (waits (sheets_of journal)) (orders_of journal)) waiting
+-- some places of which one is settled in a journal: it stays only where its order waits
+abbrev pub settled_waiting : Journal → ℕ → List ℕ → List ℕ
+settled_waiting journal place waiting = with_settled (waits (sheets_of journal)) (orders_of journal) place waiting
 
 -- ---- What the index becomes with an event that follows the journal.
 
@@ -54,21 +54,21 @@ LawfulBeginsOrder journal event placed household owners waiting =
     → household_of (accounts_of journal) placed.order.account ≡ Some household → IsIndexOf journal owners waiting
     → IsIndexOf (with_event journal event) (owners ++ household ∷ []) (waiting ++ length owners ∷ [])
 
--- One that is entered comes behind the others; it may have its sheet, so those that wait are told apart.
+-- One that is entered comes behind the others; it may have its sheet, so it alone is settled.
 abbrev pub LawfulEntersOrder : Journal → Event → EntryForm → ℕ → List ℕ → List ℕ → Type 0
 LawfulEntersOrder journal event form household owners waiting =
     IsLawful (with_event journal event) → event.kind ≡ EventKind.Enter form
     → household_of (accounts_of journal) form.order.account ≡ Some household → IsIndexOf journal owners waiting
     → IsIndexOf (with_event journal event) (owners ++ household ∷ [])
-    (left_waiting (with_event journal event) (waiting ++ length owners ∷ []))
+    (settled_waiting (with_event journal event) (length owners) (waiting ++ length owners ∷ []))
 
--- One that is replaced may wait again, in its place.
+-- One that is replaced may wait again, in its place, and it alone is settled.
 abbrev pub LawfulReplacesOrder : Journal → Event → EntryForm → ℕ → List ℕ → List ℕ → Type 0
 LawfulReplacesOrder journal event form place owners waiting =
     IsLawful (with_event journal event) → event.kind ≡ EventKind.Replace form
     → (row : OrderRow) → slice_get (orders_of journal) place ≡ Some row → replaces row.order form ≡ true
     → IsIndexOf journal owners waiting
-    → IsIndexOf (with_event journal event) owners (left_waiting (with_event journal event) (with_place place waiting))
+    → IsIndexOf (with_event journal event) owners (settled_waiting (with_event journal event) place (with_place place waiting))
 
 -- A sheet takes what it prices.
 abbrev pub LawfulSheetTakes : Journal → Event → SheetForm → List ℕ → List ℕ → Type 0
