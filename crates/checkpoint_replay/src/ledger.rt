@@ -3,7 +3,7 @@ ghost use Rattle.std.specs.Prelude.{All, ◌≡◌, ◌≤◌, ◌+◌, ◌-◌,
 ghost use Rattle.std.specs.Option.{option_copied};
 ghost use Rattle.agent_events.specs.declared.order.Party.{Party as AnyParty};
 ghost use Rattle.checkpoint_replay.specs.Differences.{AreChangesOf};
-ghost use Rattle.checkpoint_replay.specs.Moves.{HasRoomFor, households_of, part_after};
+ghost use Rattle.checkpoint_replay.specs.Moves.{AreMoves, HasRoomFor, households_of, part_after};
 ghost use Rattle.checkpoint_replay.specs.Parts.{first_day, part_in, state_in};
 ghost use Rattle.checkpoint_replay.specs.Reopenings.{move_by_replay};
 ghost use Rattle.checkpoint_replay.specs.Sheets.{CanAdvance, IsReached, moves_of_sheet};
@@ -16,7 +16,7 @@ ghost use Rattle.household_fold.specs.Households.{first_of};
 ghost use Rattle.household_replay.specs.Premises.{CanBeReplayed};
 ghost use Rattle.household_replay.specs.Replays.{day_behind, days_behind, orders_under};
 
-use crate::change::Change;
+use crate::change::{Change, HouseholdMove};
 use crate::differences::changes_of_moves;
 use crate::part::HouseholdPart;
 use crate::parts::{put_moves, reserve_moves};
@@ -55,11 +55,12 @@ impl Model for Ledger {
 }
 
 impl Ledger {
-    /// Nothing is kept of any household.
+    /// Nothing is kept of any household, and nothing was installed.
     pub fn new(alloc: Global) -> Ledger
         ensures parts { result.parts ≡ [] }
         ensures cash { (party : AnyParty) → cents_held result.totals party ≡ pos 0 }
         ensures mils { (class : ℕ) → mils_held result.totals class ≡ pos 0 }
+        ensures count { result.totals.cash.posts ≡ 0 }
         ensures tallied { IsTallied result }
     {
         Ledger {
@@ -204,9 +205,20 @@ impl Ledger {
         self.reopen_behind(alloc, start, facts, orders, steps)
     }
 
-    /// What a replay makes of one household from a start on: the new trades stand behind so many of the old ones as the start
-    /// keeps. It reads the orders of the later sheets alone, and costs a step for each of these at most.
-    pub fn reopen_behind<L: StepLedger>(
+    /// The change that these moves make, with what they change of the totals, gathered by party and class once for all of them. The
+    /// ledger stays as it is.
+    pub fn change_of(&self, alloc: Global, moves: Vec<HouseholdMove>) -> Result<Change, NoMemory>
+        requires { AreMoves moves.items }
+        ensures moves { IfOk result (λ change. change.moves ≡ moves.items) }
+        ensures differences { IfOk result (λ change.
+            AreChangesOf change.changes self.now.parts change.moves) }
+    {
+        let changes = changes_of_moves(alloc, &self.parts, &moves)?;
+        Ok(Change::of(moves, changes))
+    }
+
+    // The change by the replay of one household from a start on.
+    fn reopen_behind<L: StepLedger>(
         &self,
         alloc: Global,
         start: ReplayStart,
@@ -227,7 +239,6 @@ impl Ledger {
         let change = move_by_replay(alloc, facts, start, orders, steps)?;
         let mut moves = Vec::new(alloc);
         moves.push(change)?;
-        let changes = changes_of_moves(alloc, &self.parts, &moves)?;
-        Ok(Change::of(moves, changes))
+        self.change_of(alloc, moves)
     }
 }

@@ -15,5 +15,5 @@ mod totals;
 pub use crate::change::{Change, HouseholdMove};
 pub use crate::ledger::Ledger;
 pub use crate::part::HouseholdPart;
-pub use crate::reopening::ReplayStart;
+pub use crate::reopening::{ReplayStart, move_by_replay};
 pub use crate::totals::LedgerTotals;

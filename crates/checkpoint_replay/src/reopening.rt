@@ -22,8 +22,9 @@ pub struct ReplayStart {
 }
 
 /// What a replay makes of a household from a start on, by its orders under the numbers of their sheets, as far as the sheet
-/// at hand.
-pub(crate) fn move_by_replay<L: Ledger>(
+/// at hand: the new trades stand behind so many of the old ones as the start keeps. It reads the orders of the later sheets
+/// alone, and costs a step for each of these at most.
+pub fn move_by_replay<L: Ledger>(
     alloc: Global,
     facts: &Facts,
     start: ReplayStart,

@@ -60,7 +60,7 @@ fn gathered_moves<L: Ledger>(
     ensures most { steps.new ≤ steps.old
         + length (moves_of_sheet facts.now orders.now parts.now.entries) }
 {
-    let mut moves = Vec::new(alloc);
+    let mut moves = Vec::with_capacity(alloc, orders.len())?;
     push_moves_of_parts(alloc, facts, orders, parts, steps, &mut moves)?;
     push_moves_of_others(alloc, facts, orders, parts, steps, &mut moves)?;
     Ok(moves)

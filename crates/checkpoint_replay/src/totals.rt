@@ -35,6 +35,7 @@ impl LedgerTotals {
     pub fn new(alloc: Global) -> LedgerTotals
         ensures cash { (party : AnyParty) → cents_held result party ≡ pos 0 }
         ensures mils { (class : ℕ) → mils_held result class ≡ pos 0 }
+        ensures count { result.cash.posts ≡ 0 }
     {
         LedgerTotals {
             shares: FlowRows::new(alloc),

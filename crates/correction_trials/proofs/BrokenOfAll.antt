@@ -26,7 +26,7 @@ use Rattle.correction_trials.specs.Reopened.{AreReopened, IsTriedOver, broken_in
 use Rattle.correction_trials.specs.Trials.{last_says}
 use Rattle.desk_books.specs.declared.books.DeskBooks.{DeskBooks}
 use Rattle.household_fold.specs.Facts.{Known}
-use Rattle.checkpoint_replay.specs.Moves.{Moves}
+use Rattle.checkpoint_replay.specs.declared.change.HouseholdMove.{HouseholdMove}
 use Rattle.desk_books.proofs.ledger_of_journals.LedgerTotals.{is_of_households}
 use Rattle.register_laws.proofs.BrokenByParts.{breaks_by_parts}
 use Rattle.register_laws.proofs.Isolation.{find-passes}
@@ -129,9 +129,9 @@ unbroken books event known households household is reached numbered none =
 
 -- ---- all households
 
-module _ (books : DeskBooks) (event : Event) (known : Known) (households : List ℕ) (change : Option Moves) (first : Option BrokenTrade)
+module _ (books : DeskBooks) (event : Event) (known : Known) (households : List ℕ) (moves : List HouseholdMove) (first : Option BrokenTrade)
     (is : IsTriedOver books event known) (reached : AreReached books.book.journal event.kind households)
-    (numbered : All (λ row. 0 < row.order.ref_no) (orders_of books.book.journal)) (are : AreReopened books event known households change first) where
+    (numbered : All (λ row. 0 < row.order.ref_no) (orders_of books.book.journal)) (are : AreReopened books event known households moves first) where
   abbrev journal_now : Journal
   journal_now = books.book.journal
 

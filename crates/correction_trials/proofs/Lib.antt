@@ -20,9 +20,9 @@ pub mod ForgetFacts
 pub mod StartsServe
 -- what the trial says
 pub mod TrialSays
--- the trades of the one household that a change moves
+-- the trades of the one household that is moved
 pub mod OneMoved
--- what the replay of one household makes, and what nothing makes
+-- what the replay of one household makes
 pub mod OneMore
 -- the replay of one household from the start that is kept of it
 pub mod ReopenedOne

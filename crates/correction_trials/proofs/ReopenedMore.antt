@@ -1,70 +1,26 @@
 -- The households that were reopened so far, with one more.
-use Rattle.std.proofs.Common.{All, Contains, List, None, Option, Some, [], ap, arith, fold, inl, inr, refl, subst, sym, ℕ, ℤ, ◌++◌, ◌+ℤ◌, ◌∙◌, ◌∷◌, ◌≡◌, ◌⊎◌}
-use Rattle.std.proofs.lemmas.Int.{ints}
+use Rattle.std.proofs.Common.{All, Contains, List, None, Option, Some, [], ap, arith, inl, inr, nat_eq, refl, subst, sym, ℕ, ◌++◌, ◌∙◌, ◌∷◌, ◌≡◌, ◌⊎◌}
 use Rattle.std.proofs.lemmas.List.Elements.{All-nil, All-push, Contains-append_left, Contains-push_cases}
 use Rattle.std.proofs.lemmas.List.Quantifiers.{Any-push}
-use Rattle.std.proofs.lemmas.List.Sums.{fold-append}
-use Rattle.std.specs.List.{Any}
+use Rattle.std.specs.List.{Any, IsDistinct}
 use Rattle.agent_events.specs.Events.{Event}
-use Rattle.agent_events.specs.declared.order.Party.{Party}
-use Rattle.agent_events.specs.declared.totals.Changes.{Changes}
 use Rattle.agent_events.specs.declared.trade.Trade.{Trade}
-use Rattle.checkpoint_replay.specs.Differences.{AreChangesOf, cash_by_moves, mils_by_moves, with_cash_of, with_mils_of}
-use Rattle.checkpoint_replay.specs.Moves.{AreApart, Moves, households_of}
+use Rattle.checkpoint_replay.specs.Moves.{households_of}
 use Rattle.checkpoint_replay.specs.declared.change.HouseholdMove.{HouseholdMove}
-use Rattle.checkpoint_replay.specs.declared.part.HouseholdPart.{HouseholdPart}
 use Rattle.correction_effects.proofs.LeastTurn.{least_stays}
 use Rattle.correction_effects.specs.FirstOfAll.{IsFirstOfPart}
 use Rattle.correction_effects.specs.Least.{IsLeastOf, with_broken}
 use Rattle.correction_effects.specs.Turns.{turn_in}
 use Rattle.correction_effects.specs.declared.least.BrokenTrade.{BrokenTrade}
-use Rattle.correction_trials.specs.Reopened.{AreJoined, AreReopened, IsOneMore, SeesBroken, broken_in, changes_of, moves_of}
+use Rattle.correction_trials.specs.Reopened.{AreReopened, IsOneMore, ReopensMore, SeesBroken, broken_in}
 use Rattle.desk_books.specs.declared.books.DeskBooks.{DeskBooks}
-use Rattle.gain_loss_book.specs.ClassGains.{mils_change}
-use Rattle.gain_loss_book.specs.Flows.{net, no_flow}
-use Rattle.gain_loss_book.specs.Posted.{cash_change}
-use Rattle.gain_loss_book.specs.declared.flows.Flow.{Flow}
 use Rattle.household_fold.specs.Facts.{Known}
-use Rattle.desk_books.specs.ledger_of_journals.CorrectedLedgers.{AreReopenings}
 use Rattle.desk_books.proofs.ledger_of_journals.Reopenings.{none_reopened, one_reopened, reopenings_join}
 use Rattle.register_laws.specs.Lawful.{book_behind}
 use Rattle.register_machine.specs.journal.Journals.{with_event}
 use Rattle.register_machine.specs.journal.Kinds.{accounts_of}
 use Rattle.register_machine.specs.replay.Replay.{replay}
 use Rattle.register_machine.specs.rules.Breaks.{order_corrected}
-
--- ---- what moves change, one behind another
-
-cash-net : (parts : List (ℕ × HouseholdPart)) (party : Party) (moves : List HouseholdMove) (before : Flow) → net (fold (with_cash_of parts party) before moves) ≡ net before +ℤ net (fold (with_cash_of parts party) no_flow moves)
-cash-net parts party [] before = omega (arith, ints)
-cash-net parts party (change ∷ moves) before =
-    let some = cash-net parts party moves (with_cash_of parts party before change) in
-    let none = cash-net parts party moves (with_cash_of parts party no_flow change) in
-    omega (arith, ints, some, none)
-
-mils-net : (parts : List (ℕ × HouseholdPart)) (class : ℕ) (moves : List HouseholdMove) (before : Flow) → net (fold (with_mils_of parts class) before moves) ≡ net before +ℤ net (fold (with_mils_of parts class) no_flow moves)
-mils-net parts class [] before = omega (arith, ints)
-mils-net parts class (change ∷ moves) before =
-    let some = mils-net parts class moves (with_mils_of parts class before change) in
-    let none = mils-net parts class moves (with_mils_of parts class no_flow change) in
-    omega (arith, ints, some, none)
-
-added : (all one other left right : ℤ) → all ≡ one +ℤ other → one ≡ left → other ≡ right → all ≡ left +ℤ right
-added all one other left right sum first last = omega (arith, ints, sum, first, last)
-
-pub changes_together : (parts : List (ℕ × HouseholdPart)) (moves others : List HouseholdMove) (one other both : Changes) → AreChangesOf one parts moves → AreChangesOf other parts others → ((party : Party) → cash_change both.cash party ≡ cash_change one.cash party +ℤ cash_change other.cash party) → ((class : ℕ) → mils_change both.outstanding class ≡ mils_change one.outstanding class +ℤ mils_change other.outstanding class) → AreChangesOf both parts (moves ++ others)
-changes_together parts moves others one other both first later cash mils = record {
-  cash = λ party.
-      added (cash_change both.cash party) (cash_change one.cash party) (cash_change other.cash party) (net (cash_by_moves parts moves party)) (net (cash_by_moves parts others party)) (cash party) (first.cash party) (later.cash party)
-      ∙ sym
-      (ap net (fold-append (with_cash_of parts party) no_flow moves others)
-      ∙ cash-net parts party others (cash_by_moves parts moves party));
-  mils = λ class.
-      added (mils_change both.outstanding class) (mils_change one.outstanding class) (mils_change other.outstanding class) (net (mils_by_moves parts moves class)) (net (mils_by_moves parts others class)) (mils class) (first.mils class) (later.mils class)
-      ∙ sym
-      (ap net (fold-append (with_mils_of parts class) no_flow moves others)
-      ∙ mils-net parts class others (mils_by_moves parts moves class));
-}
 
 -- ---- households behind others
 
@@ -74,11 +30,11 @@ households_behind (change ∷ moves) others = ap (λ (hs : List ℕ). change.hou
 
 -- ---- nothing at first
 
-pub none_yet : (books : DeskBooks) (event : Event) (known : Known) → AreReopened books event known [] None None
+pub none_yet : (books : DeskBooks) (event : Event) (known : Known) → AreReopened books event known [] [] None
 none_yet books event known = record {
   households = refl;
+  own = All-nil (λ (change : HouseholdMove). change.state.number ≡ change.household);
   reopened = none_reopened known (book_behind (with_event books.book.journal event)) books.ledger.parts;
-  differences = record { cash = λ party. refl; mils = λ class. refl };
   brokens = [];
   each = All-nil (IsFirstOfPart (book_behind (with_event books.book.journal event)) (order_corrected event.kind) (replay (book_behind books.book.journal)) (accounts_of books.book.journal));
   seen = λ household among. absurd (omega (arith, among.1));
@@ -141,20 +97,18 @@ module _ (books : DeskBooks) (event : Event) (household : ℕ) (done : List ℕ)
   more-seen (Some trade) found sees =
       one-broken (record { turn = sees.0; trade = trade }) found sees.1 sees.2
 
-pub more_reopened : (books : DeskBooks) (event : Event) (known : Known) (household : ℕ) (done : List ℕ) (change : Option Moves) (one both : Moves) (old new : Option BrokenTrade) → AreReopened books event known done change old → AreApart (moves_of change ++ one.moves) → IsOneMore books event known household one → AreJoined change one both → SeesBroken (book_behind (with_event books.book.journal event)).orders (broken_in books.book.journal event household) old new → AreReopened books event known (done ++ household ∷ []) (Some both) new
-more_reopened books event known household done change one both old new are apart more joined sees =
+pub more_reopened : (books : DeskBooks) (event : Event) (known : Known) (household : ℕ) (moved : HouseholdMove) (old new : Option BrokenTrade) → IsOneMore books event known household moved → SeesBroken (book_behind (with_event books.book.journal event)).orders (broken_in books.book.journal event household) old new → ReopensMore books event known household old moved new
+more_reopened books event known household moved old new more sees done moves distinct are =
     let after = book_behind (with_event books.book.journal event) in
     let parts = books.ledger.parts in
     let seen = more-seen books event household done old new (record { brokens = are.brokens; each = are.each; seen = are.seen; least = are.least }) (broken_in books.book.journal event household) refl sees in
+    let only : households_of (moved ∷ []) ≡ household ∷ [] = ap (λ number. number ∷ []) more.only in
+    let behind : households_of (moves ++ moved ∷ []) ≡ done ++ household ∷ [] = households_behind moves (moved ∷ []) ∙ (ap (λ (hs : List ℕ). hs ++ households_of (moved ∷ [])) are.households ∙ ap (λ (hs : List ℕ). done ++ hs) only) in
     record {
-      households = ap households_of joined.moves
-          ∙ (households_behind (moves_of change) one.moves
-          ∙ (ap (λ (hs : List ℕ). hs ++ households_of one.moves) are.households ∙ ap (λ (hs : List ℕ). done ++ hs) more.only));
-      reopened = subst (λ (moves : List HouseholdMove). AreReopenings known after parts moves) (sym joined.moves)
-          (reopenings_join known after parts (moves_of change) one.moves apart are.reopened
-          (one_reopened known more.rows after parts one.moves household more.own more.only more.day));
-      differences = subst (λ (moves : List HouseholdMove). AreChangesOf both.changes parts moves) (sym joined.moves)
-          (changes_together parts (moves_of change) one.moves (changes_of change) one.changes both.changes are.differences more.differences joined.cash joined.mils);
+      households = behind;
+      own = All-push (λ (change : HouseholdMove). change.state.number ≡ change.household) moves moved are.own more.own;
+      reopened = reopenings_join known after parts moves (moved ∷ []) (subst (IsDistinct nat_eq) (sym behind) distinct) are.reopened
+          (one_reopened known more.rows after parts (moved ∷ []) household more.orders only more.day);
       brokens = seen.brokens;
       each = seen.each;
       seen = seen.seen;

@@ -6,6 +6,7 @@ use Rattle.agent_events.specs.Events.{Event}
 use Rattle.agent_events.specs.declared.event.EventKind.{EventKind}
 use Rattle.agent_events.specs.declared.order.Bearer.{Bearer}
 use Rattle.agent_events.specs.declared.reply_lists.ClassGain.{ClassGain}
+use Rattle.checkpoint_replay.specs.Differences.{AreChangesOf}
 use Rattle.checkpoint_replay.specs.Moves.{AreApart, Moves, part_after}
 use Rattle.checkpoint_replay.specs.Parts.{part_in}
 use Rattle.correction_effects.specs.Reached.{AreReached}
@@ -72,7 +73,7 @@ gains-at journal event corrects =
 
 module _ (books : DeskBooks) (event : Event) (known : Known) (households : List ℕ) (change : Moves) (first : Option BrokenTrade)
     (is : IsTriedOver books event known) (reached : AreReached books.book.journal event.kind households)
-    (are : AreReopened books event known households (Some change) first) (apart : AreApart change.moves) (lawful : IsLawful (with_event books.book.journal event)) where
+    (are : AreReopened books event known households change.moves first) (made : AreChangesOf change.changes books.ledger.parts change.moves) (apart : AreApart change.moves) (lawful : IsLawful (with_event books.book.journal event)) where
   abbrev before_it : Book
   before_it = book_behind books.book.journal
 
@@ -101,7 +102,7 @@ module _ (books : DeskBooks) (event : Event) (known : Known) (households : List 
       differences-by-days change.changes before_it after_it books.ledger.parts change.moves
       (is_of_households books.book.journal is.books_are.lawful) (is_of_households (with_event books.book.journal event) lawful)
       (record { from = is.books_are.ledger; to = λ household. day-of household (is_moved change.moves household) refl; apart = apart })
-      are.differences
+      made
 
   corrected : (bearer : Bearer) (gains : List ClassGain) → bearer_in event.kind ≡ Some bearer → AreGainsOf change.changes (sheets_known known) gains → Some (record { bearer = bearer; gains = gains }) ≡ correction_at books.book.journal event
   corrected bearer gains bears gain =
@@ -125,7 +126,7 @@ module _ (books : DeskBooks) (event : Event) (known : Known) (households : List 
     or-right (is_sheet event.kind) (is_correction event.kind) is.corrects,
     record {
       leads = λ new shown. reopenings_correct known before_it after_it books.ledger.parts new change.moves is.serve.serve kept is.books_are.ledger are.reopened left shown;
-      changes = are.differences;
+      changes = made;
       differences = differ;
       correction = corrected bearer gains bears gain;
       cash = within.cash;

@@ -1,7 +1,6 @@
 -- What the steps of a trial need: of the books, of the facts, and of the households in turn.
-use Rattle.std.proofs.Common.{List, None, Option, Some, [], ap, arith, drop, false, find, get_or, length, nat_eq, refl, subst, sym, take, ℕ, ◌++◌, ◌+◌, ◌<◌, ◌∙◌, ◌∷◌, ◌≡◌, ◌≤◌}
+use Rattle.std.proofs.Common.{List, Option, Some, [], ap, arith, drop, false, find, get_or, length, nat_eq, subst, sym, take, ℕ, ◌++◌, ◌+◌, ◌<◌, ◌∙◌, ◌∷◌, ◌≡◌}
 use Rattle.std.proofs.lemmas.Bool.Decides.{Decides-eqb}
-use Rattle.std.proofs.lemmas.Int.{ints}
 use Rattle.std.proofs.lemmas.List.{take-append-drop, take_more}
 use Rattle.std.proofs.lemmas.List.Kept.{AllPairs-from_increasing}
 use Rattle.std.proofs.lemmas.Map.Made.{IsDistinct-from_AllPairs}
@@ -10,18 +9,17 @@ use Rattle.std.specs.List.Sorted.{IsStrictlyIncreasing}
 use Rattle.agent_events.specs.Events.{Event}
 use Rattle.agent_events.specs.declared.request.AccountForm.{AccountForm}
 use Rattle.agent_events.specs.declared.trade.Trade.{Trade}
-use Rattle.checkpoint_replay.specs.Moves.{AreApart, Moves, households_of, part_after}
+use Rattle.checkpoint_replay.specs.Moves.{part_after}
 use Rattle.checkpoint_replay.specs.Parts.{first_day, part_in}
 use Rattle.checkpoint_replay.specs.declared.change.HouseholdMove.{HouseholdMove}
 use Rattle.correction_effects.specs.declared.least.BrokenTrade.{BrokenTrade}
-use Rattle.correction_trials.proofs.ReopenedMore.{households_behind}
 use Rattle.checkpoint_replay.proofs.ReopenedDay.{AreTheLateOnes}
 use Rattle.checkpoint_replay.specs.declared.reopening.ReplayStart.{ReplayStart}
 use Rattle.correction_trials.proofs.TrialOrders.{late_on_trial}
-use Rattle.correction_trials.specs.Reopened.{AreJoined, IsOneMore, IsTriedOver, SeesBroken, broken_in}
+use Rattle.correction_trials.specs.Reopened.{IsOneMore, IsTriedOver, SeesBroken, broken_in}
 use Rattle.desk_books.specs.declared.books.DeskBooks.{DeskBooks}
 use Rattle.forward_price.specs.PriceTables.{Table}
-use Rattle.household_fold.specs.Facts.{FactsFit, Known}
+use Rattle.household_fold.specs.Facts.{Known}
 use Rattle.household_replay.specs.Premises.{CanBeReplayed}
 use Rattle.household_replay.specs.Replays.{NumberedOrder}
 use Rattle.desk_books.proofs.ledger_laws.OrderRows.{rows_by_sheets}
@@ -63,10 +61,6 @@ next_differs households place d rises short =
     (front_differs (take (place + 1) households) (drop (place + 1) households)
     (subst (IsDistinct nat_eq) (sym (take-append-drop (place + 1) households)) (rising_differ households rises)))
 
-pub stand_apart : (moves others : List HouseholdMove) (household : ℕ) → households_of others ≡ household ∷ [] → IsDistinct nat_eq (households_of moves ++ household ∷ []) → AreApart (moves ++ others)
-stand_apart moves others household only distinct =
-    subst (IsDistinct nat_eq) (sym (households_behind moves others ∙ ap (λ (hs : List ℕ). households_of moves ++ hs) only)) distinct
-
 -- ---- one household
 
 -- all orders of a household on trial, under their sheets
@@ -88,30 +82,18 @@ late_rows books event known household first start late is own settled n behind s
     settled (own_rows books event known household is) n behind (omega (arith, short, is.serve.serve.last))
 
 -- what is broken between the ledger and the new trades is broken in the household's part
-pub sees_part : (books : DeskBooks) (event : Event) (known : Known) (household : ℕ) (one : Moves) (old new : Option BrokenTrade) → IsTriedOver books event known → IsOneMore books event known household one → SeesBroken (orders_of (with_event books.book.journal event)) (find (is_broken (order_corrected event.kind) (part_in books.ledger.parts household).trades) (part_after one.moves books.ledger.parts household).trades) old new → SeesBroken (book_behind (with_event books.book.journal event)).orders (broken_in books.book.journal event household) old new
+pub sees_part : (books : DeskBooks) (event : Event) (known : Known) (household : ℕ) (one : HouseholdMove) (old new : Option BrokenTrade) → IsTriedOver books event known → IsOneMore books event known household one → SeesBroken (orders_of (with_event books.book.journal event)) (find (is_broken (order_corrected event.kind) (part_in books.ledger.parts household).trades) (part_after (one ∷ []) books.ledger.parts household).trades) old new → SeesBroken (book_behind (with_event books.book.journal event)).orders (broken_in books.book.journal event household) old new
 sees_part books event known household one old new is more sees =
     subst (λ (found : Option Trade). SeesBroken after.orders found old new)
-    (ap (λ (day : Day). find (is_broken (order_corrected event.kind) day.trades) (part_after one.moves books.ledger.parts household).trades) (is.books_are.ledger.part household)
+    (ap (λ (day : Day). find (is_broken (order_corrected event.kind) day.trades) (part_after (one ∷ []) books.ledger.parts household).trades) (is.books_are.ledger.part household)
     ∙ ap (λ (day : Day). find (is_broken (order_corrected event.kind) (part_of (accounts_of books.book.journal) household (replay (book_behind books.book.journal))).trades) day.trades) part)
     sees
   where
     after : Book
     after = book_behind (with_event books.book.journal event)
 
-    part : part_after one.moves books.ledger.parts household ≡ part_of (accounts_of books.book.journal) household (replay after)
+    part : part_after (one ∷ []) books.ledger.parts household ≡ part_of (accounts_of books.book.journal) household (replay after)
     part =
         more.day
-        ∙ ((reopens known more.rows after household is.trial.sound.sound is.serve.serve more.own).part
+        ∙ ((reopens known more.rows after household is.trial.sound.sound is.serve.serve more.orders).part
         ∙ ap (λ (accounts : List AccountForm). part_of accounts household (replay after)) (keeps_accounts books.book.journal event is.corrects))
-
--- ---- the first change
-
-pub joined_first : (one : Moves) → AreJoined None one one
-joined_first one = record { moves = refl; cash = λ party. omega (arith, ints); mils = λ class. omega (arith, ints) }
-
--- ---- the last sheet
-
-pub fits_last : (books : DeskBooks) (event : Event) (known : Known) → IsTriedOver books event known → 1 ≤ known.sheet → FactsFit known
-fits_last books event known is some =
-    let after = book_behind (with_event books.book.journal event) in
-    (reopens known (rows_of_part after 0) after 0 is.trial.sound.sound is.serve.serve (rows_by_sheets after 0 is.trial.orders.numbered)).ready.facts known.sheet some (omega arith)

@@ -1,5 +1,5 @@
 -- What the trial makes of the ledger.
-use Rattle.std.specs.Prelude.{List, Option, Some, ℕ, ◌≡◌, ◌≤◌}
+use Rattle.std.specs.Prelude.{List, Some, ℕ, ◌≡◌, ◌≤◌}
 use Rattle.std.specs.List.Sorted.{IsStrictlyIncreasing}
 use Rattle.agent_events.specs.Events.{Event}
 use Rattle.agent_events.specs.declared.order.Bearer.{Bearer}
@@ -7,8 +7,8 @@ use Rattle.agent_events.specs.declared.reply_lists.ClassGain.{ClassGain}
 use Rattle.agent_events.specs.declared.totals.Changes.{Changes}
 use Rattle.checkpoint_replay.specs.Differences.{AreChangesOf}
 use Rattle.checkpoint_replay.specs.Moves.{Moves}
+use Rattle.checkpoint_replay.specs.declared.change.HouseholdMove.{HouseholdMove}
 use Rattle.checkpoint_replay.specs.declared.part.HouseholdPart.{HouseholdPart}
-use Rattle.correction_trials.specs.Reopened.{changes_of, moves_of}
 use Rattle.correction_trials.specs.declared.trial.Tried.{Tried}
 use Rattle.desk_books.specs.declared.change.LedgerChange.{LedgerChange}
 use Rattle.forward_price.specs.declared.price_sheet.Sheet.{Sheet}
@@ -45,16 +45,15 @@ abbrev pub IsMovedWith : Moves → Bearer → List Sheet → Tried → Type 0
 IsMovedWith change bearer sheets tried =
     (moved : LedgerChange) × IsChangeWith change bearer sheets moved × (tried ≡ Tried.Moves moved)
 
--- A change made of what is moved, the one that moves nothing where nothing is.
-pub record IsMadeOf (change : Option Moves) (made : Moves) : Type 0 where
-  pub moves : made.moves ≡ moves_of change
-  pub differences : (parts : List (ℕ × HouseholdPart))
-      → AreChangesOf (changes_of change) parts (moves_of change) → AreChangesOf made.changes parts made.moves
+-- A change of these moves, with what they change.
+pub record IsMadeOf (parts : List (ℕ × HouseholdPart)) (moves : List HouseholdMove) (made : Moves) : Type 0 where
+  pub moves_are : made.moves ≡ moves
+  pub differences : AreChangesOf made.changes parts made.moves
 
 -- so it is said of the event
-pub record AreMovesOf (event : Event) (sheets : List Sheet) (change : Option Moves) (tried : Tried) : Type 0 where
+pub record AreMovesOf (event : Event) (sheets : List Sheet) (parts : List (ℕ × HouseholdPart)) (moves : List HouseholdMove) (tried : Tried) : Type 0 where
   pub made : Moves
-  pub of : IsMadeOf change made
+  pub of : IsMadeOf parts moves made
   pub bearer : Bearer
   pub bears : bearer_in event.kind ≡ Some bearer
   pub gained : IsMovedWith made bearer sheets tried

@@ -1,14 +1,11 @@
 -- What the households that were reopened so far come to.
-use Rattle.std.specs.List.{Any, sum_by}
+use Rattle.std.specs.List.{Any, IsDistinct, sum_by}
 use Rattle.std.specs.List.Sorted.{IsStrictlyIncreasing}
-use Rattle.std.specs.Prelude.{All, Contains, List, None, Option, Some, [], find, length, true, ℕ, ◌*◌, ◌+◌, ◌≤◌, ◌++◌, ◌+ℤ◌, ◌∷◌, ◌≡◌}
+use Rattle.std.specs.Prelude.{All, Contains, List, None, Option, Some, [], find, length, nat_eq, true, ℕ, ◌*◌, ◌+◌, ◌≤◌, ◌++◌, ◌∷◌, ◌≡◌}
 use Rattle.agent_events.specs.Events.{Event}
 use Rattle.agent_events.specs.declared.order.OrderRow.{OrderRow}
-use Rattle.agent_events.specs.declared.order.Party.{Party}
-use Rattle.agent_events.specs.declared.totals.Changes.{Changes}
 use Rattle.agent_events.specs.declared.trade.Trade.{Trade}
-use Rattle.checkpoint_replay.specs.Differences.{AreChangesOf}
-use Rattle.checkpoint_replay.specs.Moves.{Moves, households_of, part_after}
+use Rattle.checkpoint_replay.specs.Moves.{AreOwnMoves, households_of, part_after}
 use Rattle.checkpoint_replay.specs.Parts.{first_day}
 use Rattle.checkpoint_replay.specs.declared.change.HouseholdMove.{HouseholdMove}
 use Rattle.correction_effects.specs.FirstOfAll.{IsFirstOfPart, first_in_part}
@@ -23,8 +20,6 @@ use Rattle.correction_trials.specs.Starts.{sheets_replayed}
 use Rattle.desk_books.specs.BooksOfJournals.{AreBooksOf}
 use Rattle.desk_books.specs.declared.books.DeskBooks.{DeskBooks}
 use Rattle.event_laws.specs.EventReplays.{is_correction}
-use Rattle.gain_loss_book.specs.ClassGains.{mils_change}
-use Rattle.gain_loss_book.specs.Posted.{cash_change}
 use Rattle.household_fold.specs.Facts.{Known}
 use Rattle.household_replay.specs.Replays.{NumberedOrder, days_behind}
 use Rattle.desk_books.specs.ledger_laws.PartsByFacts.{AreRowsOf}
@@ -62,56 +57,39 @@ SeesBroken orders (Some trade) old new =
 
 -- ---- All so far.
 
--- what is moved so far, and what that changes; nothing at first
-abbrev pub moves_of : Option Moves → List HouseholdMove
-moves_of None = []
-moves_of (Some change) = change.moves
-
-abbrev pub changes_of : Option Moves → Changes
-changes_of None = record { outstanding = []; cash = [] }
-changes_of (Some change) = change.changes
-
--- The households are moved to what their replays on trial leave, with what that changes of the totals; and of the first broken
--- trades of their parts the least one is known.
-pub record AreReopened (books : DeskBooks) (event : Event) (known : Known) (done : List ℕ) (change : Option Moves) (first : Option BrokenTrade) : Type 0 where
-  pub households : households_of (moves_of change) ≡ done
-  pub reopened : AreReopenings known (book_behind (with_event books.book.journal event)) books.ledger.parts (moves_of change)
-  pub differences : AreChangesOf (changes_of change) books.ledger.parts (moves_of change)
+-- The households are moved to what their replays on trial leave, and of the first broken trades of their parts the least one is known.
+pub record AreReopened (books : DeskBooks) (event : Event) (known : Known) (done : List ℕ) (moves : List HouseholdMove) (first : Option BrokenTrade) : Type 0 where
+  pub households : households_of moves ≡ done
+  pub own : AreOwnMoves moves
+  pub reopened : AreReopenings known (book_behind (with_event books.book.journal event)) books.ledger.parts moves
   pub brokens : List BrokenTrade
   pub each : All (IsFirstOfPart (book_behind (with_event books.book.journal event)) (order_corrected event.kind) (replay (book_behind books.book.journal)) (accounts_of books.book.journal)) brokens
   pub seen : (household : ℕ) → Contains done household → (trade : Trade)
       → broken_in books.book.journal event household ≡ Some trade → Any (λ broken. broken.trade ≡ trade) brokens
   pub least : IsLeastOf brokens first
 
--- So they are with one household more.
-abbrev pub ReopensMore : DeskBooks → Event → Known → ℕ → Option Moves → Option BrokenTrade → Option Moves → Option BrokenTrade → Type 0
-ReopensMore books event known household change first more least =
-    (done : List ℕ) → AreReopened books event known done change first
-    → AreReopened books event known (done ++ household ∷ []) more least
+-- So they are with one household more, which isn't among them.
+abbrev pub ReopensMore : DeskBooks → Event → Known → ℕ → Option BrokenTrade → HouseholdMove → Option BrokenTrade → Type 0
+ReopensMore books event known household first moved more =
+    (done : List ℕ) (moves : List HouseholdMove) → IsDistinct nat_eq (done ++ household ∷ [])
+    → AreReopened books event known done moves first
+    → AreReopened books event known (done ++ household ∷ []) (moves ++ moved ∷ []) more
 
--- What the replay of one household makes: it moves that household alone, to what its orders on trial leave.
-pub record IsOneMore (books : DeskBooks) (event : Event) (known : Known) (household : ℕ) (one : Moves) : Type 0 where
+-- What the replay of one household makes: it moves that household, to what its orders on trial leave.
+pub record IsOneMore (books : DeskBooks) (event : Event) (known : Known) (household : ℕ) (moved : HouseholdMove) : Type 0 where
   pub rows : List NumberedOrder
-  pub own : AreRowsOf rows (book_behind (with_event books.book.journal event)) household
-  pub only : households_of one.moves ≡ household ∷ []
-  pub day : part_after one.moves books.ledger.parts household ≡ days_behind known rows 0 known.sheet first_day
-  pub differences : AreChangesOf one.changes books.ledger.parts one.moves
-
--- the change of both together
-pub record AreJoined (change : Option Moves) (one both : Moves) : Type 0 where
-  pub moves : both.moves ≡ moves_of change ++ one.moves
-  pub cash : (party : Party) → cash_change both.changes.cash party
-      ≡ cash_change (changes_of change).cash party +ℤ cash_change one.changes.cash party
-  pub mils : (class : ℕ) → mils_change both.changes.outstanding class
-      ≡ mils_change (changes_of change).outstanding class +ℤ mils_change one.changes.outstanding class
+  pub orders : AreRowsOf rows (book_behind (with_event books.book.journal event)) household
+  pub only : moved.household ≡ household
+  pub own : moved.state.number ≡ moved.household
+  pub day : part_after (moved ∷ []) books.ledger.parts household ≡ days_behind known rows 0 known.sheet first_day
 
 -- ---- All that the correction reaches.
 
-pub record IsReopenedWhole (books : DeskBooks) (event : Event) (known : Known) (change : Option Moves) (first : Option BrokenTrade) : Type 0 where
+pub record IsReopenedWhole (books : DeskBooks) (event : Event) (known : Known) (moves : List HouseholdMove) (first : Option BrokenTrade) : Type 0 where
   pub households : List ℕ
   pub rising : IsStrictlyIncreasing households
   pub reached : AreReached books.book.journal event.kind households
-  pub all : AreReopened books event known households change first
+  pub all : AreReopened books event known households moves first
 
 -- For each household that the correction reaches, each once, at most as many steps as there are sheets; and no more than there are behind the
 -- last state that is kept of it behind a sheet before this one.

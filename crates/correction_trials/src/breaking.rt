@@ -1,7 +1,7 @@
 //! The trade that a correction breaks first in the part of one household.
 ghost use Rattle.std.specs.Prelude.{◌≡◌, ◌∷◌, Some, [], IfOk, OnOk, find, take};
 ghost use Rattle.std.specs.Option.{option_copied, option_map_or};
-ghost use Rattle.checkpoint_replay.specs.Moves.{households_of, part_after};
+ghost use Rattle.checkpoint_replay.specs.Moves.{part_after};
 ghost use Rattle.checkpoint_replay.specs.Parts.{part_in};
 ghost use Rattle.correction_trials.specs.Reopened.{AreUnbroken, SeesBroken};
 ghost use Rattle.order_book.specs.Books.{Fits};
@@ -10,7 +10,7 @@ ghost use Rattle.register_machine.specs.pricing.CorrectedOrders.{orders_of};
 ghost use Rattle.register_machine.specs.rules.Breaks.{is_broken, order_corrected};
 
 use agent_events::{Event, EventKind, Order, Trade};
-use checkpoint_replay::{Change, HouseholdMove};
+use checkpoint_replay::HouseholdMove;
 use correction_effects::{FirstBroken, first_broken, turn_of};
 use desk_books::DeskBooks;
 use money_units::NoMemory;
@@ -24,19 +24,19 @@ pub(crate) fn see_broken(
     books: &DeskBooks,
     event: &Event,
     household: u32,
-    change: &Change,
+    moved: &HouseholdMove,
     first: &mut FirstBroken,
 ) -> Result<(), NoMemory>
     requires fits { Fits books.now.book.journal event.now }
-    requires only { households_of change.now.moves ≡ household ∷ [] }
+    requires only { moved.now.household ≡ household }
     requires unbroken { AreUnbroken (part_in books.now.ledger.parts household).trades }
     ensures { OnOk result (SeesBroken (orders_of (with_event books.now.book.journal event.now))
         (find (is_broken (order_corrected event.now.kind)
         (part_in books.now.ledger.parts household).trades)
-        (part_after change.now.moves books.now.ledger.parts household).trades)
+        (part_after (moved.now ∷ []) books.now.ledger.parts household).trades)
         first.old.least first.new.least) }
 {
-    let broken = broken_of(alloc, books, event, household, change)?;
+    let broken = broken_of(alloc, books, event, household, moved)?;
     see(books, event, broken, first)
 }
 
@@ -45,16 +45,15 @@ fn broken_of<'a>(
     books: &'a DeskBooks,
     event: &Event,
     household: u32,
-    change: &'a Change,
+    moved: &'a HouseholdMove,
 ) -> Result<Option<&'a Trade>, NoMemory>
-    requires only { households_of change.now.moves ≡ household ∷ [] }
+    requires only { moved.now.household ≡ household }
     requires unbroken { AreUnbroken (part_in books.now.ledger.parts household).trades }
     ensures { IfOk result (λ broken. option_copied broken
         ≡ find (is_broken (order_corrected event.now.kind)
         (part_in books.now.ledger.parts household).trades)
-        (part_after change.now.moves books.now.ledger.parts household).trades) }
+        (part_after (moved.now ∷ []) books.now.ledger.parts household).trades) }
 {
-    let moved = only_move(change)?;
     let before = books.ledger.trades(household);
     let order = order_corrected(event.kind());
     let stay = trades_seen(order, before, moved);
@@ -80,16 +79,6 @@ fn order_corrected(kind: &EventKind) -> Option<&Order>
         EventKind::Enter(form) => Some(&form.order),
         EventKind::Replace(form) => Some(&form.order),
         _ => None,
-    }
-}
-
-// The one move of a change.
-fn only_move(change: &Change) -> Result<&HouseholdMove, NoMemory>
-    ensures { IfOk result (λ moved. change.now.moves ≡ moved.now ∷ []) }
-{
-    match change.moves() {
-        [moved] => Ok(moved),
-        _ => Err(NoMemory),
     }
 }
 

@@ -4,7 +4,6 @@
 mod breaking;
 mod forgetting;
 mod moving;
-mod nothing;
 mod references;
 mod reopening;
 mod starts;

@@ -1,16 +1,15 @@
 //! The households that a correction reaches are replayed with it, one after another.
-ghost use Rattle.std.specs.Prelude.{◌≡◌, ◌≤◌, ◌+◌, ◌*◌, ◌++◌, ◌∷◌, [], IfOk, OnOk, length, nat_eq};
-ghost use Rattle.std.specs.List.{IsDistinct, sum_by};
+ghost use Rattle.std.specs.Prelude.{◌≡◌, ◌≤◌, ◌+◌, ◌*◌, IfOk, OnOk, length};
+ghost use Rattle.std.specs.List.{sum_by};
 ghost use Rattle.std.specs.List.Sorted.{IsStrictlyIncreasing};
-ghost use Rattle.checkpoint_replay.specs.Moves.{AreApart, AreMoves, households_of};
-ghost use Rattle.correction_trials.specs.Reopened.{AreJoined, AreReopened, IsOneMore, IsTriedOver, ReopensMore, moves_of};
+ghost use Rattle.correction_trials.specs.Reopened.{AreReopened, IsOneMore, IsTriedOver, ReopensMore};
 ghost use Rattle.correction_trials.specs.Starts.{LeavesBefore, sheets_replayed};
 
 use crate::breaking::see_broken;
 use crate::references::references_in;
 use crate::starts::start_of;
 use agent_events::Event;
-use checkpoint_replay::Change;
+use checkpoint_replay::{HouseholdMove, move_by_replay};
 use correction_effects::FirstBroken;
 use desk_books::DeskBooks;
 use household_fold::{Facts, Steps};
@@ -19,11 +18,10 @@ use standing_orders::orders_of_household;
 use std::alloc::Global;
 use std::sync::ledger::Ledger as StepLedger;
 
-/// What the households that were reopened come to: the change that moves them, none as long as there is none, and the first trade
-/// that is broken in their parts.
+/// What the households that were reopened come to: the moves of each, and the first trade that is broken in their parts.
 #[derive(Drop)]
 pub(crate) struct Reopened {
-    pub(crate) change: Option<Change>,
+    pub(crate) moves: Vec<HouseholdMove>,
     pub(crate) first: FirstBroken,
 }
 
@@ -42,25 +40,24 @@ pub(crate) fn reopen_all<L: StepLedger>(
     requires before { LeavesBefore books.now.book.journal event.now before }
     requires rising { IsStrictlyIncreasing households.now }
     ensures reopened { IfOk result (λ reopened. AreReopened books.now event.now facts.now
-        households.now reopened.change reopened.first.least) }
+        households.now reopened.moves.items reopened.first.least) }
     ensures steps { OnOk result (steps.new
         ≤ steps.old + length households.now * facts.now.sheet) }
     ensures behind { OnOk result (steps.new ≤ steps.old
         + sum_by (sheets_replayed books.now.kept before facts.now.sheet) households.now) }
 {
-    let mut reopened = Reopened {
-        change: None,
-        first: FirstBroken::new(),
-    };
+    let mut moves = Vec::with_capacity(alloc, households.len())?;
+    let mut first = FirstBroken::new();
     for household in households {
-        reopened = reopen_more(
-            alloc, books, event, facts, *household, before, reopened, steps,
+        let moved = reopen_more(
+            alloc, books, event, facts, *household, before, &mut first, steps,
         )?;
+        moves.push(moved)?;
     }
-    Ok(reopened)
+    Ok(Reopened { moves, first })
 }
 
-// One household more, which isn't moved yet.
+// One household more, which isn't among those so far.
 fn reopen_more<L: StepLedger>(
     alloc: Global,
     books: &DeskBooks,
@@ -68,28 +65,21 @@ fn reopen_more<L: StepLedger>(
     facts: &Facts,
     household: u32,
     before: u32,
-    so_far: Reopened,
+    first: &mut FirstBroken,
     steps: &mut Steps<L>,
-) -> Result<Reopened, NoMemory>
+) -> Result<HouseholdMove, NoMemory>
     requires tried { IsTriedOver books.now event.now facts.now }
     requires before { LeavesBefore books.now.book.journal event.now before }
-    requires apart { IsDistinct nat_eq (households_of (moves_of so_far.change) ++ household ∷ []) }
-    ensures more { IfOk result (λ more. ReopensMore books.now event.now facts.now household
-        so_far.change so_far.first.least more.change more.first.least) }
+    ensures more { IfOk result (λ moved. ReopensMore books.now event.now facts.now household
+        first.old.least moved first.new.least) }
     ensures steps { OnOk result (steps.new ≤ steps.old + facts.now.sheet) }
     ensures behind { OnOk result (steps.new
         ≤ steps.old + sheets_replayed books.now.kept before facts.now.sheet household) }
 {
-    let Reopened { change, first } = so_far;
-    let mut first = first;
     let one = reopen_one(alloc, books, event, facts, household, before, steps)?;
     references_in(books);
-    see_broken(alloc, books, event, household, &one, &mut first)?;
-    let both = joined(change, one)?;
-    Ok(Reopened {
-        change: Some(both),
-        first,
-    })
+    see_broken(alloc, books, event, household, &one, first)?;
+    Ok(one)
 }
 
 fn reopen_one<L: StepLedger>(
@@ -100,7 +90,7 @@ fn reopen_one<L: StepLedger>(
     household: u32,
     before: u32,
     steps: &mut Steps<L>,
-) -> Result<Change, NoMemory>
+) -> Result<HouseholdMove, NoMemory>
     requires tried { IsTriedOver books.now event.now facts.now }
     requires before { LeavesBefore books.now.book.journal event.now before }
     ensures one { IfOk result (IsOneMore books.now event.now facts.now household) }
@@ -118,18 +108,5 @@ fn reopen_one<L: StepLedger>(
         start.orders,
         Some(event),
     )?;
-    books
-        .ledger
-        .reopen_behind(alloc, start.replay, facts, &orders, steps)
-}
-
-// A change, and that of one household behind it.
-fn joined(change: Option<Change>, one: Change) -> Result<Change, NoMemory>
-    requires { AreApart (moves_of change ++ one.moves) }
-    ensures { IfOk result (AreJoined change one) }
-{
-    match change {
-        Some(change) => change.join(one),
-        None => Ok(one),
-    }
+    move_by_replay(alloc, facts, start.replay, &orders, steps)
 }

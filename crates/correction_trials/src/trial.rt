@@ -4,11 +4,10 @@ ghost use Rattle.std.specs.List.{sum_by};
 ghost use Rattle.std.specs.List.Sorted.{IsStrictlyIncreasing};
 ghost use Rattle.agent_events.specs.declared.event.EventKind.{EventKind as Kind};
 ghost use Rattle.agent_events.specs.declared.reply.Refusal.{Refusal as AnyRefusal};
-ghost use Rattle.checkpoint_replay.specs.Differences.{AreChangesOf};
-ghost use Rattle.checkpoint_replay.specs.declared.part.HouseholdPart.{HouseholdPart};
+ghost use Rattle.checkpoint_replay.specs.Moves.{AreMoves};
 ghost use Rattle.correction_effects.specs.Reached.{AreReached};
 ghost use Rattle.correction_trials.specs.Changed.{AreMovesOf, IsMovedWith};
-ghost use Rattle.correction_trials.specs.Reopened.{IsReopenedWhole, IsTriedOver, TakesFewSteps, changes_of, moves_of};
+ghost use Rattle.correction_trials.specs.Reopened.{IsReopenedWhole, IsTriedOver, TakesFewSteps};
 ghost use Rattle.correction_trials.specs.Served.{known_in};
 ghost use Rattle.correction_trials.specs.Settled.{AreForgotten, AreForgottenBy, IsTrialOf, KeepsStates};
 ghost use Rattle.correction_trials.specs.Starts.{LeavesBefore, first_touched, number_listed, sheets_replayed};
@@ -23,14 +22,13 @@ ghost use Rattle.register_laws.specs.Lawful.{book_behind};
 
 use crate::forgetting::forget_all;
 use crate::moving::{bearer_of, with_gains};
-use crate::nothing::no_change;
 use crate::references::references_in;
 use crate::reopening::{Reopened, reopen_all};
 use agent_events::{
     Bearer, Event, EventKind, FixPriceForm, FixRateForm, Identifier, Rates, Reference, Refusal,
     Trade,
 };
-use checkpoint_replay::Change;
+use checkpoint_replay::{Change, HouseholdMove};
 use correction_effects::{BrokenTrade, FirstBroken, households_reached};
 use desk_books::{DeskBooks, LedgerChange, sheets_published};
 use forward_price::{Patch, PriceBook};
@@ -248,7 +246,7 @@ fn try_with<L: StepLedger>(
     };
     let households = reached(alloc, books, event)?;
     let reopened = reopen_all(alloc, books, event, &facts, &households, before, steps)?;
-    let tried = said(alloc, books, event, &facts, patch, reopened, steps)?;
+    let tried = said(alloc, books, event, &facts, patch, reopened)?;
     Ok(Trial {
         tried,
         households,
@@ -268,27 +266,25 @@ fn reached(alloc: Global, books: &DeskBooks, event: &Event) -> Result<Vec<u32>, 
 }
 
 // What the households that were reopened say.
-fn said<L: StepLedger>(
+fn said(
     alloc: Global,
     books: &DeskBooks,
     event: &Event,
     facts: &Facts,
     patch: Option<Patch>,
     reopened: Reopened,
-    steps: &mut Steps<L>,
 ) -> Result<Tried, NoMemory>
     requires tried { IsTriedOver books.now event.now facts.now }
     requires sheets { sheets_on_trial patch books.now.prices.table.sheets ≡ sheets_known facts.now }
-    requires reached { IsReopenedWhole books.now event.now facts.now reopened.change
+    requires reached { IsReopenedWhole books.now event.now facts.now reopened.moves.items
         reopened.first.least }
-    ensures tried { IfOk result (Says books.now.book.journal event.now books.now.ledger.parts) }
-    ensures steps { OnOk result (steps.new ≡ steps.old) }
+    ensures { IfOk result (Says books.now.book.journal event.now books.now.ledger.parts) }
 {
     references_in(books);
-    let Reopened { change, first } = reopened;
+    let Reopened { moves, first } = reopened;
     match least_of(&first) {
         Some(broken) => breaks(broken),
-        None => moves(alloc, books, event, facts, patch, change, steps),
+        None => moved(alloc, books, event, patch, moves),
     }
 }
 
@@ -307,22 +303,19 @@ fn breaks(broken: BrokenTrade) -> Result<Tried, NoMemory>
     Ok(Tried::Breaks(refusal))
 }
 
-// The change with its gains.
-fn moves<L: StepLedger>(
+// The change that these moves make, with its gains.
+fn moved(
     alloc: Global,
     books: &DeskBooks,
     event: &Event,
-    facts: &Facts,
     patch: Option<Patch>,
-    change: Option<Change>,
-    steps: &mut Steps<L>,
+    moves: Vec<HouseholdMove>,
 ) -> Result<Tried, NoMemory>
-    requires { 1 ≤ facts.now.sheet → FactsFit facts.now }
-    ensures made { IfOk result (AreMovesOf event.now
-        (sheets_on_trial patch books.now.prices.table.sheets) change) }
-    ensures steps { OnOk result (steps.new ≡ steps.old) }
+    requires { AreMoves moves.items }
+    ensures { IfOk result (AreMovesOf event.now (sheets_on_trial patch books.now.prices.table.sheets)
+        books.now.ledger.parts moves.items) }
 {
-    let made = change_of(alloc, facts, change, steps)?;
+    let made = books.ledger.change_of(alloc, moves)?;
     match bearer_of(event.kind()) {
         Some(bearer) => moved_with(alloc, made, bearer, &books.prices, patch),
         None => Err(NoMemory),
@@ -351,24 +344,4 @@ fn refusal_of(trade: &Trade) -> Result<Refusal, NoMemory>
     let account = Identifier::new(trade.account as u64).ok_or(NoMemory)?;
     let ref_no = Reference::new(trade.ref_no).ok_or(NoMemory)?;
     Ok(Refusal::Breaks(account, ref_no))
-}
-
-// The change, or the one that moves nothing.
-fn change_of<L: StepLedger>(
-    alloc: Global,
-    facts: &Facts,
-    change: Option<Change>,
-    steps: &mut Steps<L>,
-) -> Result<Change, NoMemory>
-    requires { 1 ≤ facts.now.sheet → FactsFit facts.now }
-    ensures moves { IfOk result (λ made. made.moves ≡ moves_of change) }
-    ensures differences { IfOk result (λ made. (parts : List (ℕ × HouseholdPart))
-        → AreChangesOf (changes_of change) parts (moves_of change)
-        → AreChangesOf made.changes parts made.moves) }
-    ensures steps { OnOk result (steps.new ≡ steps.old) }
-{
-    match change {
-        Some(change) => Ok(change),
-        None => no_change(alloc, facts, steps),
-    }
 }

@@ -8,7 +8,7 @@ use Rattle.forward_price.specs.declared.price_sheet.Sheet.{Sheet}
 use Rattle.register_machine.specs.journal.Journals.{Journal}
 use Rattle.register_machine.specs.journal.Kinds.{accounts_of, household_of}
 use Rattle.register_machine.specs.pricing.CorrectedOrders.{order_named, orders_of, replaces}
-use Rattle.standing_orders.specs.Places.{passes_at, with_place}
+use Rattle.standing_orders.specs.Places.{passes_at, with_place, with_settled}
 use Rattle.standing_orders.specs.Rows.{stays, waits}
 
 -- what an event names stands: the household of an order's account, and the order that is replaced
@@ -50,13 +50,13 @@ owners_after (OrderChange.Enters household) owners = owners ++ household ∷ []
 owners_after _ owners = owners
 
 -- The places that wait, by the sheets and orders behind the event: an order that is placed waits, one that is entered or replaced
--- does unless it has its sheet, and a sheet leaves those that it couldn't price.
+-- does unless it has its sheet, the others being left as they are, and a sheet leaves those that it couldn't price.
 abbrev pub waiting_after : OrderChange → List Sheet → List OrderRow → List ℕ → List ℕ → List ℕ
 waiting_after OrderChange.Nothing sheets rows owners waiting = waiting
 waiting_after (OrderChange.Begins household) sheets rows owners waiting = waiting ++ length owners ∷ []
 waiting_after (OrderChange.Enters household) sheets rows owners waiting =
-    filter (passes_at (waits sheets) rows) (waiting ++ length owners ∷ [])
+    with_settled (waits sheets) rows (length owners) (waiting ++ length owners ∷ [])
 waiting_after (OrderChange.Replaces place) sheets rows owners waiting =
-    filter (passes_at (waits sheets) rows) (with_place place waiting)
+    with_settled (waits sheets) rows place (with_place place waiting)
 waiting_after OrderChange.Priced sheets rows owners waiting =
     filter (passes_at (stays (last_number sheets) sheets) rows) waiting

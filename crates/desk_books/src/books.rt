@@ -1,6 +1,5 @@
 //! What the desk keeps of a journal.
-ghost use Rattle.std.specs.Prelude.{◌≡◌, [], IfOk};
-ghost use Rattle.checkpoint_replay.specs.Tallied.{IsTallied};
+ghost use Rattle.std.specs.Prelude.{[], IfOk};
 ghost use Rattle.desk_books.specs.BooksOfJournals.{AreBooksOf};
 
 use checkpoint_replay::Ledger;
@@ -33,30 +32,15 @@ impl DeskBooks {
         ensures { IfOk result (AreBooksOf []) }
     {
         let prices = PriceBook::new(alloc)?;
-        let ledger = first_ledger(alloc)?;
         Ok(DeskBooks {
             book: Book::new(alloc),
             tables: JournalTables::new(alloc),
             prices,
             orders: HouseholdOrders::new(alloc),
             classes: ClassHouseholds::new(alloc),
-            ledger,
+            ledger: Ledger::new(alloc),
             cash: CashBook::new(alloc),
             kept: KeptStates::new(alloc),
         })
-    }
-}
-
-// A ledger of which nothing is kept. That nothing was installed in it no clause of `Ledger::new` says, so it is asked.
-fn first_ledger(alloc: Global) -> Result<Ledger, NoMemory>
-    ensures parts { IfOk result (λ ledger. ledger.parts ≡ []) }
-    ensures tallied { IfOk result IsTallied }
-    ensures installs { IfOk result (λ ledger. ledger.totals.cash.posts ≡ 0) }
-{
-    let ledger = Ledger::new(alloc);
-    if ledger.installs() == 0 {
-        Ok(ledger)
-    } else {
-        Err(NoMemory)
     }
 }

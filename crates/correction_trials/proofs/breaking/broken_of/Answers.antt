@@ -14,7 +14,7 @@ use Rattle.correction_trials.proofs.breaking.broken_of.Goals as goal
 pub returns : goal.returns
 returns c =
     let parts = c.args.books.now.ledger.parts in
-    let moved = c.in_ok-moved.moved.now in
+    let moved = c.args.moved.now in
     let old = (part_in parts c.args.household).trades in
     let back = c.as_slice.result.now in
     let named = order_corrected c.args.event.now.kind in
@@ -29,7 +29,7 @@ returns c =
     seen_behind named moved.kept old back c.requires.unbroken
     ∙ ap (find (is_broken named old))
     (ap (λ (xs : List Trade). take moved.kept old ++ xs) c.as_slice.ensures
-    ∙ sym (moved_trades parts c.args.change.now.moves moved c.args.household c.in_ok-moved.ensures c.requires.only)) in
+    ∙ sym (moved_trades parts moved c.args.household c.requires.only)) in
     IfOk-weaker c.first_broken.result _ _
     (λ broken is.
     is

@@ -1,21 +1,37 @@
 -- That `reopen_all` keeps its contract.
-use Rattle.std.proofs.Common.{None, List, [], arith, get_or, nat_eq, subst, sym, ℕ, ◌++◌, ◌∷◌}
-use Rattle.std.specs.List.{IsDistinct}
+use Rattle.std.proofs.Common.{List, Option, [], arith, get_or, length, rules, subst, sum_by, sym, take, ℕ, ◌++◌, ◌+◌, ◌<◌, ◌∷◌, ◌≡◌, ◌≤◌}
+use Rattle.std.proofs.lemmas.List.{take_more}
+use Rattle.std.proofs.lemmas.List.Sums.{sum_by-append}
+use Rattle.checkpoint_replay.specs.declared.change.HouseholdMove.{HouseholdMove}
 use Rattle.correction_effects.specs.declared.least.BrokenTrade.{BrokenTrade}
 use Rattle.correction_trials.proofs.ReopenedMore.{none_yet}
 use Rattle.correction_trials.proofs.TrialSteps.{next_differs}
 use Rattle.correction_trials.specs.Reopened.{AreReopened}
-use Rattle.std.specs.Prelude.{Option}
+use Rattle.correction_trials.specs.Starts.{sheets_replayed}
 use Rattle.correction_trials.proofs.reopening.reopen_all.Goals as goal
 
 pub loop-household-init : goal.loop-household-init
-loop-household-init g c = record {
-  reopened = subst (λ (first : Option BrokenTrade). AreReopened c.args.books.now c.args.event.now c.args.facts.now [] None first) (sym c.new.ensures) (none_yet c.args.books.now c.args.event.now c.args.facts.now);
-  steps = omega arith;
-  behind = omega arith;
-}
+loop-household-init g c =
+    let none : c.in_ok-moves.moves.items ≡ [] = search rules in
+    record {
+      reopened = subst (λ (moves : List HouseholdMove). AreReopened c.args.books.now c.args.event.now c.args.facts.now [] moves c.new-first.result.least) (sym none)
+          (subst (λ (first : Option BrokenTrade). AreReopened c.args.books.now c.args.event.now c.args.facts.now [] [] first) (sym c.new-first.ensures) (none_yet c.args.books.now c.args.event.now c.args.facts.now));
+      steps = omega arith;
+      behind = omega arith;
+    }
 
-pub reopen_more-requires-clause-apart : goal.reopen_more-requires-clause-apart
-reopen_more-requires-clause-apart g c =
-    subst (λ (done : List ℕ). IsDistinct nat_eq (done ++ get_or c.args.households.now c.loop-household.household-index 0 ∷ [])) (sym c.loop-household.invariant.reopened.households)
-    (next_differs c.args.households.now c.loop-household.household-index 0 c.requires.rising (omega (arith, c.loop-household.auto.household-index-end)))
+pub loop-household-preserved : goal.loop-household-preserved
+loop-household-preserved g c =
+    let all = c.args.households.now in
+    let place = c.loop-household.household-index in
+    let replayed = sheets_replayed c.args.books.now.kept c.args.before c.args.facts.now.sheet in
+    let short : place < length all = omega (arith, c.loop-household.auto.household-index-end) in
+    let pushed : c.push.new.self.items ≡ c.loop-household.moves.items ++ c.in_ok-moved.moved ∷ [] = search rules in
+    record {
+      reopened = subst (λ (households : List ℕ). AreReopened c.args.books.now c.args.event.now c.args.facts.now households c.push.new.self.items c.reopen_more.new.first.least) (sym (take_more all place 0 short))
+          (subst (λ (moves : List HouseholdMove). AreReopened c.args.books.now c.args.event.now c.args.facts.now (take place all ++ get_or all place 0 ∷ []) moves c.reopen_more.new.first.least) (sym pushed)
+          (c.in_ok-moved.ensures.more (take place all) c.loop-household.moves.items (next_differs all place 0 c.requires.rising short) c.loop-household.invariant.reopened));
+      steps = omega (arith, c.in_ok-moved.ensures.steps, c.loop-household.invariant.steps);
+      behind = subst (λ (households : List ℕ). c.reopen_more.new.steps ≤ c.args.steps.now + sum_by replayed households) (sym (take_more all place 0 short))
+          (omega (arith, sum_by-append replayed (take place all) (get_or all place 0 ∷ []), c.in_ok-moved.ensures.behind, c.loop-household.invariant.behind));
+    }

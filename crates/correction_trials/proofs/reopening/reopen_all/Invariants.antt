@@ -7,7 +7,7 @@ use Rattle.correction_trials.proofs.reopening.reopen_all.Given as goal
 
 abbrev pub invariant-loop-household : goal.invariant-loop-household
 invariant-loop-household g l = record {
-  reopened : AreReopened l.books l.event l.facts (take l.household-index l.households) l.reopened.change l.reopened.first.least;
+  reopened : AreReopened l.books l.event l.facts (take l.household-index l.households) l.moves.items l.first.least;
   steps : l.steps ≤ l.fn.steps + l.household-index * l.facts.sheet;
   behind : l.steps ≤ l.fn.steps + sum_by (sheets_replayed l.books.kept l.before l.facts.sheet) (take l.household-index l.households);
 }

@@ -1,8 +1,7 @@
 -- That `reopen_more` keeps its contract.
 use Rattle.correction_trials.proofs.KeptUnbroken.{unbroken_before}
 use Rattle.correction_trials.proofs.ReopenedMore.{more_reopened}
-use Rattle.correction_trials.proofs.TrialSteps.{sees_part, stand_apart}
-use Rattle.correction_trials.specs.Reopened.{moves_of}
+use Rattle.correction_trials.proofs.TrialSteps.{sees_part}
 use Rattle.correction_trials.proofs.reopening.reopen_more.Goals as goal
 
 pub see_broken-requires-clause-unbroken : goal.see_broken-requires-clause-unbroken
@@ -10,8 +9,6 @@ see_broken-requires-clause-unbroken g c =
     unbroken_before c.args.books.now c.args.event.now c.args.facts.now c.args.household c.requires.tried c.references_in.ensures
 
 pub returns-clause-more : goal.returns-clause-more
-returns-clause-more g c done are =
-    more_reopened c.args.books.now c.args.event.now c.args.facts.now c.args.household done c.args.so_far.change c.in_ok-one.one c.in_ok-both.both c.args.so_far.first.least c.see_broken.new.first.least are
-    (stand_apart (moves_of c.args.so_far.change) c.in_ok-one.one.moves c.args.household c.in_ok-one.ensures.one.only c.requires.apart)
-    c.in_ok-one.ensures.one c.in_ok-both.ensures
-    (sees_part c.args.books.now c.args.event.now c.args.facts.now c.args.household c.in_ok-one.one c.args.so_far.first.least c.see_broken.new.first.least c.requires.tried c.in_ok-one.ensures.one c.in_ok-see_broken.ensures)
+returns-clause-more g c =
+    more_reopened c.args.books.now c.args.event.now c.args.facts.now c.args.household c.in_ok-one.one c.args.first.now.least c.see_broken.new.first.least c.in_ok-one.ensures.one
+    (sees_part c.args.books.now c.args.event.now c.args.facts.now c.args.household c.in_ok-one.one c.args.first.now.least c.see_broken.new.first.least c.requires.tried c.in_ok-one.ensures.one c.in_ok-see_broken.ensures)

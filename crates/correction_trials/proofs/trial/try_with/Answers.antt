@@ -9,7 +9,7 @@ returns-clause-trial g c =
     let households = c.in_ok-households.households.items in
     let reached = c.in_ok-households.ensures.reached in
     record {
-      says = c.in_ok-tried.ensures.tried;
+      says = c.in_ok-tried.ensures;
       left = λ household none. part-left c.args.books.now c.args.event.now _ c.in_ok-households.households.items household c.requires.tried reached none;
       like = like_long c.args.books.now.book.journal c.args.event.now c.requires.tried.corrects c.requires.tried.trial;
       unreplaced = λ household none. unreplaced journal households c.args.event.now.kind household reached none;
