@@ -136,7 +136,8 @@ fn serve_of<'a>(given: &ArgMatches<'a>) -> Option<Command<'a>>
 
 fn apply_from<'a>(alloc: Global, words: &'a [String]) -> Result<Option<Command<'a>>, NoMemory>
     ensures { IfOk result (λ found. option_map command_view found
-        ≡ option_and_then spec.apply_of (values_of spec.apply_options (map string_bytes words.now))) }
+        ≡ option_and_then spec.apply_of
+        (values_of spec.apply_options (map string_bytes words.now))) }
 {
     match values_in(alloc, "apply", APPLY.as_slice(), words)? {
         Some(given) => Ok(apply_of(&given)),
@@ -146,7 +147,8 @@ fn apply_from<'a>(alloc: Global, words: &'a [String]) -> Result<Option<Command<'
 
 fn load_from<'a>(alloc: Global, words: &'a [String]) -> Result<Option<Command<'a>>, NoMemory>
     ensures { IfOk result (λ found. option_map command_view found
-        ≡ option_and_then spec.load_of (values_of spec.load_options (map string_bytes words.now))) }
+        ≡ option_and_then spec.load_of
+        (values_of spec.load_options (map string_bytes words.now))) }
 {
     match values_in(alloc, "load", LOAD.as_slice(), words)? {
         Some(given) => Ok(load_of(&given)),
@@ -156,7 +158,8 @@ fn load_from<'a>(alloc: Global, words: &'a [String]) -> Result<Option<Command<'a
 
 fn serve_from<'a>(alloc: Global, words: &'a [String]) -> Result<Option<Command<'a>>, NoMemory>
     ensures { IfOk result (λ found. option_map command_view found
-        ≡ option_and_then spec.serve_of (values_of spec.serve_options (map string_bytes words.now))) }
+        ≡ option_and_then spec.serve_of
+        (values_of spec.serve_options (map string_bytes words.now))) }
 {
     match values_in(alloc, "serve", SERVE.as_slice(), words)? {
         Some(given) => Ok(serve_of(&given)),

@@ -1,14 +1,16 @@
 //! What the definition of a run over a connection means.
 ghost use Rattle.std.specs.Prelude.{◌≡◌, ◌≤◌, ◌<◌, ◌++◌, Bool, List, length, ℕ};
+ghost use Rattle.agent_events.specs.VerbForms.{Asked};
 ghost use Rattle.agent_events.specs.declared.request.Request.{Request};
 ghost use Rattle.connection_service.specs.Answers.{Answers, At};
-ghost use Rattle.connection_service.specs.Requests.{Asks, IsAnsweredInView, IsRuledOrUnkept, SaysUnkept};
+ghost use Rattle.connection_service.specs.Requests.{Asks, IsAnsweredInView, IsRuledBehind, IsRuledOrUnkept, SaysUnkept};
 ghost use Rattle.connection_service.specs.Runs.{Run};
 ghost use Rattle.http_calls.specs.Calls.{ends, item_key};
 ghost use Rattle.http_stream.specs.Stream.{Items, Stream, StreamItem};
 ghost use Rattle.register_laws.specs.Isolation.{IsAskedOf};
 ghost use Rattle.register_machine.specs.journal.Journals.{Journal};
 ghost use Rattle.register_machine.specs.journal.Lawful.{IsLawful};
+ghost use Rattle.register_machine.specs.rules.Situations.{Situation};
 
 /// A run has a text for each of the first items of its stream, in order; so in whatever pieces the bytes came, its items are those of
 /// the whole stream.
@@ -37,6 +39,17 @@ pub fn requests_that_break_no_rule_are_accepted()
         (bytes : List ℕ) (new : At)
         → Asks item request → Answers operator item last old bytes new
         → IsRuledOrUnkept operator (item_key item) last request old bytes new }
+{
+    register_laws::answer_laws::requests_are_refused_by_the_first_rule_broken();
+    register_laws::answer_laws::requests_that_break_no_rule_bring_their_event();
+}
+
+/// A line of a batch is answered behind those before it as a request by itself would be: where it breaks no rule its event is among
+/// those that the batch keeps, and its reply, which is no refusal, among the batch's; where it breaks some it is refused by the
+/// first, and brings nothing.
+pub fn lines_that_break_no_rule_are_accepted()
+    ensures { (situation : Situation) (front : List Asked) (request : Request)
+        → IsRuledBehind situation front request }
 {
     register_laws::answer_laws::requests_are_refused_by_the_first_rule_broken();
     register_laws::answer_laws::requests_that_break_no_rule_bring_their_event();
