@@ -1,4 +1,1 @@
--- what a run leaves where it ends, and the line of each status
-pub mod Runs
--- how a run ends, by its command
-pub mod Ends
+-- This crate has no definitions of its own.

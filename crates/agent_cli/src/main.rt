@@ -2,19 +2,10 @@
 #![tactic(auto)]
 
 ghost use Rattle.std.specs.Prelude.{◌≡◌, ◌<◌};
+ghost use Rattle.std.specs.Process.{exit_status};
 
-mod applying;
-mod ends;
-mod loading;
-mod opening;
-mod run;
-mod serving;
-#[cfg(test)]
-mod tests;
-
-use crate::ends::{Status, no_memory};
-use crate::run::run;
 use agent_edge::{StdinSource, StdoutSink, SystemClock, TcpDoor};
+use agent_run::{Status, no_memory, run};
 use household_fold::Steps;
 use money_units::NoMemory;
 use sqlite_keeper::SqliteKeeper;
@@ -72,7 +63,14 @@ fn run_on<L: Ledger>(rt: HostRuntime, blank: Blank) -> Status
     }
 }
 
+// The program ends with the number of a status.
+fn ended_with(status: Status) -> ExitCode
+    ensures { exit_status result ≡ status.0 }
+{
+    let Status(number) = status;
+    ExitCode::from(number)
+}
+
 fn main(rt: HostRuntime) -> ExitCode {
-    let Status(status) = run_on::<Brand>(rt, Blank::new(1));
-    ExitCode::from(status)
+    ended_with(run_on::<Brand>(rt, Blank::new(1)))
 }

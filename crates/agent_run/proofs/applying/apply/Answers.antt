@@ -1,0 +1,52 @@
+-- That `apply` keeps its contract.
+use Rattle.std.proofs.Common.{Err, ap, ◌∙◌}
+use Rattle.std.proofs.Common.{inr}
+use Rattle.agent_run.proofs.RunFacts.{is-opened, same-grow, stopped}
+use Rattle.agent_run.specs.Runs.{sink_at, status_line}
+use Rattle.agent_run.proofs.applying.apply.Goals as goal
+
+pub returns-in-Err-Keeper-clause-kept : goal.returns-in-Err-Keeper-clause-kept
+returns-in-Err-Keeper-clause-kept g c =
+    same-grow (g.K.Keeper.tells c.args.keeper.now) (g.K.Keeper.tells c.open.new.keeper) c.open.ensures.same
+
+pub returns-in-Err-Damaged-clause-damaged : goal.returns-in-Err-Damaged-clause-damaged
+returns-in-Err-Damaged-clause-damaged g c = λ is. (
+  c.in-Err-Damaged.place,
+  c.damaged.ensures.line,
+  c.open.ensures.same,
+  c.open.ensures.damaged c.in-Err-Damaged.place (c.in-Err-Damaged.is ∙ ap (λ fault. Err fault) c.in-Err-Damaged.field-0-is),
+)
+
+pub returns-in-Err-Damaged-clause-kept : goal.returns-in-Err-Damaged-clause-kept
+returns-in-Err-Damaged-clause-kept g c =
+    same-grow (g.K.Keeper.tells c.args.keeper.now) (g.K.Keeper.tells c.open.new.keeper) c.open.ensures.same
+
+pub returns-in-Err-NoMemory-clause-kept : goal.returns-in-Err-NoMemory-clause-kept
+returns-in-Err-NoMemory-clause-kept g c =
+    same-grow (g.K.Keeper.tells c.args.keeper.now) (g.K.Keeper.tells c.open.new.keeper) c.open.ensures.same
+
+pub returns-in-Ok-clause-failed : goal.returns-in-Ok-clause-failed
+returns-in-Ok-clause-failed g c = λ e.
+    let before = g.K.Keeper.tells c.args.keeper.now in
+    let now = g.K.Keeper.tells c.read_and_answer.new.keeper in
+    let opened = c.in-Ok.desk.book.journal in
+    inr (stopped (status_line 5) c.args.key.now before now (g.S.Source.left c.args.input.now)
+    (sink_at (g.O.Sink.contents c.args.out.now) (g.O.Sink.faults c.args.out.now))
+    (sink_at (g.O.Sink.contents c.read_and_answer.new.out) (g.O.Sink.faults c.read_and_answer.new.out)) opened
+    (is-opened before (g.K.Keeper.tells c.open.new.keeper) now opened
+    (λ last is first was. c.in-Ok.ensures.speaks (c.read_and_answer.ensures.was_honest (g.met.K.Keeper.honest c.read_and_answer.new.keeper last is)) first was)
+    c.in-Ok.ensures.told c.in-Ok.ensures.lawful)
+    (c.read_and_answer.ensures.failed e))
+
+pub returns-in-Ok-clause-no_memory : goal.returns-in-Ok-clause-no_memory
+returns-in-Ok-clause-no_memory g c = λ e.
+    let before = g.K.Keeper.tells c.args.keeper.now in
+    let now = g.K.Keeper.tells c.read_and_answer.new.keeper in
+    let opened = c.in-Ok.desk.book.journal in
+    inr (stopped (status_line 7) c.args.key.now before now (g.S.Source.left c.args.input.now)
+    (sink_at (g.O.Sink.contents c.args.out.now) (g.O.Sink.faults c.args.out.now))
+    (sink_at (g.O.Sink.contents c.read_and_answer.new.out) (g.O.Sink.faults c.read_and_answer.new.out)) opened
+    (is-opened before (g.K.Keeper.tells c.open.new.keeper) now opened
+    (λ last is first was. c.in-Ok.ensures.speaks (c.read_and_answer.ensures.was_honest (g.met.K.Keeper.honest c.read_and_answer.new.keeper last is)) first was)
+    c.in-Ok.ensures.told c.in-Ok.ensures.lawful)
+    (c.read_and_answer.ensures.no_memory e))

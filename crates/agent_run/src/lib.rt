@@ -1,0 +1,12 @@
+//! A run of the program `agent` on the words of its command line, over any store, door, clock, input and output: the top call.
+#![tactic(auto)]
+
+mod applying;
+mod ends;
+mod loading;
+mod opening;
+mod run;
+mod serving;
+
+pub use crate::ends::{Status, no_memory};
+pub use crate::run::run;
