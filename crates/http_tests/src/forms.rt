@@ -241,7 +241,7 @@ pub struct Row {
 }
 
 /// The line of a script.
-pub fn line(alloc: Global, form: &Form) -> Result<Vec<u8>, NoMemory> {
+pub(crate) fn line(alloc: Global, form: &Form) -> Result<Vec<u8>, NoMemory> {
     match made(alloc, form) {
         Some(reply) => line_of(alloc, &reply),
         None => Ok(Vec::new(alloc)),
@@ -255,7 +255,7 @@ fn line_of(alloc: Global, reply: &Reply) -> Result<Vec<u8>, NoMemory> {
 }
 
 /// The bytes of HTTP where the connection stays or, after the last reply, closes.
-pub fn sent(alloc: Global, form: &Form, last: bool) -> Result<Vec<u8>, NoMemory> {
+pub(crate) fn sent(alloc: Global, form: &Form, last: bool) -> Result<Vec<u8>, NoMemory> {
     match made(alloc, form) {
         Some(reply) => reply_bytes(alloc, &reply, last),
         None => Ok(Vec::new(alloc)),
@@ -263,7 +263,7 @@ pub fn sent(alloc: Global, form: &Form, last: bool) -> Result<Vec<u8>, NoMemory>
 }
 
 /// The bytes of HTTP with this status and its phrase, type and body.
-pub fn message(
+pub(crate) fn message(
     alloc: Global,
     status: &str,
     kind: &str,
@@ -312,7 +312,7 @@ fn append_sent(alloc: Global, row: &Row, mut text: String) -> Result<String, NoM
 }
 
 /// The first reply that has another line or other bytes, where the connection stays or closes, with them; empty without one.
-pub fn first_other(alloc: Global, rows: &[Row]) -> Result<String, NoMemory> {
+pub(crate) fn first_other(alloc: Global, rows: &[Row]) -> Result<String, NoMemory> {
     for row in rows {
         if !is_said(alloc, row)? {
             return shown(alloc, row);

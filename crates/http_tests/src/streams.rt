@@ -107,7 +107,7 @@ fn tell_both(
 }
 
 /// What is told of a stream that comes in pieces of so many bytes.
-pub fn told(alloc: Global, stream: &[u8], size: usize) -> Result<String, NoMemory> {
+pub(crate) fn told(alloc: Global, stream: &[u8], size: usize) -> Result<String, NoMemory> {
     let mut told = String::new(alloc);
     tell_pieces(alloc, stream, size, &mut told)?;
     Ok(told)
@@ -124,7 +124,12 @@ fn told_in_two(alloc: Global, stream: &[u8], first: usize) -> Result<String, NoM
 // ---- whether streams are told as they should be
 
 /// Whether this is told of a stream in pieces of so many bytes.
-pub fn is_told(alloc: Global, stream: &[u8], size: usize, wanted: &str) -> Result<bool, NoMemory> {
+pub(crate) fn is_told(
+    alloc: Global,
+    stream: &[u8],
+    size: usize,
+    wanted: &str,
+) -> Result<bool, NoMemory> {
     Ok(told(alloc, stream, size)?.as_str() == wanted)
 }
 
@@ -138,7 +143,7 @@ fn is_told_in_two(
 }
 
 /// Whether this is told of a stream in pieces of each of these sizes.
-pub fn is_told_in_pieces(
+pub(crate) fn is_told_in_pieces(
     alloc: Global,
     stream: &[u8],
     sizes: &[usize],
@@ -163,7 +168,7 @@ fn is_told_in_any_two(alloc: Global, stream: &[u8], wanted: &str) -> Result<bool
 }
 
 /// Whether this is told of a stream whole, in pieces and cut after each byte.
-pub fn is_always_told(alloc: Global, stream: &[u8], wanted: &str) -> Result<bool, NoMemory> {
+pub(crate) fn is_always_told(alloc: Global, stream: &[u8], wanted: &str) -> Result<bool, NoMemory> {
     Ok(
         is_told_in_pieces(alloc, stream, &[1, 2, 7, 100, 4096], wanted)?
             && is_told_in_any_two(alloc, stream, wanted)?,
@@ -171,14 +176,14 @@ pub fn is_always_told(alloc: Global, stream: &[u8], wanted: &str) -> Result<bool
 }
 
 /// A stream with what is told of it in one piece, as a text.
-pub fn shown(alloc: Global, stream: &[u8]) -> Result<String, NoMemory> {
+pub(crate) fn shown(alloc: Global, stream: &[u8]) -> Result<String, NoMemory> {
     let told = told(alloc, stream, stream.len())?;
     let start = stream.get(..300).unwrap_or(stream);
     Ok(format!(in alloc; "{} is told {told}", Shown(start))?)
 }
 
 /// The first stream of which something else is told, with that; empty without one.
-pub fn first_other(alloc: Global, rows: &[(&[u8], &str)]) -> Result<String, NoMemory> {
+pub(crate) fn first_other(alloc: Global, rows: &[(&[u8], &str)]) -> Result<String, NoMemory> {
     for (stream, wanted) in rows {
         if !is_always_told(alloc, stream, wanted)? {
             return shown(alloc, stream);
@@ -238,7 +243,7 @@ fn told_of_built(alloc: Global, row: &Built) -> Result<String, NoMemory> {
 }
 
 /// The first of these streams that has another size, or of which something else is told, with that; empty without one.
-pub fn first_other_built(alloc: Global, rows: &[Built]) -> Result<String, NoMemory> {
+pub(crate) fn first_other_built(alloc: Global, rows: &[Built]) -> Result<String, NoMemory> {
     for row in rows {
         if built_size(alloc, row)? != row.size || !is_row_told(alloc, row)? {
             return told_of_built(alloc, row);

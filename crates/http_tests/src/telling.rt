@@ -7,7 +7,7 @@ use std::alloc::{AllocError, Global};
 use std::fmt;
 
 /// What is asked, or the place of the field that isn't in its form.
-pub fn told_asked(alloc: Global, asked: &Asked) -> Result<String, AllocError> {
+pub(crate) fn told_asked(alloc: Global, asked: &Asked) -> Result<String, AllocError> {
     match asked {
         Ok(request) => told_request(alloc, request),
         Err(place) => format!(in alloc; "{place}"),

@@ -18,7 +18,7 @@ pub struct Rates {
 }
 
 /// Counts what a load does.
-pub fn counted(alloc: Global, load: &Load) -> Result<Counts, NoMemory> {
+pub(crate) fn counted(alloc: Global, load: &Load) -> Result<Counts, NoMemory> {
     let mut register = register_of(alloc, load.accounts)?;
     let noted = place_all(alloc, &mut register, load)?;
     let admitted = admit_more(alloc, &register, load)?;
@@ -54,7 +54,7 @@ fn rated_from(rt: &HostRuntime, start: Instant, load: &Load) -> Result<Rates, No
 }
 
 /// Measures a load; without a clock as if there were no memory.
-pub fn rated(rt: &HostRuntime, load: &Load) -> Result<Rates, NoMemory> {
+pub(crate) fn rated(rt: &HostRuntime, load: &Load) -> Result<Rates, NoMemory> {
     match Instant::now(rt) {
         Ok(start) => rated_from(rt, start, load),
         Err(_) => Err(NoMemory),

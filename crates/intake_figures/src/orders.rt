@@ -88,7 +88,11 @@ fn admit_round(
 }
 
 /// Places the orders, and counts those that were noted.
-pub fn place_all(alloc: Global, register: &mut Register, load: &Load) -> Result<u64, NoMemory> {
+pub(crate) fn place_all(
+    alloc: Global,
+    register: &mut Register,
+    load: &Load,
+) -> Result<u64, NoMemory> {
     let mut noted: u64 = 0;
     for ref_no in 1..load.orders {
         noted = noted.saturating_add(place_round(alloc, register, load.accounts, ref_no)?);
@@ -97,7 +101,7 @@ pub fn place_all(alloc: Global, register: &mut Register, load: &Load) -> Result<
 }
 
 /// Counts those that are admitted behind them.
-pub fn admit_more(alloc: Global, register: &Register, load: &Load) -> Result<u64, NoMemory> {
+pub(crate) fn admit_more(alloc: Global, register: &Register, load: &Load) -> Result<u64, NoMemory> {
     let mut admitted: u64 = 0;
     for ref_no in load.orders..load.more {
         admitted = admitted.saturating_add(admit_round(alloc, register, load.accounts, ref_no)?);

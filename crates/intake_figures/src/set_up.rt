@@ -38,7 +38,7 @@ fn lines_of(alloc: Global, number: u64) -> Result<(String, String), NoMemory> {
 }
 
 /// A register of so many accounts, by number from 1.
-pub fn register_of(alloc: Global, accounts: u64) -> Result<Register, NoMemory> {
+pub(crate) fn register_of(alloc: Global, accounts: u64) -> Result<Register, NoMemory> {
     let mut register = Register::new(alloc)?;
     let _calendar = ask(alloc, &mut register, CALENDAR)?;
     let _class = ask(alloc, &mut register, CLASS)?;

@@ -10,7 +10,7 @@ use std::test::Fail;
 pub const OPERATOR: &[u8] = b"op-desk000001";
 
 /// Admits what a line of a script asks, and notes it where it is new; answers whether it was.
-pub fn is_noted(alloc: Global, register: &mut Register, line: &str) -> Result<bool, Fail> {
+pub(crate) fn is_noted(alloc: Global, register: &mut Register, line: &str) -> Result<bool, Fail> {
     match &ScriptItems::new(alloc, line.as_bytes()).next(alloc)? {
         Some(
             ScriptItem::Good {
@@ -25,7 +25,7 @@ pub fn is_noted(alloc: Global, register: &mut Register, line: &str) -> Result<bo
 
 /// What is said to a line of a script: the reply to an order, a cancel or a refusal, `again` with the place of the event that it
 /// repeats, `look`, or `fresh` for what else is new. What is new is noted, but for a correction that a ledger would have to judge.
-pub fn said(alloc: Global, register: &mut Register, line: &str) -> Result<Vec<u8>, Fail> {
+pub(crate) fn said(alloc: Global, register: &mut Register, line: &str) -> Result<Vec<u8>, Fail> {
     match &ScriptItems::new(alloc, line.as_bytes()).next(alloc)? {
         Some(
             ScriptItem::Good {

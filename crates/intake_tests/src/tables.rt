@@ -271,7 +271,7 @@ fn first_other(alloc: Global, lines: &[&str], steps: &[Step<'_>]) -> Result<Stri
 }
 
 /// Behind lines that are new, all is said as the steps have it.
-pub fn expect(
+pub(crate) fn expect(
     rt: &impl Abort,
     alloc: Global,
     lines: &[&str],

@@ -26,7 +26,7 @@ fn put_of(alloc: Global, household: u32, sheet: u32, bytes: &[u8]) -> Result<Che
 }
 
 /// A row, and three checkpoint rows.
-pub fn first_batch(alloc: Global) -> Result<Batch, KeepFault> {
+pub(crate) fn first_batch(alloc: Global) -> Result<Batch, KeepFault> {
     let mut batch = Batch::new(alloc);
     batch.rows.push(Bytes::from_slice(alloc, b"first")?)?;
     batch.puts.push(put_of(alloc, 7, 32, b"a")?)?;
@@ -36,7 +36,7 @@ pub fn first_batch(alloc: Global) -> Result<Batch, KeepFault> {
 }
 
 /// A row more; of the checkpoint rows one is replaced and one removed.
-pub fn second_batch(alloc: Global) -> Result<Batch, KeepFault> {
+pub(crate) fn second_batch(alloc: Global) -> Result<Batch, KeepFault> {
     let mut batch = Batch::new(alloc);
     batch.rows.push(Bytes::from_slice(alloc, b"second")?)?;
     batch.puts.push(put_of(alloc, 7, 32, b"longer")?)?;
@@ -45,7 +45,7 @@ pub fn second_batch(alloc: Global) -> Result<Batch, KeepFault> {
 }
 
 /// Appends a batch behind the rows that are kept: two calls.
-pub fn commit<K: Keeper>(keeper: &mut K, batch: &Batch) -> Result<(), KeepFault>
+pub(crate) fn commit<K: Keeper>(keeper: &mut K, batch: &Batch) -> Result<(), KeepFault>
     requires { IsTrue (K.is_attached keeper.old) }
     ensures { IsTrue (K.is_attached keeper.new) }
 {
@@ -54,7 +54,7 @@ pub fn commit<K: Keeper>(keeper: &mut K, batch: &Batch) -> Result<(), KeepFault>
 }
 
 /// Both commits, of two calls each.
-pub fn two_commits<K: Keeper>(alloc: Global, keeper: &mut K) -> Result<(), KeepFault>
+pub(crate) fn two_commits<K: Keeper>(alloc: Global, keeper: &mut K) -> Result<(), KeepFault>
     requires { IsTrue (K.is_attached keeper.old) }
     ensures { IsTrue (K.is_attached keeper.new) }
 {
@@ -106,7 +106,7 @@ fn push_check<K: Keeper>(
 }
 
 /// The number of rows below ten, two rows and three checkpoint rows, as text.
-pub fn shown<K: Keeper>(alloc: Global, keeper: &mut K) -> Result<Vec<u8>, KeepFault>
+pub(crate) fn shown<K: Keeper>(alloc: Global, keeper: &mut K) -> Result<Vec<u8>, KeepFault>
     requires { IsTrue (K.is_attached keeper.old) }
     ensures { IsTrue (K.is_attached keeper.new) }
 {

@@ -34,6 +34,22 @@ fn two_commits_are_found_again(rt: HostRuntime) -> Result<(), Fail> {
     Ok(())
 }
 
+// A path of 210 bytes.
+const LONG_PATH: &str = "long_path/\
+rrrrrrrrrrrrrrrrrrrrrrrrrrrrrrrrrrrrrrrrrrrrrrrrrrrrrrrrrrrrrrrrrrrrrrrrrrrrrrrrrrrrrrrrrrrrrrrrrr\
+rrrrrrrrrrrrrrrrrrrrrrrrrrrrrrrrrrrrrrrrrrrrrrrrrrrrrrrrrrrrrrrrrrrrrrrrrrrrrrrrrrrrrrrrrrrrrrrrrrr.db";
+
+#[test]
+fn a_long_path_is_opened(rt: HostRuntime) -> Result<(), Fail> {
+    let _ = fs::remove_dir_all(&rt, "long_path");
+    fs::create_dir(&rt, "long_path")?;
+    commit_at(rt.clone()?, LONG_PATH)?;
+    let found = found_at(rt.clone()?, LONG_PATH, "long_path/b.db")?;
+    assert_eq!(rt; found.as_slice(), BOTH);
+    fs::remove_dir_all(&rt, "long_path")?;
+    Ok(())
+}
+
 // A commit behind so many rows where there is one row, and what is shown then.
 fn committed_behind(rt: HostRuntime, path: &str, base: u64) -> Result<(bool, Vec<u8>), KeepFault> {
     let alloc = rt.alloc();

@@ -18,7 +18,7 @@ pub const THIRD: u64 = 1720036800;
 pub const FOURTH: u64 = 1720209600;
 
 /// New York at 16:00 in 2024.
-pub fn new_york(alloc: Global, number: u32) -> Result<Calendar, Fail> {
+pub(crate) fn new_york(alloc: Global, number: u32) -> Result<Calendar, Fail> {
     let holidays = [day("2024-07-04")?];
     let first = day("2024-01-01")?;
     let last = day("2024-12-31")?;
@@ -27,7 +27,7 @@ pub fn new_york(alloc: Global, number: u32) -> Result<Calendar, Fail> {
 }
 
 /// Adds a calendar that is new.
-pub fn enter_calendar(book: &mut PriceBook, calendar: Calendar) -> Result<(), Fail> {
+pub(crate) fn enter_calendar(book: &mut PriceBook, calendar: Calendar) -> Result<(), Fail> {
     book.reserve(1)?;
     if book.calendar(calendar.number()).is_some() {
         return Err("the calendar is known".into());
@@ -37,7 +37,7 @@ pub fn enter_calendar(book: &mut PriceBook, calendar: Calendar) -> Result<(), Fa
 }
 
 /// Opens a class that is new, of a calendar that is known.
-pub fn open_class(
+pub(crate) fn open_class(
     book: &mut PriceBook,
     class: u32,
     calendar: u32,
@@ -52,7 +52,7 @@ pub fn open_class(
 }
 
 /// Publishes the expected sheet, of one class.
-pub fn publish_one(
+pub(crate) fn publish_one(
     book: &mut PriceBook,
     calendar: u32,
     seconds: u64,
@@ -70,7 +70,7 @@ pub fn publish_one(
 }
 
 /// A book of one calendar in New York and one class.
-pub fn one_class(alloc: Global) -> Result<PriceBook, Fail> {
+pub(crate) fn one_class(alloc: Global) -> Result<PriceBook, Fail> {
     let mut book = PriceBook::new(alloc)?;
     enter_calendar(&mut book, new_york(alloc, 1)?)?;
     open_class(&mut book, 14, 1, OPENED)?;
@@ -78,7 +78,7 @@ pub fn one_class(alloc: Global) -> Result<PriceBook, Fail> {
 }
 
 /// A book with sheets of 10.00 and 11.00 on two days.
-pub fn two_sheets(alloc: Global) -> Result<PriceBook, Fail> {
+pub(crate) fn two_sheets(alloc: Global) -> Result<PriceBook, Fail> {
     let mut book = one_class(alloc)?;
     publish_one(&mut book, 1, FIRST, 14, 1000)?;
     publish_one(&mut book, 1, SECOND, 14, 1100)?;
@@ -86,7 +86,7 @@ pub fn two_sheets(alloc: Global) -> Result<PriceBook, Fail> {
 }
 
 /// A book of two calendars, where class 13 opens at the first pricing moment.
-pub fn two_calendars(alloc: Global) -> Result<PriceBook, Fail> {
+pub(crate) fn two_calendars(alloc: Global) -> Result<PriceBook, Fail> {
     let mut book = PriceBook::new(alloc)?;
     enter_calendar(&mut book, new_york(alloc, 2)?)?;
     enter_calendar(&mut book, new_york(alloc, 1)?)?;

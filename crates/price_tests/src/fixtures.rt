@@ -16,17 +16,17 @@ const GROWTH: [(u64, u16); 7] = [
 ];
 
 /// The day of a text that is a date.
-pub fn day(text: &str) -> Result<Day, Fail> {
+pub(crate) fn day(text: &str) -> Result<Day, Fail> {
     Ok(read_day(text.as_bytes()).ok_or("no date")?)
 }
 
 /// A net asset value of so many cents.
-pub fn nav(cents: u64) -> Result<Nav, Fail> {
+pub(crate) fn nav(cents: u64) -> Result<Nav, Fail> {
     Ok(Nav::new(cents).ok_or("no net asset value")?)
 }
 
 /// A moment of so many seconds.
-pub fn moment(seconds: u64) -> Result<Moment, Fail> {
+pub(crate) fn moment(seconds: u64) -> Result<Moment, Fail> {
     Ok(Moment::new(seconds).ok_or("no moment")?)
 }
 
@@ -42,7 +42,7 @@ fn brackets(alloc: Global) -> Result<Brackets, NoMemory> {
 }
 
 /// The terms of a growth fund's load class, whose table has seven rows.
-pub fn growth(alloc: Global) -> Result<Terms, Fail> {
+pub(crate) fn growth(alloc: Global) -> Result<Terms, Fail> {
     let form = TermsForm {
         class: 11,
         calendar: 1,

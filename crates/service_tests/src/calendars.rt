@@ -10,7 +10,7 @@ pub enum PricingDays {
 }
 
 /// The item that brings a calendar.
-pub fn calendar_item(days: PricingDays) -> &'static [u8] {
+pub(crate) fn calendar_item(days: PricingDays) -> &'static [u8] {
     match days {
         PricingDays::Each => EACH_DAY,
         PricingDays::Six => SIX_DAYS,

@@ -2,7 +2,7 @@
 use crate::calendars::PricingDays;
 use crate::worked::Worked;
 
-pub const CORRECTIONS: [Worked; 9] = [
+pub const CORRECTIONS: [Worked; 10] = [
     // 10000.00 at the first sheet's 10.00 are 1000.000 shares, which are worth 10500.00 by now. The dealer pays the
     // difference. Sent again, the correction is answered as before, and nothing is paid twice.
     Worked {
@@ -206,5 +206,45 @@ ok,books,11:0.000:0.00 12:0.000:0.00 13:0.000:0.00 14:0.000:0.00,0.00,0.00,5:0.0
 ok,order,101,2,1719867700,1719950400\n\
 ok,sheet,2\n\
 ok,show,101,14:50.000:0.000:500.00\n",
+    },
+    // 100.00 at 10.00 are 10.000 shares: eighteen redemptions of 1000.000 are short, and one of 5.000 is filled. At 25.00 only
+    // 4.000 shares would come, and none without the purchase: the one that was filled is broken, and none of the others. At
+    // 20.00 the 5.000 shares that come go again: the class has 50.00 less, and 5.000 shares less that are worth 100.00.
+    Worked {
+        name: "many orders that stay unfilled",
+        days: PricingDays::Each,
+        items: b"1719838800,h-mary000001,buy,101,1,14,100.00\n\
+1719838800,h-mary000001,sell,101,2,14,1000.000\n\
+1719838800,h-mary000001,sell,101,3,14,1000.000\n\
+1719838800,h-mary000001,sell,101,4,14,1000.000\n\
+1719838800,h-mary000001,sell,101,5,14,1000.000\n\
+1719838800,h-mary000001,sell,101,6,14,1000.000\n\
+1719838800,h-mary000001,sell,101,7,14,1000.000\n\
+1719838800,h-mary000001,sell,101,8,14,1000.000\n\
+1719838800,h-mary000001,sell,101,9,14,1000.000\n\
+1719838800,h-mary000001,sell,101,10,14,1000.000\n\
+1719838800,h-mary000001,sell,101,11,14,1000.000\n\
+1719838800,h-mary000001,sell,101,12,14,1000.000\n\
+1719838800,h-mary000001,sell,101,13,14,1000.000\n\
+1719838800,h-mary000001,sell,101,14,14,1000.000\n\
+1719838800,h-mary000001,sell,101,15,14,1000.000\n\
+1719838800,h-mary000001,sell,101,16,14,1000.000\n\
+1719838800,h-mary000001,sell,101,17,14,1000.000\n\
+1719838800,h-mary000001,sell,101,18,14,1000.000\n\
+1719838800,h-mary000001,sell,101,19,14,1000.000\n\
+1719838800,h-mary000001,sell,101,20,14,5.000\n\
+1719867600,op-desk000001,sheet,1,1719864000,11:10.00 12:10.00 13:20.00 14:10.00\n",
+        looks: b"1719867600,op-desk000001,trace,101,19\n\
+1719867600,op-desk000001,fixprice,1,agent,14,1719864000,25.00\n\
+1719867600,op-desk000001,void,1,agent,101,1\n\
+1719867600,op-desk000001,fixprice,1,agent,14,1719864000,20.00\n\
+1719867600,op-desk000001,trace,101,19\n\
+1719867600,op-desk000001,trace,101,20\n",
+        replies: b"ok,trace,101,19,short,1719838800,1719864000,0.00,0.000,0.00,0.00,10.000\n\
+no,15,101,20\n\
+no,15,101,20\n\
+ok,fix,1,14:50.00\n\
+ok,trace,101,19,short,1719838800,1719864000,0.00,0.000,0.00,0.00,5.000\n\
+ok,trace,101,20,filled,1719838800,1719864000,20.00,5.000,100.00,0.00,0.000\n",
     },
 ];

@@ -57,7 +57,7 @@ pub struct Outcome {
 }
 
 /// The desk of a keeper, behind a script.
-pub fn open<K: Keeper, L: Ledger>(
+pub(crate) fn open<K: Keeper, L: Ledger>(
     alloc: Global,
     keeper: &mut K,
     script: &[u8],
@@ -160,7 +160,7 @@ fn serve<L: Ledger>(
 }
 
 /// Opens the desk of a keeper, answers the script, and serves connections on which these streams come.
-pub fn served(
+pub(crate) fn served(
     alloc: Global,
     keeper: &mut MemoryKeeper,
     given: &Given<'_>,
@@ -170,7 +170,11 @@ pub fn served(
 }
 
 /// What is written on one connection in a run over an empty keeper, and the events of the desk.
-pub fn replies_to(alloc: Global, given: &Given<'_>, stream: &[u8]) -> Result<(Vec<u8>, u64), Fail> {
+pub(crate) fn replies_to(
+    alloc: Global,
+    given: &Given<'_>,
+    stream: &[u8],
+) -> Result<(Vec<u8>, u64), Fail> {
     let mut keeper = MemoryKeeper::new(alloc, &[])?;
     let Outcome {
         written,

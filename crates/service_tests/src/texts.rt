@@ -80,7 +80,12 @@ pub const NOT_KEPT: &[u8] =
 {\"code\":\"503\",\"reply\":\"fault\"}";
 
 /// A reply of this status and type, behind which the connection stays.
-pub fn reply(alloc: Global, status: &[u8], kind: &[u8], body: &[u8]) -> Result<Vec<u8>, NoMemory> {
+pub(crate) fn reply(
+    alloc: Global,
+    status: &[u8],
+    kind: &[u8],
+    body: &[u8],
+) -> Result<Vec<u8>, NoMemory> {
     let mut reply = Vec::from_slice(alloc, b"HTTP/1.1 ")?;
     reply.extend_from_slice(status)?;
     reply.extend_from_slice(b"\r\nContent-Type: ")?;
@@ -93,7 +98,7 @@ pub fn reply(alloc: Global, status: &[u8], kind: &[u8], body: &[u8]) -> Result<V
 }
 
 /// These texts in order, a stroke behind each.
-pub fn joined(alloc: Global, texts: &[&[u8]]) -> Result<Vec<u8>, NoMemory> {
+pub(crate) fn joined(alloc: Global, texts: &[&[u8]]) -> Result<Vec<u8>, NoMemory> {
     let mut all = Vec::new(alloc);
     for text in texts {
         all.extend_from_slice(text)?;
@@ -103,7 +108,7 @@ pub fn joined(alloc: Global, texts: &[&[u8]]) -> Result<Vec<u8>, NoMemory> {
 }
 
 /// These texts in order.
-pub fn together(alloc: Global, first: &[u8], second: &[u8]) -> Result<Vec<u8>, NoMemory> {
+pub(crate) fn together(alloc: Global, first: &[u8], second: &[u8]) -> Result<Vec<u8>, NoMemory> {
     let mut both = Vec::from_slice(alloc, first)?;
     both.extend_from_slice(second)?;
     Ok(both)

@@ -56,7 +56,7 @@ fn items_with(items: &[u8]) -> u64 {
 }
 
 /// The replies of a desk to a script, a line each.
-pub fn replies<K: Keeper, L: Ledger>(
+pub(crate) fn replies<K: Keeper, L: Ledger>(
     alloc: Global,
     desk: &mut Desk,
     keeper: &mut K,
@@ -116,7 +116,7 @@ fn looks_alone(alloc: Global, replies: &[u8], items: &[u8]) -> Result<Vec<u8>, F
 
 /// The replies to looks behind a calendar, the classes and accounts, and items of which each brings its event; and to other
 /// looks by a desk that is opened again over the same rows.
-pub fn looks_behind(
+pub(crate) fn looks_behind(
     alloc: Global,
     days: PricingDays,
     items: &[u8],
@@ -140,7 +140,7 @@ fn told(alloc: Global, name: &str, replies: &[u8]) -> Result<String, Fail> {
 }
 
 /// The first worked script that has other replies, with these; empty without one.
-pub fn first_other(alloc: Global, scripts: &[Worked]) -> Result<String, Fail> {
+pub(crate) fn first_other(alloc: Global, scripts: &[Worked]) -> Result<String, Fail> {
     for script in scripts {
         let (replies, _) = looks_behind(alloc, script.days, script.items, script.looks, b"")?;
         if replies.as_slice() != script.replies {

@@ -7,17 +7,17 @@ use share_lots::{Piece, Position};
 use std::test::Fail;
 
 /// The day of a text that is a date.
-pub fn day(text: &str) -> Result<Day, Fail> {
+pub(crate) fn day(text: &str) -> Result<Day, Fail> {
     Ok(read_day(text.as_bytes()).ok_or("no date")?)
 }
 
 /// A net asset value of so many cents.
-pub fn nav(cents: u64) -> Result<Nav, Fail> {
+pub(crate) fn nav(cents: u64) -> Result<Nav, Fail> {
     Ok(Nav::new(cents).ok_or("no net asset value")?)
 }
 
 /// A piece of a lot that came in on a date.
-pub fn piece(lot: u32, on: &str, mils: u64, cost: u64, free: bool) -> Result<Piece, Fail>
+pub(crate) fn piece(lot: u32, on: &str, mils: u64, cost: u64, free: bool) -> Result<Piece, Fail>
     ensures { IfOk result (λ piece. (piece.mils ≡ mils) × (piece.cost ≡ cost)) }
 {
     Ok(Piece {
@@ -30,7 +30,7 @@ pub fn piece(lot: u32, on: &str, mils: u64, cost: u64, free: bool) -> Result<Pie
 }
 
 /// Adds mils that came in on a date, where there is room.
-pub fn add(
+pub(crate) fn add(
     position: &mut Position,
     on: &str,
     mils: u64,
