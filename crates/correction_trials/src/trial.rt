@@ -312,7 +312,8 @@ fn moved(
     moves: Vec<HouseholdMove>,
 ) -> Result<Tried, NoMemory>
     requires { AreMoves moves.items }
-    ensures { IfOk result (AreMovesOf event.now (sheets_on_trial patch books.now.prices.table.sheets)
+    ensures { IfOk result (AreMovesOf event.now
+        (sheets_on_trial patch books.now.prices.table.sheets)
         books.now.ledger.parts moves.items) }
 {
     let made = books.ledger.change_of(alloc, moves)?;
