@@ -2,11 +2,11 @@
 #![tactic(auto)]
 
 mod applying;
+mod commands;
 mod ends;
 mod loading;
 mod opening;
-mod run;
 mod serving;
 
+pub use crate::commands::run;
 pub use crate::ends::{Status, no_memory};
-pub use crate::run::run;

@@ -8,7 +8,7 @@ use Rattle.command_words.specs.Views.{command_view}
 use Rattle.command_words.specs.declared.command.Command.{Command}
 use Rattle.connection_service.specs.Answers.{clock_at}
 use Rattle.connection_service.specs.InTurn.{door_at}
-use Rattle.agent_run.proofs.run.do_command.Goals as goal
+use Rattle.agent_run.proofs.commands.do_command.Goals as goal
 
 pub returns-in-Load : goal.returns-in-Load
 returns-in-Load g c =

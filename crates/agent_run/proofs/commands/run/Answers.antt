@@ -9,7 +9,7 @@ use Rattle.command_words.specs.Commands.{command_of}
 use Rattle.command_words.specs.Views.{command_view}
 use Rattle.connection_service.specs.Answers.{clock_at}
 use Rattle.connection_service.specs.InTurn.{door_at}
-use Rattle.agent_run.proofs.run.run.Goals as goal
+use Rattle.agent_run.proofs.commands.run.Goals as goal
 
 pub do_command-requires : goal.do_command-requires
 do_command-requires g c =
