@@ -188,6 +188,7 @@ ends-too-long status known left e is =
     (λ script long. ap (λ s. list_any (λ n. s == n) (2 ∷ 3 ∷ 7 ∷ [])) e ∙ is)
 
 -- a run that ended behind some items, from the journal that was opened
-pub stopped : (line operator : List ℕ) (before now : Content → Type 0) (left : Option (List ℕ)) (old new : SinkAt) (opened : Journal) → IsOpened before now opened → IfSome left (λ script. OfFront (λ front. AreEndedSaying line operator opened front now old new) (script_items script)) → IsStopped line operator before now left old new
-stopped line operator before now None old new opened is held = tt
-stopped line operator before now (Some script) old new opened is held = (opened, is, held)
+pub stopped : (line operator : List ℕ) (before mid now : Content → Type 0) (left : Option (List ℕ)) (old new : SinkAt) (opened : Journal) → ((last : Content) → now last → (first : Content) → before first → mid first) → TellsRowsOf mid opened → IsLawful opened → IfSome left (λ script. OfFront (λ front. AreEndedSaying line operator opened front now old new) (script_items script)) → IsStopped line operator before now left old new
+stopped line operator before mid now None old new opened speaks told lawful held = tt
+stopped line operator before mid now (Some script) old new opened speaks told lawful held =
+    (opened, is-opened before mid now opened speaks told lawful, held)

@@ -37,7 +37,7 @@ pub shows_by_part : (situation : Situation) (household account : ℕ) → ShowsB
 shows_by_part situation household account of =
     let book = situation.book in
     ap (λ ps. Reply.Show account (map position_text ps))
-    (filter-within (is_shown account) (is_own_position (is_of_household book.accounts household)) (own-position book.accounts household account of) (replay book).register)
+    (filter-within (is_own_position (is_of_household book.accounts household)) (is_shown account) (own-position book.accounts household account of) (replay book).register)
 
 pub found-in_part : (book : Book) (household : ℕ) (row : OrderRow) → is_of_household book.accounts household row.order.account ≡ true → trade_among (part_in book household).trades row ≡ trade_among (replay book).trades row
 found-in_part book household row of =

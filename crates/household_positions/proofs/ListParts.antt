@@ -1,39 +1,14 @@
 -- Lists of which all elements pass a test, or none.
-use Rattle.std.proofs.Common.{All, Bool, List, None, Some, [], ap, cond, false, filter, find, get_or, length, map, not, refl, sym, take, true, ℕ, ◌++◌, ◌+◌, ◌<◌, ◌∙◌, ◌∷◌, ◌≡◌}
-use Rattle.std.proofs.lemmas.Bool.{true≢false}
+use Rattle.std.proofs.Common.{All, Bool, List, None, Some, [], ap, cond, false, filter, find, get_or, length, map, not, refl, take, true, ℕ, ◌++◌, ◌+◌, ◌<◌, ◌∙◌, ◌∷◌, ◌≡◌}
 use Rattle.std.proofs.lemmas.List.{map-append, take_more}
 use Rattle.std.proofs.lemmas.List.Elements.{All-head, All-tail, filter-append}
-
-pub filter-all : {X : Type 0} (t : X → Bool) (xs : List X) → All (λ x. t x ≡ true) xs → filter t xs ≡ xs
-filter-all t [] all = refl
-filter-all t (x ∷ xs) all =
-    ap (λ b. cond b (x ∷ filter t xs) (filter t xs)) (All-head (λ x. t x ≡ true) x xs all)
-    ∙ ap (λ ys. x ∷ ys) (filter-all t xs (All-tail (λ x. t x ≡ true) x xs all))
-
-pub filter-none : {X : Type 0} (t : X → Bool) (xs : List X) → All (λ x. t x ≡ false) xs → filter t xs ≡ []
-filter-none t [] all = refl
-filter-none t (x ∷ xs) all =
-    ap (λ b. cond b (x ∷ filter t xs) (filter t xs)) (All-head (λ x. t x ≡ false) x xs all)
-    ∙ filter-none t xs (All-tail (λ x. t x ≡ false) x xs all)
+pub use Rattle.register_machine.proofs.FilterFacts.{filter-all, filter-none, filter-within}
 
 pub find-none : {X : Type 0} (t : X → Bool) (xs : List X) → All (λ x. t x ≡ false) xs → find t xs ≡ None
 find-none t [] all = refl
 find-none t (x ∷ xs) all =
     ap (λ b. cond b (Some x) (find t xs)) (All-head (λ x. t x ≡ false) x xs all)
     ∙ find-none t xs (All-tail (λ x. t x ≡ false) x xs all)
-
--- a test within another finds the same in what passes that one
-pub filter-within : {X : Type 0} (s t : X → Bool) → ((x : X) → s x ≡ true → t x ≡ true) → (xs : List X) → filter s (filter t xs) ≡ filter s xs
-filter-within s t within [] = refl
-filter-within s t within (x ∷ xs) =
-    elim (t x) as (λ b. t x ≡ b → filter s (cond b (x ∷ filter t xs) (filter t xs)) ≡ filter s (x ∷ xs)) [
-      | true ↦ λ e. ap (λ ys. cond (s x) (x ∷ ys) ys) (filter-within s t within xs)
-      | false ↦ λ e.
-          elim (s x) as (λ b. s x ≡ b → filter s (filter t xs) ≡ cond b (x ∷ filter s xs) (filter s xs)) [
-            | true ↦ λ passes. absurd (true≢false (sym (within x passes) ∙ e))
-            | false ↦ λ fails. filter-within s t within xs
-          ] refl
-    ] refl
 
 -- nothing that passes is left among those that don't
 pub find-not : {X : Type 0} (t : X → Bool) (xs : List X) → find t (filter (λ x. not (t x)) xs) ≡ None

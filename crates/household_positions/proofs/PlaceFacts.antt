@@ -169,9 +169,9 @@ pub put-without : (p : Position) (register : Register) → put p (without p.acco
 put-without p register =
     let other = λ (x : Position). not (is_position p.account p.class x) in
     ap (λ ys. ys ++ unless_fresh p ++ filter (λ x. stands_before p x) (filter other register))
-    (filter-within (λ x. stands_before x p) other (λ x e. ap not (apart x.account x.class p.account p.class e)) register)
+    (filter-within other (λ x. stands_before x p) (λ x e. ap not (apart x.account x.class p.account p.class e)) register)
     ∙ ap (λ ys. filter (λ x. stands_before x p) register ++ unless_fresh p ++ ys)
-    (filter-within (λ x. stands_before p x) other (λ x e. ap not (apart-later p.account p.class x.account x.class e)) register)
+    (filter-within other (λ x. stands_before p x) (λ x e. ap not (apart-later p.account p.class x.account x.class e)) register)
 
 -- ---- what holds of every register
 

@@ -38,7 +38,7 @@ met-same n (row ∷ front) rest all =
     let met = numbers_met (front ++ rest) in
     let others = filter (is_other row.number) met in
     ap (λ b. cond (not b) (row.number ∷ filter (is_other n) others) (filter (is_other n) others)) (eq-eqb row.number n here)
-    ∙ (filter-within (is_other n) (is_other row.number) (λ a e. subst (λ (m : ℕ). is_other m a ≡ true) (sym here) e) met
+    ∙ (filter-within (is_other row.number) (is_other n) (λ a e. subst (λ (m : ℕ). is_other m a ≡ true) (sym here) e) met
     ∙ met-same n front rest (All-tail Is row front all))
 
 -- rows of one number, and others behind them

@@ -8,6 +8,7 @@ use Rattle.std.specs.Prelude.{All, AllPairs}
 use Rattle.register_laws.proofs.Tests.{find-any}
 use Rattle.register_machine.specs.journal.Choices.{last_of}
 use Rattle.share_lots.proofs.LotLemmas.{AllPairs-head, AllPairs-tail}
+pub use Rattle.register_machine.proofs.FilterFacts.{filter-all, filter-none, filter-within}
 
 -- ---- two states in a relation, of which the second takes no step but the own ones
 
@@ -49,18 +50,6 @@ filter-map p f (x ∷ xs) =
       | false ↦ filter-map p f xs
     ]
 
--- what passes a test that is at least as strict
-pub filter-within : {X : Type 0} (p q : X → Bool) → ((x : X) → q x ≡ true → p x ≡ true) → (xs : List X) → filter q (filter p xs) ≡ filter q xs
-filter-within p q within [] = refl
-filter-within p q within (x ∷ xs) = by (p x) (q x) refl refl (filter-within p q within xs)
-  where
-    by : (a b : Bool) → p x ≡ a → q x ≡ b → filter q (filter p xs) ≡ filter q xs → filter q (cond a (x ∷ filter p xs) (filter p xs)) ≡ cond b (x ∷ filter q xs) (filter q xs)
-    by true b first second rest =
-        ap (λ c. cond c (x ∷ filter q (filter p xs)) (filter q (filter p xs))) second
-        ∙ ap (λ ys. cond b (x ∷ ys) ys) rest
-    by false false first second rest = rest
-    by false true first second rest = absurd (true≢false (sym (within x second) ∙ first))
-
 -- two tests that agree on what passes a third
 pub filters-agree : {X : Type 0} (p q r : X → Bool) → ((x : X) → p x ≡ true → q x ≡ r x) → (xs : List X) → filter q (filter p xs) ≡ filter r (filter p xs)
 filters-agree p q r agree [] = refl
@@ -71,18 +60,6 @@ filters-agree p q r agree (x ∷ xs) =
           ∙ ap (λ ys. cond (r x) (x ∷ ys) ys) (filters-agree p q r agree xs)
       | false ↦ λ t. filters-agree p q r agree xs
     ] refl
-
-pub filter-all : {X : Type 0} (p : X → Bool) (xs : List X) → All (λ x. p x ≡ true) xs → filter p xs ≡ xs
-filter-all p [] all = refl
-filter-all p (x ∷ xs) all =
-    ap (λ c. cond c (x ∷ filter p xs) (filter p xs)) (All-head (λ y. p y ≡ true) x xs all)
-    ∙ ap (λ ys. x ∷ ys) (filter-all p xs (All-tail (λ y. p y ≡ true) x xs all))
-
-pub filter-none : {X : Type 0} (p : X → Bool) (xs : List X) → All (λ x. p x ≡ false) xs → filter p xs ≡ []
-filter-none p [] all = refl
-filter-none p (x ∷ xs) all =
-    ap (λ c. cond c (x ∷ filter p xs) (filter p xs)) (All-head (λ y. p y ≡ false) x xs all)
-    ∙ filter-none p xs (All-tail (λ y. p y ≡ false) x xs all)
 
 -- tests that agree on what is there keep the same
 pub filter-known : {X : Type 0} (p q : X → Bool) (xs : List X) → All (λ x. p x ≡ q x) xs → filter p xs ≡ filter q xs

@@ -1,2 +1,3 @@
 -- The lemmas of this crate, file by file.
+pub mod FilterFacts
 pub mod OnLiterals

@@ -95,6 +95,33 @@ AnswersInJuly items lines = AnswersOver days_of_july items lines
 abbrev pub AnswersAlone : List (List ℕ) → List (List ℕ) → Type 0
 AnswersAlone items lines = script_text operator_key (text_of items) ≡ text_of lines
 
+-- lines that publish sheets too early, in part and out of turn, and then one in its turn, and what they get
+abbrev pub sheet_lines : List (List ℕ)
+sheet_lines =
+    calendar_line
+    ∷ class_14
+    ∷ codes "1719835200,op-desk000001,class,24,1,3,INDEX-M,0,0,0.01,0.01,0.00:0,"
+    ∷ codes "1719835200,op-desk000001,household,1,h-mary000001"
+    ∷ codes "1719835200,op-desk000001,account,101,1,0,MARY DOE"
+    ∷ codes "1719860000,op-desk000001,sheet,1,1719864000,14:10.00 24:10.00"
+    ∷ codes "1719867600,op-desk000001,sheet,1,1719864000,14:10.00"
+    ∷ codes "1719867600,op-desk000001,sheet,1,1719950400,14:10.00"
+    ∷ codes "1719867600,op-desk000001,sheet,1,1719864000,14:10.00 24:10.00"
+    ∷ []
+
+abbrev pub sheet_answers : List (List ℕ)
+sheet_answers =
+    codes "ok,calendar,1"
+    ∷ codes "ok,class,14"
+    ∷ codes "ok,class,24"
+    ∷ codes "ok,household,1"
+    ∷ codes "ok,account,101"
+    ∷ codes "no,18,1719864000"
+    ∷ codes "no,13,24"
+    ∷ codes "no,12,1719864000,1"
+    ∷ codes "ok,sheet,1"
+    ∷ []
+
 -- the sheet of 2024-07-01: 10.00, 10.00, 20.00 and 10.00
 abbrev pub first_sheet : List ℕ
 first_sheet = codes "1719867600,op-desk000001,sheet,1,1719864000,11:10.00 12:10.00 13:20.00 14:10.00"

@@ -1,66 +1,28 @@
 //! Worked scripts of calendars and sheets, as laws.
-ghost use Rattle.std.specs.Prelude.{[], ◌∷◌, codes};
-ghost use Rattle.register_worked.specs.WorkedRuns.{Answers, AnswersAlone, AnswersInJuly, calendar_line, class_14};
+ghost use Rattle.std.specs.Prelude.{[], ◌++◌, ◌∷◌, codes};
+ghost use Rattle.register_worked.specs.WorkedRuns.{Answers, AnswersAlone, AnswersInJuly, sheet_answers, sheet_lines};
 
 /// Sheets are published in turn, complete and not before their moment.
 pub fn sheets_in_turn()
-    ensures { AnswersAlone (
-        calendar_line
-        ∷ class_14
-        ∷ codes "1719835200,op-desk000001,class,24,1,3,INDEX-M,0,0,0.01,0.01,0.00:0,"
-        ∷ codes "1719835200,op-desk000001,household,1,h-mary000001"
-        ∷ codes "1719835200,op-desk000001,account,101,1,0,MARY DOE"
-        ∷ codes "1719860000,op-desk000001,sheet,1,1719864000,14:10.00 24:10.00"
-        ∷ codes "1719867600,op-desk000001,sheet,1,1719864000,14:10.00"
-        ∷ codes "1719867600,op-desk000001,sheet,1,1719950400,14:10.00"
-        ∷ codes "1719867600,op-desk000001,sheet,1,1719864000,14:10.00 24:10.00"
-        ∷ []
-        ) (
-        codes "ok,calendar,1"
-        ∷ codes "ok,class,14"
-        ∷ codes "ok,class,24"
-        ∷ codes "ok,household,1"
-        ∷ codes "ok,account,101"
-        ∷ codes "no,18,1719864000"
-        ∷ codes "no,13,24"
-        ∷ codes "no,12,1719864000,1"
-        ∷ codes "ok,sheet,1"
-        ∷ []
-        ) }
+    ensures { AnswersAlone sheet_lines sheet_answers }
 {}
 
 /// A Saturday is no pricing day, a day with its sheet stays open, and an order passes over a day that was closed.
 pub fn closures()
     ensures { AnswersAlone (
-        calendar_line
-        ∷ class_14
-        ∷ codes "1719835200,op-desk000001,class,24,1,3,INDEX-M,0,0,0.01,0.01,0.00:0,"
-        ∷ codes "1719835200,op-desk000001,household,1,h-mary000001"
-        ∷ codes "1719835200,op-desk000001,account,101,1,0,MARY DOE"
-        ∷ codes "1719860000,op-desk000001,sheet,1,1719864000,14:10.00 24:10.00"
-        ∷ codes "1719867600,op-desk000001,sheet,1,1719864000,14:10.00"
-        ∷ codes "1719867600,op-desk000001,sheet,1,1719950400,14:10.00"
-        ∷ codes "1719867600,op-desk000001,sheet,1,1719864000,14:10.00 24:10.00"
-        ∷ codes "1719867700,op-desk000001,close,1,2024-07-06"
+        sheet_lines
+        ++ (codes "1719867700,op-desk000001,close,1,2024-07-06"
         ∷ codes "1719867700,op-desk000001,close,1,2024-07-01"
         ∷ codes "1719867700,op-desk000001,close,1,2024-07-02"
         ∷ codes "1719867800,op-desk000001,buy,101,1,14,100.00"
-        ∷ []
+        ∷ [])
         ) (
-        codes "ok,calendar,1"
-        ∷ codes "ok,class,14"
-        ∷ codes "ok,class,24"
-        ∷ codes "ok,household,1"
-        ∷ codes "ok,account,101"
-        ∷ codes "no,18,1719864000"
-        ∷ codes "no,13,24"
-        ∷ codes "no,12,1719864000,1"
-        ∷ codes "ok,sheet,1"
-        ∷ codes "no,3,2"
+        sheet_answers
+        ++ (codes "no,3,2"
         ∷ codes "no,14,1"
         ∷ codes "ok,close,1,2024-07-02"
         ∷ codes "ok,order,101,1,1719867800,1720036800"
-        ∷ []
+        ∷ [])
         ) }
 {}
 

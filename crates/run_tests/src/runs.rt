@@ -11,27 +11,19 @@ use std::marker::Brand;
 use std::sync::ledger::{Blank, Ledger};
 use std::test::Fail;
 
-const PREAMBLE: &[u8] =
+// A calendar, a class, a household and an account.
+const OPENING: &[u8] =
     b"1719835200,op-desk000001,calendar,1,\"EST5EDT,M3.2.0,M11.1.0\",16:00,2024-01-01,\
 2026-12-31,2024-07-04 2024-11-28 2024-12-25\n\
 1719835200,op-desk000001,class,11,1,1,GROWTH-A,0,1,250.00,50.00,0.00:575 25000.00:500 \
 50000.00:450 100000.00:350 250000.00:250 500000.00:200 1000000.00:0,\n\
-1719835200,op-desk000001,class,12,1,1,GROWTH-B,7,1,0.01,0.01,0.00:0,500 400 300 200 100\n\
-1719835200,op-desk000001,class,13,1,2,INCOME-B,7,1,0.01,0.01,0.00:0,500 400 300 200 100\n\
-1719835200,op-desk000001,class,14,1,3,INDEX-N,0,0,0.01,0.01,0.00:0,\n\
-1719835200,op-desk000001,dealer,5,d-broker00005,21600\n\
 1719835200,op-desk000001,household,1,h-mary000001\n\
-1719835200,op-desk000001,household,2,h-omar000002\n\
-1719835200,op-desk000001,account,101,1,0,MARY DOE\n\
-1719835200,op-desk000001,account,102,1,0,MARY DOE IRA\n\
-1719835200,op-desk000001,account,103,2,5,OMAR ROE\n";
+1719835200,op-desk000001,account,101,1,0,MARY DOE\n";
 
-const PREAMBLE_LINES: &[u8] = b"ok,calendar,1\nok,class,11\nok,class,12\nok,class,13\nok,class,\
-14\nok,dealer,5\n\
-ok,household,1\nok,household,2\nok,account,101\nok,account,102\nok,account,103\n";
+const OPENING_LINES: &[u8] = b"ok,calendar,1\nok,class,11\nok,household,1\nok,account,101\n";
 
 const FIRST: &[u8] = b"1719838800,h-mary000001,buy,101,1,11,10000.00\n\
-1719867600,op-desk000001,sheet,1,1719864000,11:10.00 12:10.00 13:20.00 14:10.00\n\
+1719867600,op-desk000001,sheet,1,1719864000,11:10.00\n\
 1719867700,h-mary000001,show,101\n\
 1719867700,h-mary000001,trace,101,1\n";
 
@@ -140,8 +132,8 @@ fn a_day<L: Ledger>(alloc: Global, blank: Blank) -> Result<bool, Fail>
 {
     let mut steps = Steps::<L>::new(blank);
     let mut keeper = SureKeeper::new(alloc);
-    let first = both(alloc, PREAMBLE, FIRST)?;
-    let first_lines = both(alloc, PREAMBLE_LINES, FIRST_LINES)?;
+    let first = both(alloc, OPENING, FIRST)?;
+    let first_lines = both(alloc, OPENING_LINES, FIRST_LINES)?;
     let (status, lines) = outcome(alloc, &mut keeper, &first, &mut steps)?;
     if status != 0 || lines.as_slice() != first_lines.as_slice() {
         return Ok(false);
@@ -166,8 +158,8 @@ fn answers_again<L: Ledger>(
     steps: &mut Steps<L>,
 ) -> Result<bool, Fail> {
     let mut left = keeper.after_stop(alloc, with_last)?;
-    let (status, lines) = outcome(alloc, &mut left, PREAMBLE, steps)?;
-    Ok(status == 0 && lines.as_slice() == PREAMBLE_LINES)
+    let (status, lines) = outcome(alloc, &mut left, OPENING, steps)?;
+    Ok(status == 0 && lines.as_slice() == OPENING_LINES)
 }
 
 fn each_call_fails<L: Ledger>(alloc: Global, blank: Blank) -> Result<bool, Fail>
@@ -178,14 +170,14 @@ fn each_call_fails<L: Ledger>(alloc: Global, blank: Blank) -> Result<bool, Fail>
     let mut steps = Steps::<L>::new(blank);
     for k in 1..40u64 {
         let mut keeper = MemoryKeeper::new(alloc, &[k])?;
-        let (status, lines) = outcome(alloc, &mut keeper, PREAMBLE, &mut steps)?;
+        let (status, lines) = outcome(alloc, &mut keeper, OPENING, &mut steps)?;
         if status == 0 {
-            return Ok(k > 11 && lines.as_slice() == PREAMBLE_LINES);
+            return Ok(k > 4 && lines.as_slice() == OPENING_LINES);
         }
         if status != 5 || !lines.ends_with(b"keeper fault\n") {
             return Ok(false);
         }
-        if !PREAMBLE_LINES.starts_with(&lines[..lines.len() - 13]) {
+        if !OPENING_LINES.starts_with(&lines[..lines.len() - 13]) {
             return Ok(false);
         }
         if !answers_again(alloc, &keeper, false, &mut steps)?
@@ -212,7 +204,7 @@ fn keep_row<K: Keeper>(alloc: Global, keeper: &mut K, row: &[u8]) -> Result<(), 
     keeper.commit(base, &batch)
 }
 
-// A row behind the eleven of the preamble is no event's: nothing is answered, and its place is told, counted from 0.
+// A row behind the four of the opening is no event's: nothing is answered, and its place is told, counted from 0.
 fn names_the_row<L: Ledger>(alloc: Global, blank: Blank) -> Result<bool, Fail>
     requires name { blank.name ≡ L.name }
     requires parts { blank.parts ≡ L.parts }
@@ -220,10 +212,10 @@ fn names_the_row<L: Ledger>(alloc: Global, blank: Blank) -> Result<bool, Fail>
 {
     let mut steps = Steps::<L>::new(blank);
     let mut keeper = SureKeeper::new(alloc);
-    let _ = outcome(alloc, &mut keeper, PREAMBLE, &mut steps)?;
+    let _ = outcome(alloc, &mut keeper, OPENING, &mut steps)?;
     keep_row(alloc, &mut keeper, b"no event")?;
     let (status, lines) = outcome(alloc, &mut keeper, SECOND, &mut steps)?;
-    Ok(status == 6 && lines.as_slice() == b"damaged 11\n".as_slice())
+    Ok(status == 6 && lines.as_slice() == b"damaged 4\n".as_slice())
 }
 
 #[test]
@@ -297,7 +289,7 @@ help\n\
 // Bad words are status 1 and the line `usage`, whatever the input.
 fn is_usage<L: Ledger>(alloc: Global, texts: &[&str], steps: &mut Steps<L>) -> Result<bool, Fail> {
     let mut keeper = SureKeeper::new(alloc);
-    let (status, lines) = outcome_of(alloc, texts, &mut keeper, PREAMBLE, steps)?;
+    let (status, lines) = outcome_of(alloc, texts, &mut keeper, OPENING, steps)?;
     Ok(status == 1 && lines.as_slice() == b"usage\n".as_slice())
 }
 
@@ -361,7 +353,7 @@ fn serves<L: Ledger>(alloc: Global, blank: Blank) -> Result<bool, Fail>
 {
     let mut steps = Steps::<L>::new(blank);
     let mut keeper = MemoryKeeper::new(alloc, &[])?;
-    let (status, _) = outcome(alloc, &mut keeper, PREAMBLE, &mut steps)?;
+    let (status, _) = outcome(alloc, &mut keeper, OPENING, &mut steps)?;
     let mut door = door_of(alloc, &[BUY, TRACE, TRACE], &[], &[])?;
     let (served, lines) = outcome_at(alloc, &SERVE, &mut keeper, &mut door, b"", &mut steps)?;
     if status != 0 || served != 0 || !lines.is_empty() {
@@ -388,14 +380,14 @@ const IS_KEPT: &[u8] = b"ok,trace,101,1,pending,1719838800,1719864000,0.00,0.000
 
 const ISNT_KEPT: &[u8] = b"no,3,2\n";
 
-// The status and the line of serving through a door behind the preamble, and what a look through `apply` finds of the order.
+// The status and the line of serving through a door behind the opening, and what a look through `apply` finds of the order.
 fn look_behind<L: Ledger>(
     alloc: Global,
     door: &mut MemoryDoor,
     steps: &mut Steps<L>,
 ) -> Result<(u8, Vec<u8>, Vec<u8>), Fail> {
     let mut keeper = MemoryKeeper::new(alloc, &[])?;
-    let _ = outcome(alloc, &mut keeper, PREAMBLE, steps)?;
+    let _ = outcome(alloc, &mut keeper, OPENING, steps)?;
     let (served, said) = outcome_at(alloc, &SERVE, &mut keeper, door, b"", steps)?;
     let (_, found) = outcome(alloc, &mut keeper, LOOK, steps)?;
     Ok((served, said, found))
@@ -528,7 +520,7 @@ rrrrrrrrrrrrrrrrrrrrrrrrrrrrrrrrrrrrrrrr";
 // So many empty lines are no items.
 const EMPTY_LINES: u64 = 1_048_577;
 
-// A script of more than a mebibyte over a store with a long path: the preamble, empty lines and a look.
+// A script of more than a mebibyte over a store with a long path: the opening, empty lines and a look.
 fn answers_long_script<L: Ledger>(alloc: Global, blank: Blank) -> Result<bool, Fail>
     requires name { blank.name ≡ L.name }
     requires parts { blank.parts ≡ L.parts }
@@ -536,14 +528,14 @@ fn answers_long_script<L: Ledger>(alloc: Global, blank: Blank) -> Result<bool, F
 {
     let mut steps = Steps::<L>::new(blank);
     let mut keeper = SureKeeper::new(alloc);
-    let mut script = Vec::from_slice(alloc, PREAMBLE)?;
+    let mut script = Vec::from_slice(alloc, OPENING)?;
     for _ in 0..EMPTY_LINES {
         script.push(b'\n')?;
     }
     script.extend_from_slice(LOOK)?;
     let texts = ["apply", "--store", LONG_PATH, "--key", "op-desk000001"];
     let (status, lines) = outcome_of(alloc, &texts, &mut keeper, &script, &mut steps)?;
-    let wanted = both(alloc, PREAMBLE_LINES, ISNT_KEPT)?;
+    let wanted = both(alloc, OPENING_LINES, ISNT_KEPT)?;
     Ok(status == 0 && lines.as_slice() == wanted.as_slice())
 }
 

@@ -1,8 +1,8 @@
 -- That `apply` keeps its contract.
 use Rattle.std.proofs.Common.{Err, ap, ◌∙◌}
 use Rattle.std.proofs.Common.{inr}
-use Rattle.agent_run.proofs.RunFacts.{is-opened, same-grow, stopped}
-use Rattle.agent_run.specs.Runs.{sink_at, status_line}
+use Rattle.agent_run.proofs.RunFacts.{same-grow, stopped}
+use Rattle.agent_run.specs.Runs.{status_line}
 use Rattle.agent_run.proofs.applying.apply.Goals as goal
 
 pub returns-in-Err-Keeper-clause-kept : goal.returns-in-Err-Keeper-clause-kept
@@ -27,26 +27,12 @@ returns-in-Err-NoMemory-clause-kept g c =
 
 pub returns-in-Ok-clause-failed : goal.returns-in-Ok-clause-failed
 returns-in-Ok-clause-failed g c = λ e.
-    let before = g.K.Keeper.tells c.args.keeper.now in
-    let now = g.K.Keeper.tells c.read_and_answer.new.keeper in
-    let opened = c.in-Ok.desk.book.journal in
-    inr (stopped (status_line 5) c.args.key.now before now (g.S.Source.left c.args.input.now)
-    (sink_at (g.O.Sink.contents c.args.out.now) (g.O.Sink.faults c.args.out.now))
-    (sink_at (g.O.Sink.contents c.read_and_answer.new.out) (g.O.Sink.faults c.read_and_answer.new.out)) opened
-    (is-opened before (g.K.Keeper.tells c.open.new.keeper) now opened
+    inr (stopped (status_line 5) _ _ (g.K.Keeper.tells c.open.new.keeper) _ _ _ _ _
     (λ last is first was. c.in-Ok.ensures.speaks (c.read_and_answer.ensures.was_honest (g.met.K.Keeper.honest c.read_and_answer.new.keeper last is)) first was)
-    c.in-Ok.ensures.told c.in-Ok.ensures.lawful)
-    (c.read_and_answer.ensures.failed e))
+    c.in-Ok.ensures.told c.in-Ok.ensures.lawful (c.read_and_answer.ensures.failed e))
 
 pub returns-in-Ok-clause-no_memory : goal.returns-in-Ok-clause-no_memory
 returns-in-Ok-clause-no_memory g c = λ e.
-    let before = g.K.Keeper.tells c.args.keeper.now in
-    let now = g.K.Keeper.tells c.read_and_answer.new.keeper in
-    let opened = c.in-Ok.desk.book.journal in
-    inr (stopped (status_line 7) c.args.key.now before now (g.S.Source.left c.args.input.now)
-    (sink_at (g.O.Sink.contents c.args.out.now) (g.O.Sink.faults c.args.out.now))
-    (sink_at (g.O.Sink.contents c.read_and_answer.new.out) (g.O.Sink.faults c.read_and_answer.new.out)) opened
-    (is-opened before (g.K.Keeper.tells c.open.new.keeper) now opened
+    inr (stopped (status_line 7) _ _ (g.K.Keeper.tells c.open.new.keeper) _ _ _ _ _
     (λ last is first was. c.in-Ok.ensures.speaks (c.read_and_answer.ensures.was_honest (g.met.K.Keeper.honest c.read_and_answer.new.keeper last is)) first was)
-    c.in-Ok.ensures.told c.in-Ok.ensures.lawful)
-    (c.read_and_answer.ensures.no_memory e))
+    c.in-Ok.ensures.told c.in-Ok.ensures.lawful (c.read_and_answer.ensures.no_memory e))
