@@ -1,6 +1,6 @@
 -- What became of an order, by the trades of a list: its trade is looked for on the sheet of its next price alone.
 use Rattle.std.specs.Option.{option_map_or}
-use Rattle.std.specs.Prelude.{AllPairs, List, Option, [], filter, find, if◌then◌else◌, unwrap_or, ℕ, ◌==◌, ◌≡◌, ◌≤◌}
+use Rattle.std.specs.Prelude.{AllPairs, List, Option, [], find, if◌then◌else◌, unwrap_or, ℕ, ◌≡◌, ◌≤◌}
 use Rattle.agent_events.specs.declared.order.OrderRow.{OrderRow}
 use Rattle.agent_events.specs.declared.reply.OrderState.{OrderState}
 use Rattle.agent_events.specs.declared.reply.TraceReply.{TraceReply}
@@ -52,7 +52,3 @@ NeverFall trades = AllPairs (λ trade later. trade.sheet ≤ later.sheet) trades
 -- the sheet of the order's first trade is that of its next price
 abbrev pub IsFoundOn : List Sheet → List Trade → OrderRow → Type 0
 IsFoundOn sheets trades row = sheet_found trades row.order ≡ (priced_in sheets row).sheet
-
--- the trades of one sheet
-abbrev pub trades_on : ℕ → List Trade → List Trade
-trades_on sheet trades = filter (λ trade. trade.sheet == sheet) trades

@@ -18,7 +18,8 @@ use register_machine::{class_of, target_of};
 /// of its sheet, with the price and the money in cents and the mils.
 ///
 /// The trades are those of the order's household, or of all: they never fall by sheet, and an order that isn't struck has its
-/// trade on the sheet of its next price. So it is looked for on that sheet alone, which two searches bound.
+/// trade on the sheet of its next price. So it is looked for from that sheet's first trade on, which two looks find where the
+/// household trades as often on each sheet, and else a search.
 pub fn trace_reply(prices: &PriceBook, trades: &[Trade], row: &OrderRow) -> Reply
     requires fall { NeverFall trades.now }
     requires found { row.now.struck ≡ false

@@ -90,7 +90,7 @@ fn trace_of_row(books: &DeskBooks, form: &TraceForm, row: &OrderRow) -> Reply
     desk_looks::trace_reply(&books.prices, trades, row)
 }
 
-/// The state of an order of the register, as its trace shows it, by its household's trades: two searches among them.
+/// The state of an order of the register, as its trace shows it, by its household's trades: two looks, or a search among them.
 pub fn order_state(books: &DeskBooks, row: &OrderRow) -> OrderState
     requires books { AreBooksOf books.now.book.journal books.now }
     requires there { Contains (orders_of books.now.book.journal) row.now }

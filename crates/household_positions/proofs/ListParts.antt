@@ -1,5 +1,5 @@
 -- Lists of which all elements pass a test, or none.
-use Rattle.std.proofs.Common.{All, Bool, List, None, Some, [], ap, cond, false, filter, find, get_or, length, map, not, refl, take, true, ℕ, ◌++◌, ◌+◌, ◌<◌, ◌∙◌, ◌∷◌, ◌≡◌}
+use Rattle.std.proofs.Common.{All, Bool, List, None, Some, [], ap, cond, false, filter, find, get_or, length, map, not, refl, sym, take, true, ℕ, ◌++◌, ◌+◌, ◌<◌, ◌∙◌, ◌∷◌, ◌≡◌}
 use Rattle.std.proofs.lemmas.List.{map-append, take_more}
 use Rattle.std.proofs.lemmas.List.Elements.{All-head, All-tail, filter-append}
 pub use Rattle.register_machine.proofs.FilterFacts.{filter-all, filter-none, filter-within}

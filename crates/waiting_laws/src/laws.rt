@@ -34,6 +34,7 @@ pub fn entered_orders_may_wait()
 {}
 
 /// An order that is replaced waits again, unless it has its sheet.
+#[tactic(auto, using(crate::proofs::IndexSteps::replaces_order))]
 pub fn replaced_orders_may_wait()
     ensures { (journal : Journal) (event : Event) (form : EntryForm) (place : ℕ)
         (owners waiting : List ℕ)

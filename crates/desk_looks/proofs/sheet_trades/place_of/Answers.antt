@@ -1,11 +1,12 @@
 -- That `place_of` keeps its contract.
-use Rattle.std.proofs.Common.{nat_lt, rules}
-use Rattle.std.proofs.lemmas.List.Sorted.{IsPartitionPoint-from_clause}
-use Rattle.agent_events.specs.declared.trade.Trade.{Trade}
-use Rattle.desk_looks.proofs.SheetTrades.{parted-before}
+use Rattle.std.proofs.Common.{sym, ◌∙◌}
+use Rattle.desk_looks.proofs.SheetTrades.{place-fits, place-is}
 use Rattle.desk_looks.proofs.sheet_trades.place_of.Goals as goal
 
-pub returns-clause-point : goal.returns-clause-point
-returns-clause-point c =
-    let trades = c.args.trades.now in
-    IsPartitionPoint-from_clause (λ (trade : Trade). nat_lt trade.sheet c.args.sheet) trades _ c.partition_point.ensures.partitioned (parted-before c.args.sheet trades c.requires) (λ a r q k. search rules)
+pub returns-then-parts_at-clause-point : goal.returns-then-parts_at-clause-point
+returns-then-parts_at-clause-point c =
+    place-is c.args.sheet c.args.trades.now c.likely_place-likely.result c.requires (sym c.parts_at.ensures ∙ c.if-parts_at.true)
+
+pub returns-then-parts_at-clause-bound : goal.returns-then-parts_at-clause-bound
+returns-then-parts_at-clause-bound c =
+    place-fits c.args.sheet c.args.trades.now c.likely_place-likely.result (sym c.parts_at.ensures ∙ c.if-parts_at.true)
