@@ -1,6 +1,6 @@
 //! Opens the store, before anything is read.
 ghost use Rattle.std.specs.Prelude.{◌≡◌, ◌≤◌, Err, IfOk, IsTrue, OnErr, OnOk, ℕ};
-ghost use Rattle.agent_run.specs.Runs.{TellSame};
+ghost use Rattle.agent_run.specs.Runs.{GrowLawfully, TellSame};
 ghost use Rattle.agent_keeper.specs.Calls.{OnlyReads, Rose};
 ghost use Rattle.agent_keeper.specs.Content.{Content};
 ghost use Rattle.register_desk.specs.Rows.{IsDamagedAt, TellsRowsOf};
@@ -77,6 +77,8 @@ pub fn open<K: Keeper, L: StepLedger>(
     ensures damaged { (place : ℕ) → result ≡ Err (Fault.Damaged place) → (kept : Content)
         → K.tells keeper.new kept
         → IsDamagedAt place kept.rows }
+    ensures kept { (first last : Content) → K.tells keeper.old first → K.tells keeper.new last
+        → GrowLawfully first.rows last.rows }
     ensures fault { result ≡ Err Fault.Keeper → Rose (K.faults keeper.old) (K.faults keeper.new) }
     ensures never_falls { K.faults keeper.old ≤ K.faults keeper.new }
 {

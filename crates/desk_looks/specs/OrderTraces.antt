@@ -1,4 +1,4 @@
--- What became of an order, by the trades of a list: its trade is looked for on the sheet of its next price alone.
+-- What became of an order, by the trades of a list; its own, if there is one, is on the sheet of its next price.
 use Rattle.std.specs.Option.{option_map_or}
 use Rattle.std.specs.Prelude.{AllPairs, List, Option, [], find, if◌then◌else◌, unwrap_or, ℕ, ◌≡◌, ◌≤◌}
 use Rattle.agent_events.specs.declared.order.OrderRow.{OrderRow}

@@ -8,7 +8,8 @@ ghost use Rattle.desk_looks.specs.SheetPlaces.{IsPlaceOf, IsTradedOn, follows_ea
 
 use agent_events::Trade;
 
-/// The first trade of an order, which is on this sheet: none before that sheet's is looked at, and none behind it.
+/// The first trade of an order, which is on this sheet: those from the first of the sheet on are compared in turn. That one is
+/// found by its likely place, which is right where each sheet has as many, and else by a search.
 pub fn trade_on(trades: &[Trade], sheet: u32, account: u32, ref_no: u64) -> Option<&Trade>
     requires fall { NeverFall trades.now }
     requires sheet { IsTradedOn sheet account ref_no trades.now }

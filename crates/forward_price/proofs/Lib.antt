@@ -13,3 +13,4 @@ pub mod KeptFacts
 pub mod OrderFacts
 pub mod LawFacts
 pub mod RoomFacts
+pub mod BookFacts

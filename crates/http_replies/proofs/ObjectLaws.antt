@@ -1,64 +1,77 @@
--- An object of texts, pair by pair.
-use Rattle.std.proofs.Common.{◌≡◌, ◌<◌, ◌≤◌, ◌⊎◌, inl, inr, ℕ, ◌+◌, min, Bool, true, false, ◌||◌, List, [], ◌∷◌, length, map, drop, get_or, refl, sym, ap, ◌∙◌, arith}
+-- The object of a reply, written member by member in the order of the names, is the object into which the texts are put one
+-- after the other.
+use Rattle.std.proofs.Common.{Bor, ◌≡◌, ◌<◌, ℕ, ◌+◌, List, [], ◌∷◌, ◌++◌, Option, Some, None, length, map, take, get_or, flat_map, slice_get, codes, refl, sym, ap, ◌∙◌}
 use Rattle.std.specs.List.{fold, zip}
-use Rattle.std.specs.declared.cmp.Ordering.{Ordering}
-use Rattle.std.specs.Ordering.{match_ordering, nat_cmp}
-use Rattle.std.specs.Cmp.Lexicographic.{slice_cmp}
-use Rattle.std.proofs.lemmas.List.{drop-map, drop_all, drop_more}
-use Rattle.std.proofs.lemmas.Bool.{cases_lt}
-use Rattle.serde_json.specs.Data.{Data, Members, member, no_members, put, string}
-use Rattle.serde_json.specs.Written.{has_float, members_have_float}
-use Rattle.http_replies.specs.Bodies.{object_of, put_text}
+use Rattle.std.specs.Option.{option_copied}
+use Rattle.std.specs.Slice.{IsItemAt}
+use Rattle.std.proofs.lemmas.List.{flat_map_more, take_more}
+use Rattle.std.proofs.lemmas.Option.{slice_get_past, slice_get_read}
+use Rattle.json.specs.Print.{print}
+use Rattle.json.specs.Token.{Token}
+use Rattle.json.specs.Tree.{members_tokens}
+use Rattle.serde_json.specs.Data.{Members, no_members, object}
+use Rattle.serde_json.specs.Written.{compact_text, members_outline}
+use Rattle.serde_json.proofs.Texts.{print-outline}
+use Rattle.serde_json.proofs.OnLiterals.{serde_json_on_literals}
+use Rattle.agent_events.specs.AnswerTexts.{answer_texts, refusal_values}
+use Rattle.agent_events.specs.declared.reply.Reply.{Reply}
+use Rattle.http_replies.specs.Bodies.{first_name, names_of, put_text, without_ok}
+use Rattle.http_replies.specs.Members.{member_tokens, members_at, members_of, put_name, text_places, with_text}
 
-pub pairs-more : {X : Type 0} (f : X → List ℕ) (xs : List X) (ys : List (List ℕ)) (i : ℕ) (x : X) (y : List ℕ) → i < length xs → i < length ys
-    → zip (drop i (map f xs)) (drop i ys) ≡ (f (get_or xs i x), get_or ys i y) ∷ zip (drop (i + 1) (map f xs)) (drop (i + 1) ys)
-pairs-more f xs ys i x y a b =
-    rw (drop-map f i xs, drop-map f (i + 1) xs, drop_more xs i x a, drop_more ys i y b) refl
+-- what a look-up lends
+pub found-at : {X : Type 0} (xs : List X) (i : ℕ) (found : Option (Bor X)) → IsItemAt xs i found → option_copied found ≡ slice_get xs i
+found-at xs i None is = sym (slice_get_past xs i is.3)
+found-at xs i (Some x) is = sym (slice_get_read xs (length xs) i x.now refl is.3.0 is.1)
 
-zip-none : {X Y : Type 0} (xs : List X) → zip {K = X} {X = Y} xs [] ≡ []
-zip-none [] = refl
-zip-none (x ∷ xs) = refl
+-- the tokens of one more item
+pub written-more : {X : Type 0} (f : X → List Token) (front old new more : List Token) (xs : List X) (i : ℕ) (d : X) → i < length xs → old ≡ front ++ flat_map f (take i xs)
+    → new ≡ old ++ more → more ≡ f (get_or xs i d) → new ≡ front ++ flat_map f (take (i + 1) xs)
+written-more f front old new more xs i d inside so_far pushed is =
+    rw (pushed, so_far, is, take_more xs i d inside) (flat_map_more f front (take i xs) (get_or xs i d))
 
-pub pairs-all : {X : Type 0} (f : X → List ℕ) (xs : List X) (ys : List (List ℕ)) (i : ℕ) → (length xs ≤ i) ⊎ (length ys ≤ i)
-    → zip (drop i (map f xs)) (drop i ys) ≡ []
-pairs-all f xs ys i (inl a) = rw (drop-map f i xs, drop_all i xs a) refl
-pairs-all f xs ys i (inr b) = rw (drop_all i ys b) (zip-none (drop i (map f xs)))
+-- the tokens of the members and the end of the object
+member-written : (name : List ℕ) (text : Option (List ℕ)) (later : List Token) (rest : Members) → later ++ Token.end_object ∷ [] ≡ members_tokens (members_outline rest)
+    → (member_tokens name text ++ later) ++ Token.end_object ∷ [] ≡ members_tokens (members_outline (with_text name text rest))
+member-written name None later rest are = are
+member-written name (Some text) later rest are = ap (λ ts. Token.key name ∷ Token.string text ∷ ts) are
 
-pub one-past : (m n i : ℕ) → min m n ≤ i → (m ≤ i) ⊎ (n ≤ i)
-one-past m n i le = elim (cases_lt i m) [ inl lt ↦ inr (omega arith) | inr ge ↦ inl ge ]
+pub members-written : {X : Type 0} (f : X → List ℕ × ℕ) (xs : List X) (texts : List (List ℕ))
+    → flat_map (λ x. member_tokens (f x).0 (slice_get texts (f x).1)) xs ++ Token.end_object ∷ [] ≡ members_tokens (members_outline (members_at (map f xs) texts))
+members-written f [] texts = refl
+members-written f (x ∷ xs) texts =
+    member-written (f x).0 (slice_get texts (f x).1) (flat_map (λ x. member_tokens (f x).0 (slice_get texts (f x).1)) xs) (members_at (map f xs) texts) (members-written f xs texts)
 
-either-false : (a b : Bool) → (a || b) ≡ false → (a ≡ false) × (b ≡ false)
-either-false true b h = absurd (cc)
-either-false false b h = (refl, h)
+pub object-written : {X : Type 0} (f : X → List ℕ × ℕ) (xs : List X) (texts : List (List ℕ)) (none front begun written ended bytes : List ℕ) (no_tokens first members all : List Token)
+    → none ≡ [] → front ≡ none → begun ≡ front → written ≡ begun → ended ≡ written → no_tokens ≡ [] → first ≡ no_tokens ++ Token.begin_object ∷ []
+    → members ≡ first ++ flat_map (λ x. member_tokens (f x).0 (slice_get texts (f x).1)) xs → all ≡ members ++ Token.end_object ∷ [] → bytes ≡ ended ++ print all
+    → bytes ≡ compact_text (object (members_at (map f xs) texts))
+object-written f xs texts none front begun written ended bytes no_tokens first members all h0 h1 h2 h3 h4 t0 t1 t2 t3 is =
+    rw (is, h4, h3, h2, h1, h0, t3, t2, t1, t0) (ap (λ ts. print (Token.begin_object ∷ ts)) (members-written f xs texts) ∙ print-outline (object (members_at (map f xs) texts)))
 
-no-float-by : (order : Ordering) (k l s : List ℕ) (e : Data) (members : Members) → has_float e ≡ false → members_have_float members ≡ false
-    → members_have_float (put k (string s) members) ≡ false
-    → members_have_float (match_ordering order (member k (string s) (member l e members)) (member l (string s) members) (member l e (put k (string s) members))) ≡ false
-no-float-by Ordering.Less k l s e members a b c = rw (a, b) refl
-no-float-by Ordering.Equal k l s e members a b c = b
-no-float-by Ordering.Greater k l s e members a b c = rw (a, c) refl
+-- a refusal has a number and up to two values
+refused-members : (named : List (List ℕ × ℕ)) (texts : List (List ℕ)) → named ≡ fold put_name [] (zip (first_name ∷ codes "code" ∷ codes "value" ∷ codes "second" ∷ []) text_places)
+    → members_at named (codes "no" ∷ texts) ≡ fold put_text no_members (zip (first_name ∷ codes "code" ∷ codes "value" ∷ codes "second" ∷ []) (codes "no" ∷ texts))
+unfolding serde_json_on_literals
+refused-members named [] is = rw is refl
+refused-members named (a ∷ []) is = rw is refl
+refused-members named (a ∷ b ∷ []) is = rw is refl
+refused-members named (a ∷ b ∷ c ∷ texts) is = rw is refl
 
-no-float-put : (k s : List ℕ) (members : Members) → members_have_float members ≡ false → members_have_float (put k (string s) members) ≡ false
-no-float-put k s no_members none = refl
-no-float-put k s (member l e rest) none =
-    let both = either-false (has_float e) (members_have_float rest) none in
-    no-float-by (slice_cmp nat_cmp k l) k l s e rest both.0 both.1 (no-float-put k s rest both.1)
-
-no-float-from : (members : Members) (pairs : List (List ℕ × List ℕ)) → members_have_float members ≡ false → members_have_float (fold put_text members pairs) ≡ false
-no-float-from members [] none = none
-no-float-from members (pair ∷ pairs) none = no-float-from (put_text members pair) pairs (no-float-put pair.0 pair.1 members none)
-
-pub no-float : (pairs : List (List ℕ × List ℕ)) → has_float (object_of pairs) ≡ false
-no-float pairs = no-float-from no_members pairs refl
-
-pub object-more : {X : Type 0} (f : X → List ℕ) (xs : List X) (ys : List (List ℕ)) (i : ℕ) (x : X) (y : List ℕ) (old new all : Members) (name text : List ℕ)
-    → i < length xs → i < length ys → name ≡ f (get_or xs i x) → text ≡ get_or ys i y → new ≡ put_text old (name, text)
-    → fold put_text old (zip (drop i (map f xs)) (drop i ys)) ≡ all
-    → fold put_text new (zip (drop (i + 1) (map f xs)) (drop (i + 1) ys)) ≡ all
-object-more f xs ys i x y old new all name text a b named worded puts so_far =
-    rw (puts, named, worded) (sym (ap (fold put_text old) (pairs-more f xs ys i x y a b)) ∙ so_far)
-
-pub object-all : {X : Type 0} (f : X → List ℕ) (xs : List X) (ys : List (List ℕ)) (i : ℕ) (so_far all : Members) → min (length xs) (length ys) ≤ i
-    → fold put_text so_far (zip (drop i (map f xs)) (drop i ys)) ≡ all → so_far ≡ all
-object-all f xs ys i so_far all past are =
-    sym (ap (fold put_text so_far) (pairs-all f xs ys i (one-past (length xs) (length ys) i past))) ∙ are
+pub same-members : (reply : Reply) → members_at (members_of reply) (without_ok (answer_texts reply)) ≡ fold put_text no_members (zip (names_of reply) (without_ok (answer_texts reply)))
+unfolding serde_json_on_literals
+same-members (Reply.Order order) = refl
+same-members (Reply.Cancel form) = refl
+same-members (Reply.Calendar number) = refl
+same-members (Reply.Class number) = refl
+same-members (Reply.Dealer number) = refl
+same-members (Reply.Household number) = refl
+same-members (Reply.Account number) = refl
+same-members (Reply.Close form) = refl
+same-members (Reply.Dividend class moment) = refl
+same-members (Reply.Sheet number) = refl
+same-members (Reply.Fix fix gains) = refl
+same-members (Reply.Show account positions) = refl
+same-members (Reply.Trace traced) = refl
+same-members (Reply.Statement account text) = refl
+same-members (Reply.Books books) = refl
+same-members (Reply.Refused refusal) = refused-members _ (refusal_values refusal) refl

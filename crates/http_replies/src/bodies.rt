@@ -1,24 +1,24 @@
 //! The JSON body of a reply.
-ghost use Rattle.std.specs.Prelude.{◌≡◌, map, string_bytes, IfOk, OnOk};
-ghost use Rattle.std.specs.List.{fold, zip};
-ghost use Rattle.serde_json.specs.Data.{no_members};
-ghost use Rattle.serde_json.specs.View.{members_view, view};
+ghost use Rattle.std.specs.Prelude.{◌≡◌, ◌++◌, [], flat_map, map, slice_get, IfOk, OnOk};
+ghost use Rattle.std.specs.Option.{option_copied};
+ghost use Rattle.serde_json.specs.Data.{object};
 ghost use Rattle.serde_json.specs.Written.{compact_text};
 ghost use Rattle.http_replies.specs.Bodies as spec;
+ghost use Rattle.http_replies.specs.Members.{member_tokens, members_at};
 
-use crate::names::names_of;
+use crate::names::{Member, members_of};
 use crate::reply_fields::reply_fields;
 use agent_events::Reply;
+use json::Writer;
 use money_units::{Bytes, NoMemory};
-use serde_json::{Map, Value};
 use std::alloc::Global;
 
 /// The compact JSON object of a reply's texts by their names.
-pub(crate) fn json_body(alloc: Global, reply: &Reply) -> Result<String, NoMemory>
-    ensures { IfOk result (λ body. string_bytes body ≡ spec.json_body reply.now) }
+pub(crate) fn json_body(alloc: Global, reply: &Reply) -> Result<Vec<u8>, NoMemory>
+    ensures { IfOk result (λ body. body.items ≡ spec.json_body reply.now) }
 {
     let fields = reply_fields(alloc, reply)?;
-    object_text(alloc, names_of(reply), without_ok(fields.as_slice()))
+    object_text(alloc, members_of(reply), without_ok(fields.as_slice()))
 }
 
 fn without_ok(texts: &[Bytes]) -> &[Bytes]
@@ -36,51 +36,43 @@ fn without_ok(texts: &[Bytes]) -> &[Bytes]
     }
 }
 
-fn object_text(alloc: Global, names: &[&str], texts: &[Bytes]) -> Result<String, NoMemory>
-    ensures { IfOk result (λ body. string_bytes body
-        ≡ compact_text (spec.object_of (zip (map (λ name. name.now) names.now) texts.now))) }
+// The object of these members; one whose place has no text isn't among them.
+fn object_text(alloc: Global, members: &[Member], texts: &[Bytes]) -> Result<Vec<u8>, NoMemory>
+    ensures { IfOk result (λ body. body.items ≡ compact_text
+        (object (members_at (map (λ member. (member.0.now, member.1)) members.now) texts.now))) }
 {
-    let value = object_value(alloc, names, texts)?;
-    Ok(value.to_string(alloc)?)
+    let mut out = Writer::new(Vec::with_capacity(alloc, 128)?);
+    out.begin_object()?;
+    write_members(&mut out, members, texts)?;
+    out.end_object()?;
+    Ok(out.into_inner())
 }
 
-fn object_value(alloc: Global, names: &[&str], texts: &[Bytes]) -> Result<Value, NoMemory>
-    ensures { IfOk result (λ value. view value
-        ≡ spec.object_of (zip (map (λ name. name.now) names.now) texts.now)) }
+fn write_members(out: &mut Writer, members: &[Member], texts: &[Bytes]) -> Result<(), NoMemory>
+    ensures tokens { OnOk result (out.new.tokens ≡ out.old.tokens
+        ++ flat_map (λ member. member_tokens member.0.now (slice_get texts.now member.1))
+        members.now) }
+    ensures before { OnOk result (out.new.before ≡ out.old.before) }
 {
-    Ok(Value::Object(members_of(alloc, names, texts)?))
-}
-
-fn members_of(
-    alloc: Global,
-    names: &[&str],
-    texts: &[Bytes],
-) -> Result<Map<String, Value>, NoMemory>
-    ensures { IfOk result (λ members. members_view members.entries
-        ≡ fold spec.put_text no_members (zip (map (λ name. name.now) names.now) texts.now)) }
-{
-    let mut members = Map::new(alloc);
-    for i in 0..names.len().min(texts.len()) {
-        put_text(alloc, &mut members, names[i], texts[i].as_slice())?;
+    for member in members {
+        write_member(out, member.0, texts.get(member.1))?;
     }
-    Ok(members)
+    Ok(())
 }
 
-fn put_text(
-    alloc: Global,
-    members: &mut Map<String, Value>,
-    name: &str,
-    text: &[u8],
-) -> Result<(), NoMemory>
-    ensures { OnOk result
-        (members_view members.new.entries
-        ≡ spec.put_text (members_view members.old.entries) (name.now, text.now)) }
+fn write_member(out: &mut Writer, name: &str, text: Option<&Bytes>) -> Result<(), NoMemory>
+    ensures tokens { OnOk result (out.new.tokens
+        ≡ out.old.tokens ++ member_tokens name.now (option_copied text.entry)) }
+    ensures before { OnOk result (out.new.before ≡ out.old.before) }
 {
+    let Some(text) = text else {
+        return Ok(());
+    };
     // The texts that a reply is made of are ASCII.
-    let Ok(text) = str::from_utf8(text) else {
+    let Ok(text) = str::from_utf8(text.as_slice()) else {
         return Err(NoMemory);
     };
-    let value = Value::String(String::from_str(alloc, text)?);
-    serde_json::put(members, alloc, name, value)?;
+    out.key(name)?;
+    out.string(text)?;
     Ok(())
 }

@@ -42,7 +42,7 @@ fn json_bytes(alloc: Global, reply: &Reply, last: bool) -> Result<Vec<u8>, NoMem
         status_of(reply),
         b"application/json",
         last,
-        body.as_bytes(),
+        body.as_slice(),
     )
 }
 

@@ -1,27 +1,28 @@
 //! Where a request breaks two rules, the first in their order refuses it, and a repeat is told before any rule but those on the
 //! right and on terms.
-use crate::tables::{
-    BROKER, GROWTH_A, GROWTH_B, INCOME_B, INDEX_N, MARY, MARY_DOE, MARY_DOE_IRA, NOW, OMAR,
-    OMAR_ROE, PREAMBLE, Step, expect,
-};
+use crate::tables::{NOW, PREAMBLE, Step, expect};
+use money_units::NoMemory;
+use std::alloc::Global;
 use std::test::Fail;
 
-// The first calendar ends on 2024-07-03, and the second two days later, with a class of its own.
-const SHORT: [&str; 13] = [
-    "1719835200,op-desk000001,calendar,1,\"EST5EDT,M3.2.0,M11.1.0\",16:00,2024-07-01,2024-07-03,",
-    GROWTH_A,
-    GROWTH_B,
-    INCOME_B,
-    INDEX_N,
-    BROKER,
-    MARY,
-    OMAR,
-    MARY_DOE,
-    MARY_DOE_IRA,
-    OMAR_ROE,
+// A calendar that ends on 2024-07-03.
+const SHORT: &str =
+    "1719835200,op-desk000001,calendar,1,\"EST5EDT,M3.2.0,M11.1.0\",16:00,2024-07-01,2024-07-03,";
+
+// One that ends two days later, with a class of its own.
+const LONGER: [&str; 2] = [
     "1719835200,op-desk000001,calendar,2,\"EST5EDT,M3.2.0,M11.1.0\",16:00,2024-07-01,2024-07-05,",
     "1719835200,op-desk000001,class,21,2,5,BOND-A,0,1,100.00,10.00,0.00:300 50000.00:0,",
 ];
+
+// The preamble with the short calendar, and behind it the longer one.
+fn short_preamble(alloc: Global) -> Result<Vec<&'static str>, NoMemory> {
+    let mut lines = Vec::new(alloc);
+    lines.push(SHORT)?;
+    lines.extend_from_slice(&PREAMBLE[1..])?;
+    lines.extend_from_slice(&LONGER)?;
+    Ok(lines)
+}
 
 // Where the calendar has ended it goes before the minimum, the offer and the receipt; a reference used before all of these, and
 // what is absent before the reference.
@@ -49,7 +50,8 @@ const AT_THE_END: [&str; 19] = [
 
 #[test]
 fn the_end_of_a_calendar_goes_before_what_follows_it(rt: HostRuntime) -> Result<(), Fail> {
-    expect(&rt, rt.alloc(), &SHORT, &[Step::Lines(&AT_THE_END)])
+    let lines = short_preamble(rt.alloc())?;
+    expect(&rt, rt.alloc(), &lines, &[Step::Lines(&AT_THE_END)])
 }
 
 // The void strikes the order of the first row.

@@ -1,14 +1,14 @@
 -- What is read from a text is in its form.
-use Rattle.std.proofs.Common.{All, Bool, Err, List, None, Ok, Option, Result, Some, [], ap, bytes_eq, codes, cond, false, inl, inr, length, nat_le, nat_lt, option_and_then, option_map, refl, subst, sym, true, ℕ, ◌&&◌, ◌+◌, ◌==◌, ◌∙◌, ◌∷◌, ◌≡◌, ◌≤◌}
+use Rattle.std.proofs.Common.{All, Bool, Err, List, None, Ok, Option, Result, Some, [], ap, bytes_eq, codes, cond, false, inl, inr, nat_le, option_and_then, option_map, refl, subst, sym, true, ℕ, ◌&&◌, ◌+◌, ◌∙◌, ◌∷◌, ◌≡◌, ◌≤◌}
 use Rattle.std.proofs.lemmas.Bool.{and_parts, true≢false}
 use Rattle.std.proofs.lemmas.Bool.Decides.{leb_tells}
 use Rattle.std.proofs.lemmas.List.Elements.{All-cons, All-nil}
 use Rattle.std.specs.List.{after_first, before_first}
-use Rattle.agent_events.specs.Fields.{amount, bearer, corrected_rate, dealer_key, dividend_rate, each, holidays, household_key, identifier, identifier_or_none, if_rising, is_colon, is_rising, label, list_items, moment, nav, pair, pay, prices, quantity, reference, time, window, within, zone}
-use Rattle.agent_events.specs.Forms.{at, class_form, field, of_length, sheet_form, ◌>>=◌}
-use Rattle.agent_events.specs.Items.{asked_by}
-use Rattle.agent_events.specs.OrderForms.{body_form, carried_order, counted_by, enter_asked, entry_form, exchange_form, line_asked, order_asked, order_count, order_form, order_or_unknown, replace_asked, with_order}
-use Rattle.agent_events.specs.VerbForms.{Asked, account_asked, books_asked, calendar_asked, cancel_asked, class_asked, close_asked, dealer_asked, dividend_asked, fixprice_asked, fixrate_asked, household_asked, sheet_asked, show_asked, statement_asked, trace_asked, void_asked}
+use Rattle.agent_events.specs.Fields.{amount, bearer, corrected_rate, dividend_rate, each, holidays, identifier, if_rising, is_colon, is_rising, list_items, moment, nav, pair, pay, prices, quantity, reference, time, within, zone}
+use Rattle.agent_events.specs.Forms.{at, field, sheet_form, ◌>>=◌}
+use Rattle.agent_events.specs.Items.{asked_by, batch_line}
+use Rattle.agent_events.specs.OrderForms.{body_form, carried_order, entry_form, exchange_form, line_asked, order_count, order_form}
+use Rattle.agent_events.specs.VerbForms.{Asked, calendar_asked, dividend_asked, fixprice_asked, fixrate_asked}
 use Rattle.agent_events.specs.declared.order.Body.{Body}
 use Rattle.agent_events.specs.declared.order.Order.{Order}
 use Rattle.agent_events.specs.declared.request.EntryForm.{EntryForm}
@@ -18,6 +18,7 @@ use Rattle.fund_calendar.specs.DayText.{read_day}
 use Rattle.limit_laws.specs.Runs.{ArePrices, AskedInForm}
 use Rattle.money_units.specs.Texts.{money, rate as millionths}
 use Rattle.register_laws.proofs.Choosing.{none_some}
+use Rattle.register_laws.proofs.FormsByVerb.{OfEachForm, carried, of_verb}
 use Rattle.register_laws.specs.ReplayKeeps.{AsksInRange, most_nav}
 
 -- ---- what fields ask
@@ -118,29 +119,6 @@ sheet-read fields =
     (λ priced. sheet-last 3 (prices (field fields 3)) _
     (λ listed risen. prices-read (each (pair identifier nav) (list_items (field fields 3))) listed (each-read (list_items (field fields 3))) risen)))
 
-close-forms : (fields : List (List ℕ)) → AskedInForm (close_asked fields)
-close-forms fields =
-    by-parts (at 1 (identifier (field fields 1))) _ (λ calendar. by-parts (at 2 (read_day (field fields 2))) _ (λ day. tt))
-
-class-forms : (fields : List (List ℕ)) → AskedInForm (class_asked fields)
-class-forms fields = by-parts (class_form fields) _ (λ form. tt)
-
-dealer-forms : (fields : List (List ℕ)) → AskedInForm (dealer_asked fields)
-dealer-forms fields =
-    by-parts (at 1 (identifier (field fields 1))) _
-    (λ dealer. by-parts (at 2 (dealer_key (field fields 2))) _ (λ key. by-parts (at 3 (window (field fields 3))) _ (λ seconds. tt)))
-
-household-forms : (fields : List (List ℕ)) → AskedInForm (household_asked fields)
-household-forms fields =
-    by-parts (at 1 (identifier (field fields 1))) _ (λ household. by-parts (at 2 (household_key (field fields 2))) _ (λ key. tt))
-
-account-forms : (fields : List (List ℕ)) → AskedInForm (account_asked fields)
-account-forms fields =
-    by-parts (at 1 (identifier (field fields 1))) _
-    (λ account. by-parts (at 2 (identifier (field fields 2))) _
-    (λ household. by-parts (at 3 (identifier_or_none (field fields 3))) _
-    (λ dealer. by-parts (at 4 (label (field fields 4))) _ (λ name. tt))))
-
 dividend-forms : (fields : List (List ℕ)) → AskedInForm (dividend_asked fields)
 dividend-forms fields =
     by-parts (at 1 (identifier (field fields 1))) _
@@ -159,29 +137,6 @@ fixrate-forms fields =
     (λ fix. by-parts (at 2 (bearer (field fields 2))) _
     (λ borne. by-parts (at 3 (identifier (field fields 3))) _
     (λ class. by-parts (at 4 (moment (field fields 4))) _ (λ priced. by-last 5 (corrected_rate (field fields 5)) _ (λ rate is. (ranged 0 1000000000 rate (millionths (field fields 5)) is).1)))))
-
-void-forms : (fields : List (List ℕ)) → AskedInForm (void_asked fields)
-void-forms fields =
-    by-parts (at 1 (reference (field fields 1))) _
-    (λ fix. by-parts (at 2 (bearer (field fields 2))) _
-    (λ borne. by-parts (at 3 (identifier (field fields 3))) _ (λ account. by-parts (at 4 (reference (field fields 4))) _ (λ ref_no. tt))))
-
-cancel-forms : (fields : List (List ℕ)) → AskedInForm (cancel_asked fields)
-cancel-forms fields =
-    by-parts (at 1 (identifier (field fields 1))) _
-    (λ account. by-parts (at 2 (reference (field fields 2))) _ (λ ref_no. by-parts (at 3 (reference (field fields 3))) _ (λ target. tt)))
-
-show-forms : (fields : List (List ℕ)) → AskedInForm (show_asked fields)
-show-forms fields = by-parts (at 1 (identifier (field fields 1))) _ (λ account. tt)
-
-trace-forms : (fields : List (List ℕ)) → AskedInForm (trace_asked fields)
-trace-forms fields =
-    by-parts (at 1 (identifier (field fields 1))) _ (λ account. by-parts (at 2 (reference (field fields 2))) _ (λ ref_no. tt))
-
-statement-forms : (fields : List (List ℕ)) → AskedInForm (statement_asked fields)
-statement-forms fields =
-    by-parts (at 1 (identifier (field fields 1))) _
-    (λ account. by-parts (at 2 (read_day (field fields 2))) _ (λ first. by-parts (at 3 (read_day (field fields 3))) _ (λ last. tt)))
 
 -- ---- orders
 
@@ -245,7 +200,7 @@ by-order : (read : Result Order ℕ) (next : Order → Asked) → OrderRead read
 by-order (Ok order) next is all = all order is
 by-order (Err place) next is all = tt
 
-pub line-forms : (fields : List (List ℕ)) → AskedInForm (line_asked fields)
+line-forms : (fields : List (List ℕ)) → AskedInForm (line_asked fields)
 line-forms fields =
     by-parts (at 1 (moment (field fields 1))) _
     (λ receipt. by-parts (at 2 (order_count (field fields 2))) _
@@ -275,60 +230,35 @@ by-entry : (read : Result EntryForm ℕ) (make : EntryForm → Request) → Entr
 by-entry (Ok form) make is all = all form is
 by-entry (Err place) make is all = tt
 
-enter-forms : (fields : List (List ℕ)) → AskedInForm (enter_asked fields)
-enter-forms fields = by-entry (entry_form fields) Request.Enter (entry-read fields) (λ form is. is)
-
-replace-forms : (fields : List (List ℕ)) → AskedInForm (replace_asked fields)
-replace-forms fields = by-entry (entry_form fields) Request.Replace (entry-read fields) (λ form is. is)
-
 -- ---- by the verb
 
-numbered-forms : (count : ℕ) (form : List (List ℕ) → Asked) (fields : List (List ℕ)) → AskedInForm (form fields) → AskedInForm (of_length count form fields)
-numbered-forms count form fields all = by_count (length fields == count)
-  where
-    by_count : (is : Bool) → AskedInForm (cond is (form fields) (Err 0))
-    by_count true = all
-    by_count false = tt
-
-pub carried-forms : (lead : ℕ) (form : List (List ℕ) → Asked) (fields : List (List ℕ)) → AskedInForm (form fields) → AskedInForm (with_order lead form fields)
-carried-forms lead form fields all = by_short (nat_lt (length fields) lead)
-  where
-    by_verb : (found : Option ℕ) → AskedInForm (counted_by found lead form fields)
-    by_verb None = all
-    by_verb (Some count) = numbered-forms (lead + count) form fields all
-
-    by_short : (short : Bool) → AskedInForm (cond short (Err 0) (counted_by (order_count (field fields lead)) lead form fields))
-    by_short true = tt
-    by_short false = by_verb (order_count (field fields lead))
-
-order-forms : (found : Option ℕ) (verb : List ℕ) (fields : List (List ℕ)) → AskedInForm (order_or_unknown found verb fields)
-order-forms None verb fields = tt
-order-forms (Some count) verb fields =
-    numbered-forms count (order_asked verb) fields (by-order (order_form verb 0 fields) _ (order-read verb 0 fields) (λ order is. is))
-
-either-forms : (is : Bool) (one other : Asked) → AskedInForm one → AskedInForm other → AskedInForm (cond is one other)
-either-forms true one other first second = first
-either-forms false one other first second = second
+read-forms : (fields : List (List ℕ)) → OfEachForm AskedInForm fields
+read-forms fields = record {
+  nothing = λ place. tt;
+  calendar = calendar-forms fields;
+  sheet = by-sheet (sheet_form fields) (sheet-read fields);
+  dividend = dividend-forms fields;
+  fixprice = fixprice-forms fields;
+  fixrate = fixrate-forms fields;
+  enter = by-entry (entry_form fields) Request.Enter (entry-read fields) (λ form is. is);
+  replace = by-entry (entry_form fields) Request.Replace (entry-read fields) (λ form is. is);
+  line = line-forms fields;
+  order = λ verb. by-order (order_form verb 0 fields) _ (order-read verb 0 fields) (λ order is. is);
+  close = λ form. tt;
+  class = λ form. tt;
+  dealer = λ form. tt;
+  household = λ form. tt;
+  account = λ form. tt;
+  void = λ form. tt;
+  cancel = λ form. tt;
+  show = λ account. tt;
+  trace = λ form. tt;
+  statement = λ form. tt;
+  books = tt;
+}
 
 pub asked-forms : (verb : List ℕ) (fields : List (List ℕ)) → AskedInForm (asked_by verb fields)
-asked-forms verb fields =
-    either-forms (bytes_eq verb (codes "calendar")) _ _ (numbered-forms 6 calendar_asked fields (calendar-forms fields))
-    (either-forms (bytes_eq verb (codes "close")) _ _ (numbered-forms 2 close_asked fields (close-forms fields))
-    (either-forms (bytes_eq verb (codes "class")) _ _ (numbered-forms 10 class_asked fields (class-forms fields))
-    (either-forms (bytes_eq verb (codes "dealer")) _ _ (numbered-forms 3 dealer_asked fields (dealer-forms fields))
-    (either-forms (bytes_eq verb (codes "household")) _ _ (numbered-forms 2 household_asked fields (household-forms fields))
-    (either-forms (bytes_eq verb (codes "account")) _ _ (numbered-forms 4 account_asked fields (account-forms fields))
-    (either-forms (bytes_eq verb (codes "sheet")) _ _ (numbered-forms 3 sheet_asked fields (by-sheet (sheet_form fields) (sheet-read fields)))
-    (either-forms (bytes_eq verb (codes "dividend")) _ _ (numbered-forms 3 dividend_asked fields (dividend-forms fields))
-    (either-forms (bytes_eq verb (codes "fixprice")) _ _ (numbered-forms 5 fixprice_asked fields (fixprice-forms fields))
-    (either-forms (bytes_eq verb (codes "fixrate")) _ _ (numbered-forms 5 fixrate_asked fields (fixrate-forms fields))
-    (either-forms (bytes_eq verb (codes "enter")) _ _ (carried-forms 4 enter_asked fields (enter-forms fields))
-    (either-forms (bytes_eq verb (codes "replace")) _ _ (carried-forms 4 replace_asked fields (replace-forms fields))
-    (either-forms (bytes_eq verb (codes "void")) _ _ (numbered-forms 4 void_asked fields (void-forms fields))
-    (either-forms (bytes_eq verb (codes "cancel")) _ _ (numbered-forms 3 cancel_asked fields (cancel-forms fields))
-    (either-forms (bytes_eq verb (codes "show")) _ _ (numbered-forms 1 show_asked fields (show-forms fields))
-    (either-forms (bytes_eq verb (codes "trace")) _ _ (numbered-forms 2 trace_asked fields (trace-forms fields))
-    (either-forms (bytes_eq verb (codes "statement")) _ _ (numbered-forms 3 statement_asked fields (statement-forms fields))
-    (either-forms (bytes_eq verb (codes "books")) _ _ (numbered-forms 0 books_asked fields tt)
-    (either-forms (bytes_eq verb (codes "line")) _ _ (carried-forms 2 line_asked fields (line-forms fields))
-    (order-forms (order_count verb) verb fields)))))))))))))))))))
+asked-forms verb fields = of_verb AskedInForm verb fields (read-forms fields)
+
+pub batch-forms : (fields : List (List ℕ)) → AskedInForm (batch_line fields)
+batch-forms fields = carried AskedInForm (λ place. tt) 2 line_asked fields (line-forms fields)

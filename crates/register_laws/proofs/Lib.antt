@@ -55,6 +55,7 @@ pub mod DueAsReplied
 pub mod CashBalances
 pub mod PartyFacts
 pub mod BooksSumToZero
+pub mod FormsByVerb
 pub mod ListForms
 pub mod RowsFit
 pub mod NamesStand

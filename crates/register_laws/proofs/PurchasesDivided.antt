@@ -16,7 +16,7 @@ use Rattle.register_laws.proofs.DayTurns.{IsBought, Turn, bought_by, elected_by,
 use Rattle.register_laws.proofs.OrdersInTurn.{rows-on}
 use Rattle.register_laws.proofs.PositionsInOrder.{own-class}
 use Rattle.register_laws.proofs.ReplayTurns.{All-one, AnyKey, TurnsKeep, any-all, replay-kept}
-use Rattle.register_laws.specs.Trades.{GrossIsWhole, IsPurchase, is_purchase}
+use Rattle.register_laws.specs.Trades.{GrossIsWhole, IsDone, IsPurchase, is_purchase}
 use Rattle.register_machine.specs.pricing.CorrectedBook.{Book, front_of}
 use Rattle.register_machine.specs.pricing.CorrectedOrders.{stands}
 use Rattle.register_machine.specs.pricing.OrderClasses.{class_of}
@@ -98,45 +98,40 @@ pub record Executes (book : Book) (sheet : Sheet) (row : OrderRow) (gross : ℕ)
   pub on : IsOrderOn book sheet.number row
   pub body : row.order.body ≡ Body.Buy (class_of row.order.body) gross
 
-pub filled_purchase : (book : Book) (sheet : Sheet) (row : OrderRow) (gross amount : ℕ) (split : Split) → Executes book sheet row gross → gross ≤ amount → split_of gross (nav_of sheet (class_of row.order.body)) (bracket (front_of book (class_of row.order.body)) amount) ≡ Some split → IsPurchase book (purchase_trade (order_trade sheet row.order TradeKind.Buy) gross split)
-filled_purchase book sheet row gross amount split known reached e = record {
+-- its trade is that of a purchase, if its cash and charge are those of its outcome
+purchase_of : (book : Book) (sheet : Sheet) (row : OrderRow) (gross : ℕ) (trade : Trade) → Executes book sheet row gross → trade.account ≡ row.order.account → trade.ref_no ≡ row.order.ref_no → trade.class ≡ class_of row.order.body → trade.sheet ≡ sheet.number → IsDone book sheet gross trade trade.outcome → IsPurchase book trade
+purchase_of book sheet row gross trade known account ref_no class number done = record {
   row = row;
   ordered = known.on.ordered;
-  account = refl;
-  ref_no = refl;
+  account = account;
+  ref_no = ref_no;
   gross = gross;
-  body = known.body;
+  body = rw class known.body;
   sheet = sheet;
   published = known.published;
-  number = refl;
+  number = number;
   priced = known.on.priced;
-  done = record {
-    amount = amount;
-    reached = reached;
-    split = split;
-    divided = e;
-    cash = refl;
-    parts = parts_make gross (nav_of sheet (class_of row.order.body)) (bracket (front_of book (class_of row.order.body)) amount) split e;
-    charge = refl;
-    price = refl;
-    mils = refl;
-  };
+  done = done;
 }
 
+pub filled_purchase : (book : Book) (sheet : Sheet) (row : OrderRow) (gross amount : ℕ) (split : Split) → Executes book sheet row gross → gross ≤ amount → split_of gross (nav_of sheet (class_of row.order.body)) (bracket (front_of book (class_of row.order.body)) amount) ≡ Some split → IsPurchase book (purchase_trade (order_trade sheet row.order TradeKind.Buy) gross split)
+filled_purchase book sheet row gross amount split known reached e =
+    purchase_of book sheet row gross _ known refl refl refl refl
+    (record {
+      amount = amount;
+      reached = reached;
+      split = split;
+      divided = e;
+      cash = refl;
+      parts = parts_make gross (nav_of sheet (class_of row.order.body)) (bracket (front_of book (class_of row.order.body)) amount) split e;
+      charge = refl;
+      price = refl;
+      mils = refl;
+    })
+
 pub unfilled_purchase : (book : Book) (sheet : Sheet) (row : OrderRow) (gross : ℕ) (why : Why) → Executes book sheet row gross → IsPurchase book (record (order_trade sheet row.order TradeKind.Buy) { outcome = Outcome.Unfilled why })
-unfilled_purchase book sheet row gross why known = record {
-  row = row;
-  ordered = known.on.ordered;
-  account = refl;
-  ref_no = refl;
-  gross = gross;
-  body = known.body;
-  sheet = sheet;
-  published = known.published;
-  number = refl;
-  priced = known.on.priced;
-  done = record { cash = refl; charge = refl; price = refl; mils = refl };
-}
+unfilled_purchase book sheet row gross why known =
+    purchase_of book sheet row gross _ known refl refl refl refl (record { cash = refl; charge = refl; price = refl; mils = refl })
 
 bought-is : (book : Book) (sheet : Sheet) (register : Register) (row : OrderRow) (gross : ℕ) (split : Split) → Contains book.table.sheets sheet → IsOrderOn book sheet.number row → IsBought book sheet register row gross split → IsPurchase book (bought_by sheet row gross split)
 bought-is book sheet register row gross split published on is =

@@ -1,4 +1,5 @@
 //! The calendars, and the classes and accounts, that worked scripts stand behind.
+use crate::texts::PREAMBLE;
 
 /// The calendar of a worked script.
 #[derive(Clone, Copy)]
@@ -64,17 +65,11 @@ const SIX_DAYS: &[u8] =
 2025-07-10 2025-07-11 2025-07-14 2025-07-15 2025-07-16 2025-07-17 2025-07-18 2025-07-21 \
 2025-07-22 2025-07-23 2025-07-24 2025-07-25 2025-07-28 2025-07-29 2025-07-30 2025-07-31\n";
 
-/// A class with seven brackets, two of one family with deferred charges, and one without loads whose shares don't count; a
-/// household of two accounts, and one of one account by a dealer.
-pub const FAMILY: &[u8] =
-    b"1719835200,op-desk000001,class,11,1,1,GROWTH-A,0,1,250.00,50.00,0.00:575 25000.00:500 \
-50000.00:450 100000.00:350 250000.00:250 500000.00:200 1000000.00:0,\n\
-1719835200,op-desk000001,class,12,1,1,GROWTH-B,7,1,0.01,0.01,0.00:0,500 400 300 200 100\n\
-1719835200,op-desk000001,class,13,1,2,INCOME-B,7,1,0.01,0.01,0.00:0,500 400 300 200 100\n\
-1719835200,op-desk000001,class,14,1,3,INDEX-N,0,0,0.01,0.01,0.00:0,\n\
-1719835200,op-desk000001,dealer,5,d-broker00005,21600\n\
-1719835200,op-desk000001,household,1,h-mary000001\n\
-1719835200,op-desk000001,household,2,h-omar000002\n\
-1719835200,op-desk000001,account,101,1,0,MARY DOE\n\
-1719835200,op-desk000001,account,102,1,0,MARY DOE IRA\n\
-1719835200,op-desk000001,account,103,2,5,OMAR ROE\n";
+/// What the preamble has behind its calendar: a class with seven brackets, two of one family with deferred charges, and one
+/// without loads whose shares don't count; a household of two accounts, and one of one account by a dealer.
+pub(crate) fn family() -> &'static [u8] {
+    match PREAMBLE.strip_prefix(EACH_DAY) {
+        Some(rest) => rest,
+        None => PREAMBLE,
+    }
+}

@@ -2,7 +2,7 @@
 ghost use Rattle.std.specs.Prelude.{◌≡◌, ◌<◌, IsTrue};
 ghost use Rattle.register_desk.specs.Rows.{TellsRowsOf};
 
-use crate::calendars::{FAMILY, PricingDays, calendar_item};
+use crate::calendars::{PricingDays, calendar_item, family};
 use crate::texts::OPERATOR;
 use agent_edge::MemorySink;
 use agent_keeper::{Keeper, MemoryKeeper};
@@ -37,7 +37,7 @@ fn script_of(
     looks: &[u8],
 ) -> Result<Vec<u8>, NoMemory> {
     let mut script = Vec::from_slice(alloc, calendar_item(days))?;
-    script.extend_from_slice(FAMILY)?;
+    script.extend_from_slice(family())?;
     script.extend_from_slice(items)?;
     script.extend_from_slice(looks)?;
     Ok(script)
@@ -50,7 +50,7 @@ fn lines_in(text: &[u8]) -> u64 {
 
 // How many items bring a calendar, the classes and accounts, and these.
 fn items_with(items: &[u8]) -> u64 {
-    lines_in(FAMILY)
+    lines_in(family())
         .saturating_add(lines_in(items))
         .saturating_add(1)
 }

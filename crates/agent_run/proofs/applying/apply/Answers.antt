@@ -1,13 +1,9 @@
 -- That `apply` keeps its contract.
 use Rattle.std.proofs.Common.{Err, ap, ◌∙◌}
 use Rattle.std.proofs.Common.{inr}
-use Rattle.agent_run.proofs.RunFacts.{same-grow, stopped}
+use Rattle.agent_run.proofs.RunFacts.{stopped}
 use Rattle.agent_run.specs.Runs.{status_line}
 use Rattle.agent_run.proofs.applying.apply.Goals as goal
-
-pub returns-in-Err-Keeper-clause-kept : goal.returns-in-Err-Keeper-clause-kept
-returns-in-Err-Keeper-clause-kept g c =
-    same-grow (g.K.Keeper.tells c.args.keeper.now) (g.K.Keeper.tells c.open.new.keeper) c.open.ensures.same
 
 pub returns-in-Err-Damaged-clause-damaged : goal.returns-in-Err-Damaged-clause-damaged
 returns-in-Err-Damaged-clause-damaged g c = λ is. (
@@ -16,14 +12,6 @@ returns-in-Err-Damaged-clause-damaged g c = λ is. (
   c.open.ensures.same,
   c.open.ensures.damaged c.in-Err-Damaged.place (c.in-Err-Damaged.is ∙ ap (λ fault. Err fault) c.in-Err-Damaged.field-0-is),
 )
-
-pub returns-in-Err-Damaged-clause-kept : goal.returns-in-Err-Damaged-clause-kept
-returns-in-Err-Damaged-clause-kept g c =
-    same-grow (g.K.Keeper.tells c.args.keeper.now) (g.K.Keeper.tells c.open.new.keeper) c.open.ensures.same
-
-pub returns-in-Err-NoMemory-clause-kept : goal.returns-in-Err-NoMemory-clause-kept
-returns-in-Err-NoMemory-clause-kept g c =
-    same-grow (g.K.Keeper.tells c.args.keeper.now) (g.K.Keeper.tells c.open.new.keeper) c.open.ensures.same
 
 pub returns-in-Ok-clause-failed : goal.returns-in-Ok-clause-failed
 returns-in-Ok-clause-failed g c = λ e.

@@ -1,6 +1,6 @@
 -- That `serve` keeps its contract.
 use Rattle.std.proofs.Common.{Err, ap, ◌∙◌}
-use Rattle.agent_run.proofs.RunFacts.{grow-lawfully, grown-lawful, is-opened, same-grow}
+use Rattle.agent_run.proofs.RunFacts.{grow-lawfully, grown-lawful, is-opened}
 use Rattle.agent_run.proofs.serving.serve.Goals as goal
 
 pub returns-in-Ok-clause-served : goal.returns-in-Ok-clause-served
@@ -37,10 +37,6 @@ returns-in-Ok-clause-kept g c =
     c.in-Ok.ensures.told c.in-Ok.ensures.lawful)
     c.serve_opened.ensures.grown
 
-pub returns-in-Err-Keeper-clause-kept : goal.returns-in-Err-Keeper-clause-kept
-returns-in-Err-Keeper-clause-kept g c =
-    same-grow (g.K.Keeper.tells c.args.keeper.now) (g.K.Keeper.tells c.open.new.keeper) c.open.ensures.same
-
 pub returns-in-Err-Damaged-clause-damaged : goal.returns-in-Err-Damaged-clause-damaged
 returns-in-Err-Damaged-clause-damaged g c = λ is. (
   c.in-Err-Damaged.place,
@@ -48,11 +44,3 @@ returns-in-Err-Damaged-clause-damaged g c = λ is. (
   c.open.ensures.same,
   c.open.ensures.damaged c.in-Err-Damaged.place (c.in-Err-Damaged.is ∙ ap (λ fault. Err fault) c.in-Err-Damaged.field-0-is),
 )
-
-pub returns-in-Err-Damaged-clause-kept : goal.returns-in-Err-Damaged-clause-kept
-returns-in-Err-Damaged-clause-kept g c =
-    same-grow (g.K.Keeper.tells c.args.keeper.now) (g.K.Keeper.tells c.open.new.keeper) c.open.ensures.same
-
-pub returns-in-Err-NoMemory-clause-kept : goal.returns-in-Err-NoMemory-clause-kept
-returns-in-Err-NoMemory-clause-kept g c =
-    same-grow (g.K.Keeper.tells c.args.keeper.now) (g.K.Keeper.tells c.open.new.keeper) c.open.ensures.same

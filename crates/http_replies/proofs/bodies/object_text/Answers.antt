@@ -1,14 +1,9 @@
 -- That `object_text` keeps its contract.
-use Rattle.std.proofs.Common.{◌≡◌, false, map, sym, subst}
-use Rattle.std.specs.List.{zip}
-use Rattle.serde_json.specs.Data.{Data}
-use Rattle.serde_json.specs.Written.{has_float}
-use Rattle.http_replies.proofs.ObjectLaws.{no-float}
+use Rattle.http_replies.proofs.ObjectLaws.{object-written}
 use Rattle.http_replies.proofs.bodies.object_text.Goals as goal
 
 pub returns : goal.returns
 returns c =
-    let is = c.in_ok-value.ensures in
-    let P : Data → Type 0 = λ d. has_float d ≡ false in
-    rw is at (c.in_ok-to_string.ensures.text
-    (subst P (sym is) (no-float (zip (map (λ name. name.now) c.args.names.now) c.args.texts.now))))
+    object-written (λ member. (member.0.now, member.1)) c.args.members.now c.args.texts.now _ _ _ _ _ _ _ _ _ _ c.in_ok-with_capacity.ensures.items c.new-out.ensures.before
+    c.in_ok-begin_object.ensures.room.0 c.in_ok-write_members.ensures.before c.in_ok-end_object.ensures.room.0 c.new-out.ensures.tokens c.in_ok-begin_object.ensures.ok
+    c.in_ok-write_members.ensures.tokens c.in_ok-end_object.ensures.ok c.into_inner.ensures.items

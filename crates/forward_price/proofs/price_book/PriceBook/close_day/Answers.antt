@@ -1,8 +1,8 @@
 -- That `PriceBook::close_day` keeps its contract.
-use Rattle.std.proofs.Common.{◌≡◌, false, map, sym, ap, ◌∙◌, ◌++◌, take, drop, length, arith}
+use Rattle.std.proofs.Common.{◌≡◌, false, map, sym, ap, ◌∙◌, ◌++◌, take, drop, length, arith, refl}
 use Rattle.std.proofs.lemmas.Grind.{common_steps}
 use Rattle.forward_price.specs.PriceTables.{closed_in, is_priced}
-use Rattle.forward_price.proofs.TurnFacts.{none_passed}
+use Rattle.forward_price.proofs.BookFacts.{keeps_unpassed}
 use Rattle.forward_price.proofs.CloseFacts.{none_closed, on_false}
 use Rattle.forward_price.proofs.price_book.PriceBook.close_day.Goals as goal
 
@@ -17,13 +17,5 @@ returns-clause-unchanged c =
     rw whole c.self.view_is)
 
 pub invariant_of-self : goal.invariant_of-self
-invariant_of-self c = record {
-  calendars_fit = c.self.invariant.calendars_fit;
-  classes_fit = c.self.invariant.classes_fit;
-  room_empty = c.self.invariant.room_empty;
-  list_fits = c.self.invariant.list_fits;
-  sheet_fits = c.self.invariant.sheet_fits;
-  none_passed = rw c.start-self-inside.ensures (none_passed _ _ _);
-  numbered = c.self.invariant.numbered;
-  in_order = c.self.invariant.in_order;
-}
+invariant_of-self c =
+    keeps_unpassed c.self.inside _ c.self.invariant c.self.invariant.calendars_fit c.self.invariant.classes_fit refl refl refl refl c.start-self-inside.ensures
