@@ -12,7 +12,7 @@ use agent_events::{
     day_digits,
 };
 use csv_rows::{Fields, push_field};
-use money_units::NoMemory;
+use money_units::{Bytes, NoMemory};
 use std::alloc::Global;
 
 /// The texts of a reply: `ok`, the reply's name and its texts, or `no`, the number of the refusal and its values.
@@ -69,22 +69,33 @@ fn two_texts(alloc: Global, name: &[u8], first: &[u8], second: &[u8]) -> Result<
     fields_of(alloc, &[b"ok".as_slice(), name, first, second])
 }
 
+// The fields of a reply so far: `ok` and its name.
+fn ok_fields(alloc: Global, name: &[u8]) -> Result<Fields, NoMemory>
+    ensures { IfOk result (λ fields. fields ≡ ok_answer name.now []) }
+{
+    let mut fields = Fields::new(alloc);
+    push_field(alloc, &mut fields, b"ok")?;
+    push_field(alloc, &mut fields, name)?;
+    Ok(fields)
+}
+
+// Appends a number.
+fn push_number(alloc: Global, fields: &mut Fields, number: u64) -> Result<(), NoMemory>
+    ensures { OnOk result (fields.new ≡ fields.old ++ number_text number ∷ []) }
+{
+    fields.push(Bytes::from_vec(number_of(alloc, number)?))?;
+    Ok(())
+}
+
 fn order_texts(alloc: Global, order: &OrderReply) -> Result<Fields, NoMemory>
     ensures { IfOk result (λ fields. fields ≡ ok_answer (codes "order") (order_texts order.now)) }
 {
-    let account = number_of(alloc, order.account.number() as u64)?;
-    let ref_no = number_of(alloc, order.ref_no.number())?;
-    let receipt = number_of(alloc, order.receipt.seconds())?;
-    let due = number_of(alloc, order.due.seconds())?;
-    let texts = [
-        b"ok".as_slice(),
-        b"order",
-        account.as_slice(),
-        ref_no.as_slice(),
-        receipt.as_slice(),
-        due.as_slice(),
-    ];
-    fields_of(alloc, &texts)
+    let mut fields = ok_fields(alloc, b"order")?;
+    push_number(alloc, &mut fields, order.account.number() as u64)?;
+    push_number(alloc, &mut fields, order.ref_no.number())?;
+    push_number(alloc, &mut fields, order.receipt.seconds())?;
+    push_number(alloc, &mut fields, order.due.seconds())?;
+    Ok(fields)
 }
 
 fn cancel_texts(alloc: Global, form: &CancelForm) -> Result<Fields, NoMemory>
@@ -95,17 +106,11 @@ fn cancel_texts(alloc: Global, form: &CancelForm) -> Result<Fields, NoMemory>
         (number_text form.now.account ∷ number_text form.now.ref_no
         ∷ number_text form.now.target ∷ [])) }
 {
-    let account = number_of(alloc, form.account.number() as u64)?;
-    let ref_no = number_of(alloc, form.ref_no.number())?;
-    let target = number_of(alloc, form.target.number())?;
-    let texts = [
-        b"ok".as_slice(),
-        b"cancel",
-        account.as_slice(),
-        ref_no.as_slice(),
-        target.as_slice(),
-    ];
-    fields_of(alloc, &texts)
+    let mut fields = ok_fields(alloc, b"cancel")?;
+    push_number(alloc, &mut fields, form.account.number() as u64)?;
+    push_number(alloc, &mut fields, form.ref_no.number())?;
+    push_number(alloc, &mut fields, form.target.number())?;
+    Ok(fields)
 }
 
 fn close_texts(alloc: Global, form: &CloseForm) -> Result<Fields, NoMemory>
@@ -141,12 +146,8 @@ fn push_order(alloc: Global, traced: &TraceReply, fields: &mut Fields) -> Result
         ++ number_text traced.now.account ∷ number_text traced.now.ref_no
         ∷ state_text traced.now.state ∷ []) }
 {
-    push_field(
-        alloc,
-        fields,
-        &number_of(alloc, traced.account.number() as u64)?,
-    )?;
-    push_field(alloc, fields, &number_of(alloc, traced.ref_no.number())?)?;
+    push_number(alloc, fields, traced.account.number() as u64)?;
+    push_number(alloc, fields, traced.ref_no.number())?;
     push_field(alloc, fields, state_word(traced.state))
 }
 
@@ -156,8 +157,8 @@ fn push_moments(alloc: Global, traced: &TraceReply, fields: &mut Fields) -> Resu
         (fields.new
         ≡ fields.old ++ number_text traced.now.receipt ∷ number_text traced.now.due ∷ []) }
 {
-    push_field(alloc, fields, &number_of(alloc, traced.receipt.seconds())?)?;
-    push_field(alloc, fields, &number_of(alloc, traced.due.seconds())?)
+    push_number(alloc, fields, traced.receipt.seconds())?;
+    push_number(alloc, fields, traced.due.seconds())
 }
 
 // What was traded, and the loose mils of an order that is short.
@@ -177,9 +178,7 @@ fn push_trade(alloc: Global, traced: &TraceReply, fields: &mut Fields) -> Result
 fn trace_fields(alloc: Global, traced: &TraceReply) -> Result<Fields, NoMemory>
     ensures { IfOk result (λ fields. fields ≡ ok_answer (codes "trace") (trace_texts traced.now)) }
 {
-    let mut fields = Fields::new(alloc);
-    push_field(alloc, &mut fields, b"ok")?;
-    push_field(alloc, &mut fields, b"trace")?;
+    let mut fields = ok_fields(alloc, b"trace")?;
     push_order(alloc, traced, &mut fields)?;
     push_moments(alloc, traced, &mut fields)?;
     push_trade(alloc, traced, &mut fields)?;
