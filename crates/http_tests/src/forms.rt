@@ -35,6 +35,8 @@ pub enum Form {
     /// Two positions of account 101.
     Positions,
     NoPositions,
+    /// So many positions of account 101, all alike.
+    ManyPositions(u32),
     /// The text of a statement of account 101.
     Statement(&'static [u8]),
     /// The first order of account 101.
@@ -55,6 +57,7 @@ fn made(alloc: Global, form: &Form) -> Option<Reply> {
         Form::Books => books(alloc),
         Form::Positions => positions(alloc),
         Form::NoPositions => no_positions(alloc),
+        Form::ManyPositions(count) => many_positions(alloc, *count),
         Form::Statement(text) => statement(alloc, text),
         Form::Trace(state) => traced(*state),
         Form::Refused(code, value, second) => Some(Reply::Refused(refusal(
@@ -163,6 +166,21 @@ fn positions(alloc: Global) -> Option<Reply> {
 fn no_positions(alloc: Global) -> Option<Reply> {
     let account = Identifier::new(101)?;
     let positions = Positions::new(alloc);
+    Some(Reply::Show { account, positions })
+}
+
+fn many_positions(alloc: Global, count: u32) -> Option<Reply> {
+    let account = Identifier::new(101)?;
+    let position = PositionText {
+        class: Identifier::new(14)?,
+        loose: Mils(1000000),
+        held: Mils(0),
+        cost: Cents(1000000),
+    };
+    let mut positions = Positions::new(alloc);
+    for _ in 0..count {
+        positions.push_copy(&position).ok()?;
+    }
     Some(Reply::Show { account, positions })
 }
 

@@ -200,6 +200,37 @@ fn lists_and_texts_have_their_lines_and_bytes(rt: HostRuntime) -> Result<(), Fai
     Ok(())
 }
 
+// Their text has over 130 KiB.
+const MANY: u32 = 5_000;
+
+const MANY_POSITIONS: Form = Form::ManyPositions(MANY);
+
+// The positions with spaces between them.
+fn positions_text(alloc: Global) -> Result<String, NoMemory> {
+    let mut text = String::new(alloc);
+    for number in 0..MANY {
+        text.push_str(if number > 0 { " " } else { "" })?;
+        text.push_str("14:1000.000:0.000:10000.00")?;
+    }
+    Ok(text)
+}
+
+fn shows_positions(alloc: Global) -> Result<bool, NoMemory> {
+    let positions = positions_text(alloc)?;
+    let mut body = String::from_str(alloc, "{\"account\":\"101\",\"positions\":\"")?;
+    body.push_str(&positions)?;
+    body.push_str("\",\"reply\":\"show\"}")?;
+    let wanted = message(alloc, "200 OK", JSON, false, &body)?;
+    let bytes = sent(alloc, &MANY_POSITIONS, false)?;
+    Ok(bytes.as_slice() == wanted.as_bytes())
+}
+
+#[test]
+fn a_long_reply_is_written_whole(rt: HostRuntime) -> Result<(), Fail> {
+    assert!(rt; shows_positions(rt.alloc())?);
+    Ok(())
+}
+
 // A traced order with its numbers, by each state that it may have.
 const TRACES: [Row; 7] = [
     Row {
