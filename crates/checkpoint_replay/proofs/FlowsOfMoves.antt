@@ -16,9 +16,10 @@ use Rattle.checkpoint_replay.specs.declared.part.HouseholdPart.{HouseholdPart}
 use Rattle.gain_loss_book.proofs.FlowFacts.{flow-same}
 use Rattle.gain_loss_book.proofs.PostedFacts.{flow-in, flow-out}
 use Rattle.gain_loss_book.specs.Flows.{net, no_flow, reverse_flow, with_flow}
-use Rattle.gain_loss_book.specs.Movements.{mils_brought, mils_taken, trades_mils}
+use Rattle.gain_loss_book.specs.Movements.{trades_mils}
 use Rattle.gain_loss_book.specs.declared.flows.Flow.{Flow}
 use Rattle.register_machine.specs.corrections.Cash.{cents_paid_in, cents_received_in, movements_in, movements_of}
+use Rattle.register_machine.specs.replay.Movements.{mils_brought, mils_taken}
 use Rattle.register_machine.specs.replay.Trades.{Day}
 
 -- trades behind others bring what both do

@@ -3,13 +3,13 @@ use Rattle.std.proofs.Common.{◌≡◌, ◌≤◌, ◌<◌, inl, inr, ℕ, ◌+
 use Rattle.std.specs.Option.{unwrap_or}
 use Rattle.std.proofs.lemmas.List.{length-drop, length-take}
 use Rattle.std.proofs.lemmas.Bool.Decides.{nat_tests}
+use Rattle.http_stream.proofs.MoreLaws.{ended-within}
 use Rattle.httparse.specs.Grammar.{RequestHead, print_request}
 use Rattle.http_stream.specs.declared.fault.HttpFault.{HttpFault}
 use Rattle.http_stream.specs.Heads.{Named, body_length, body_limit, is_length, length_name, length_of, fields_named, pairs_of, coding_name, said_length, within_limit}
 use Rattle.std.specs.Str.Parse.{digits_value}
-use Rattle.http_stream.specs.Lines.{Front, field_limit, front, head_limit, scan_of, scan_of_nothing}
+use Rattle.http_stream.specs.Lines.{Front, field_limit, front, head_limit, scan_of}
 use Rattle.http_stream.specs.Stream.{IsItem, Message, Shown, Shows, Stream, StreamItem, Undecided, behind, body_at, found_of, item_closes, item_limit, message_of, size_of, whole_at}
-use Rattle.http_stream.proofs.LineLaws.{scan-size}
 
 open-short-by : (rest : List ℕ) (ended many few : Bool) → (scan_of (take head_limit rest)).ended ≡ ended
     → ltb (field_limit + 1) (scan_of (take head_limit rest)).filled ≡ many → ltb (length rest) head_limit ≡ few
@@ -25,22 +25,9 @@ open-short rest is =
     open-short-by rest (scan_of (take head_limit rest)).ended (ltb (field_limit + 1) (scan_of (take head_limit rest)).filled)
     (ltb (length rest) head_limit) refl refl refl is
 
-ended-few-by : (rest : List ℕ) (size : ℕ) (ended many few : Bool) → (scan_of (take head_limit rest)).ended ≡ ended
-    → ltb (field_limit + 1) (scan_of (take head_limit rest)).filled ≡ many → ltb (length rest) head_limit ≡ few
-    → front rest ≡ Front.Ended size → (scan_of (take head_limit rest)).size ≡ size
-ended-few-by rest size true true few a b c is = absurd (let e : Front.Full ≡ Front.Ended size = rw (a, b) at is in cc)
-ended-few-by rest size true false few a b c is = let e : Front.Ended (scan_of (take head_limit rest)).size ≡ Front.Ended size = rw (a, b) at is in cc
-ended-few-by rest size false many true a b c is = absurd (let e : Front.Open ≡ Front.Ended size = rw (a, c) at is in cc)
-ended-few-by rest size false many false a b c is = absurd (let e : Front.Full ≡ Front.Ended size = rw (a, c) at is in cc)
-
 -- a head's text that ended is no longer than a head may be
 ended-few : (rest : List ℕ) (size : ℕ) → front rest ≡ Front.Ended size → size ≤ head_limit
-ended-few rest size is =
-    let found = ended-few-by rest size (scan_of (take head_limit rest)).ended (ltb (field_limit + 1) (scan_of (take head_limit rest)).filled)
-    (ltb (length rest) head_limit) refl refl refl is in
-    let bound : (scan_of (take head_limit rest)).size ≤ 0 + length (take head_limit rest) = scan-size scan_of_nothing (take head_limit rest) in
-    let taken : length (take head_limit rest) ≡ min head_limit (length rest) = length-take head_limit rest in
-    omega arith
+ended-few rest size is = omega (arith, ended-within rest size is)
 
 abbrev good : Option ℕ → Result (Option ℕ) HttpFault
 good said = Ok said

@@ -1,5 +1,5 @@
 -- The households with an order that stands and names a class, found by going back over the orders of each.
-use Rattle.std.proofs.Common.{Bool, Contains, List, None, Option, Some, [], ap, arith, cond, false, filter, length, length-take, map, refl, subst, suc, sym, take, true, zero, ℕ, ◌&&◌, ◌<◌, ◌==◌, ◌||◌, ◌∙◌, ◌∷◌, ◌≡◌, ◌≤◌}
+use Rattle.std.proofs.Common.{Bool, Contains, List, None, Option, Some, [], ap, arith, cond, false, filter, length, length-take, refl, subst, suc, sym, take, true, zero, ℕ, ◌&&◌, ◌<◌, ◌==◌, ◌||◌, ◌∙◌, ◌∷◌, ◌≡◌, ◌≤◌}
 use Rattle.std.proofs.lemmas.Bool.{and_parts, eqb-true}
 use Rattle.std.proofs.lemmas.Bool.Decides.{Decides-eqb}
 use Rattle.std.proofs.lemmas.Cmp.{nat_eq_equiv}
@@ -15,12 +15,14 @@ use Rattle.correction_effects.specs.Naming.{AreNaming, is_naming, names_at, name
 use Rattle.order_book.proofs.ChainWalk.{got-within, shifted, smaller, some-last}
 use Rattle.order_book.specs.LastPlaces.{last_place, last_place_from}
 use Rattle.register_laws.specs.CorrectionReach.{names_class}
-use Rattle.register_laws.specs.Households.{is_of_household, is_own_row, own_orders}
+use Rattle.register_laws.specs.Households.{own_orders}
 use Rattle.register_laws.specs.Lawful.{book_behind}
 use Rattle.register_machine.specs.journal.Choices.{when}
 use Rattle.register_machine.specs.journal.Journals.{Journal}
-use Rattle.register_machine.specs.journal.Kinds.{accounts_of, household_of}
+use Rattle.register_machine.specs.journal.Kinds.{accounts_of}
 use Rattle.register_machine.specs.pricing.CorrectedOrders.{orders_of, stands}
+use Rattle.standing_orders.proofs.InTurn.{head-same, no-cons, tail-same}
+use Rattle.standing_orders.proofs.OwnOrders.{own-by-owner}
 use Rattle.standing_orders.specs.ClassHouseholds.{AreNoted, ClassLists, is_listed, listed_under}
 use Rattle.standing_orders.specs.Rows.{AreOwners, is_owner}
 
@@ -193,27 +195,15 @@ ends-passing class household rows owners passed =
 
 -- ---- the households among them
 
-own-by-owner : (accounts : List AccountForm) (household : ℕ) (row : OrderRow) (owner : ℕ) → household_of accounts row.order.account ≡ Some owner → is_own_row (is_of_household accounts household) row ≡ (owner == household)
-own-by-owner accounts household row owner is = ap (λ (found : Option ℕ). option_map_or (λ (o : ℕ). o == household) found false) is
-
 among-named : (accounts : List AccountForm) (household class : ℕ) (rows : List OrderRow) (owners : List ℕ) → AreOwners accounts rows owners
     → is_naming class rows owners household ≡ list_any (names_class class) (filter stands (own_orders accounts household rows))
 among-named accounts household class [] owners are = refl
-among-named accounts household class (row ∷ rows) [] are = absurd (too-few are)
-  where
-    too-few : household_of accounts row.order.account ∷ map (λ (r : OrderRow). household_of accounts r.order.account) rows ≡ [] → ⊥
-    too-few h = cc
+among-named accounts household class (row ∷ rows) [] are = absurd (no-cons are)
 among-named accounts household class (row ∷ rows) (owner ∷ owners) are =
-    ap (λ later. (is_owner household owner && names_standing class row) || later) (among-named accounts household class rows owners (tails are))
+    ap (λ later. (is_owner household owner && names_standing class row) || later) (among-named accounts household class rows owners (tail-same are))
     ∙ (by_parts (owner == household) (stands row) (names_class class row) refl refl refl
-    ∙ ap (λ is. list_any (names_class class) (filter stands (cond is (row ∷ own_orders accounts household rows) (own_orders accounts household rows)))) (sym (own-by-owner accounts household row owner (heads are))))
+    ∙ ap (λ is. list_any (names_class class) (filter stands (cond is (row ∷ own_orders accounts household rows) (own_orders accounts household rows)))) (sym (own-by-owner accounts household row owner (head-same are))))
   where
-    heads : household_of accounts row.order.account ∷ map (λ (r : OrderRow). household_of accounts r.order.account) rows ≡ Some owner ∷ map Some owners → household_of accounts row.order.account ≡ Some owner
-    heads h = cc
-
-    tails : household_of accounts row.order.account ∷ map (λ (r : OrderRow). household_of accounts r.order.account) rows ≡ Some owner ∷ map Some owners → map (λ (r : OrderRow). household_of accounts r.order.account) rows ≡ map Some owners
-    tails h = cc
-
     rest : Bool
     rest = list_any (names_class class) (filter stands (own_orders accounts household rows))
 

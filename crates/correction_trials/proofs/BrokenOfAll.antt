@@ -25,11 +25,11 @@ use Rattle.correction_trials.specs.Fresh.{KnowsItsAccount}
 use Rattle.correction_trials.specs.Reopened.{AreReopened, IsTriedOver, broken_in}
 use Rattle.correction_trials.specs.Trials.{last_says}
 use Rattle.desk_books.specs.declared.books.DeskBooks.{DeskBooks}
+use Rattle.fund_calendar.proofs.LookUpLemmas.{find_passes}
 use Rattle.household_fold.specs.Facts.{Known}
 use Rattle.checkpoint_replay.specs.declared.change.HouseholdMove.{HouseholdMove}
 use Rattle.desk_books.proofs.ledger_of_journals.LedgerTotals.{is_of_households}
 use Rattle.register_laws.proofs.BrokenByParts.{breaks_by_parts}
-use Rattle.register_laws.proofs.Isolation.{find-passes}
 use Rattle.register_laws.proofs.KnownAccounts.{known-replay}
 use Rattle.register_laws.proofs.Unreached.{unreached_is_unbroken}
 use Rattle.register_laws.specs.BrokenByParts.{first_broken_in}
@@ -88,7 +88,7 @@ first-owned : (journal : Journal) (event : Event) (after : Day) → IsLawful jou
 first-owned journal event after lawful knows trade is =
     let before = (replay (book_behind journal)).trades in
     let corrected = order_corrected event.kind in
-    let passes = find-passes (is_broken corrected before) after.trades trade is in
+    let passes = find_passes (is_broken corrected before) after.trades trade is in
     let parts = and_parts (not (is_filled trade.outcome)) (was_filled before trade || option_map_or (λ (own : Order). is_trade_of own.account own.ref_no trade) corrected false) passes in
     by (was_filled before trade) refl parts.1
   where

@@ -16,7 +16,7 @@ use Rattle.agent_events.specs.declared.request.AccountForm.{AccountForm}
 use Rattle.agent_events.specs.declared.request.ClassForm.{ClassForm}
 use Rattle.agent_events.specs.declared.totals.Changes.{Changes}
 use Rattle.correction_trials.proofs.BrokenOfAll.{of-owner}
-use Rattle.desk_looks.proofs.ClassesListed.{all-of, lists_holdings}
+use Rattle.desk_looks.proofs.ClassesListed.{lists_holdings}
 use Rattle.event_laws.specs.EventReplays.{is_correction}
 use Rattle.gain_loss_book.specs.Booked.{AreDifferences}
 use Rattle.gain_loss_book.specs.ClassGains.{HasChanged, changes_class, class_flows, mils_change}
@@ -33,6 +33,7 @@ use Rattle.register_laws.specs.Households.{is_of_household, is_own_position}
 use Rattle.register_laws.specs.Identities.{has_number, is_class}
 use Rattle.register_laws.specs.Lawful.{book_behind}
 use Rattle.register_laws.specs.NamesStand.{is_placed_in}
+use Rattle.register_machine.proofs.ListItems.{all-of}
 use Rattle.register_machine.specs.corrections.Cash.{Movement, cash_of, cents_paid, cents_paid_in, cents_received, cents_received_in, movements_of, outstanding, outstanding_in, same_party}
 use Rattle.register_machine.specs.corrections.Gains.{class_numbers_of, dealer_numbers_of, is_nothing, rising_numbers}
 use Rattle.register_machine.specs.journal.Journals.{Journal, with_event}

@@ -17,6 +17,7 @@ use Rattle.register_machine.specs.journal.Journals.{Journal, with_event}
 use Rattle.register_machine.specs.journal.Kinds.{accounts_of, household_of}
 use Rattle.register_machine.specs.journal.Lawful.{IsLawful}
 use Rattle.register_machine.specs.pricing.CorrectedOrders.{is_named, orders_of, replaces, row_as_sent}
+use Rattle.standing_orders.proofs.InTurn.{head-same, tail-same}
 use Rattle.standing_orders.specs.ClassHouseholds.{AreNoted, ClassLists, IsNoted, is_listed}
 use Rattle.standing_orders.specs.Rows.{AreOwners}
 
@@ -55,20 +56,14 @@ module _ (classes : ClassLists) where
   noted-replaced accounts form [] owners are new noted = tt
   noted-replaced accounts form (row ∷ rows) [] are new noted = tt
   noted-replaced accounts form (row ∷ rows) (owner ∷ owners) are new noted =
-      (by (replaces row.order form) refl, noted-replaced accounts form rows owners (tails are) new noted.1)
+      (by (replaces row.order form) refl, noted-replaced accounts form rows owners (tail-same are) new noted.1)
     where
-      heads : household_of accounts row.order.account ∷ map (λ (r : OrderRow). household_of accounts r.order.account) rows ≡ Some owner ∷ map Some owners → household_of accounts row.order.account ≡ Some owner
-      heads h = cc
-
-      tails : household_of accounts row.order.account ∷ map (λ (r : OrderRow). household_of accounts r.order.account) rows ≡ Some owner ∷ map Some owners → map (λ (r : OrderRow). household_of accounts r.order.account) rows ≡ map Some owners
-      tails h = cc
-
       by : (is : Bool) → replaces row.order form ≡ is
           → IsNoted classes (cond is (record { place = row.place; receipt = form.receipt; struck = row.struck; order = form.order }) row) owner
       by true at = λ class.
           new owner class
           (ap (household_of accounts) (eqb-true form.order.account row.order.account (and_parts (form.order.account == row.order.account) (form.order.ref_no == row.order.ref_no) at).0)
-          ∙ heads are)
+          ∙ head-same are)
       by false at = noted.0
 
 module _ (classes : ClassLists) (journal : Journal) (event : Event) (owners : List ℕ) (lawful : IsLawful (with_event journal event)) (are : AreOwners (accounts_of journal) (orders_of journal) owners) (noted : AreNoted classes (orders_of journal) owners) where

@@ -16,12 +16,13 @@ use Rattle.forward_price.specs.declared.price_sheet.Sheet.{Sheet}
 use Rattle.register_laws.proofs.AlikeDays.{BodyCounts}
 use Rattle.register_laws.proofs.NamesStand.{names_stand}
 use Rattle.register_laws.proofs.OrdersInTurn.{rows-standing}
-use Rattle.register_laws.proofs.PositionsInOrder.{put-all}
 use Rattle.register_laws.proofs.StepsAlike.{Counts, PositionCounts, RowCounts, SheetAlike, step-after}
 use Rattle.register_laws.specs.Households.{is_of_household, is_own_position}
 use Rattle.register_laws.specs.Identities.{has_number, is_class}
 use Rattle.register_laws.specs.Lawful.{book_behind}
 use Rattle.register_laws.specs.NamesStand.{is_placed_in}
+use Rattle.register_machine.proofs.FoundFacts.{put-all}
+use Rattle.register_machine.proofs.ListItems.{all-of}
 use Rattle.register_machine.specs.corrections.Gains.{class_numbers_of, in_its_place, rising_numbers}
 use Rattle.register_machine.specs.journal.Journals.{Journal}
 use Rattle.register_machine.specs.journal.Kinds.{accounts_of, classes_of}
@@ -95,12 +96,6 @@ body-named named body all = record {
       let rest = (and_parts (named (class_of body)) (list_all named (option_to_list (target_of body))) all).1 in
       (and_parts (named to) true (sym (ap (λ o. list_all named (option_to_list o)) is) ∙ rest)).0;
 }
-
-pub all-of : {X : Type 0} (t : X → Bool) (xs : List X) → list_all t xs ≡ true → All (λ x. t x ≡ true) xs
-all-of t [] all = All-nil (λ x. t x ≡ true)
-all-of t (x ∷ xs) all =
-    let parts = and_parts (t x) (list_all t xs) all in
-    All-cons (λ y. t y ≡ true) x xs parts.0 (all-of t xs parts.1)
 
 orders-named : (journal : Journal) → IsLawful journal → AreOrdersNamed (has_class journal) (filter stands (orders_of journal))
 orders-named journal lawful =

@@ -19,7 +19,7 @@ use Rattle.agent_events.specs.declared.request.SheetForm.{SheetForm}
 use Rattle.event_laws.proofs.OneOfAName.{found-before}
 use Rattle.event_laws.proofs.OrdersWait.{cancelled_on_none, order_waits, published-there}
 use Rattle.event_laws.proofs.ReadsAlike.{first-same, sheets-same}
-use Rattle.event_laws.proofs.SheetMore.{orders-listed, price-before-more, standing-more, standing_on}
+use Rattle.event_laws.proofs.SheetMore.{price-before-more, standing-more}
 use Rattle.event_laws.specs.EventReplays.{KeepsSheets, LawfulAddsSheet, LawfulLeavesReplay, is_correction, is_sheet, sheet_behind}
 use Rattle.event_laws.specs.ReadsAlike.{IsKnownRow, SheetAgrees, TermsAgree}
 use Rattle.forward_price.specs.Sheets.{lists_class}
@@ -31,6 +31,7 @@ use Rattle.register_laws.proofs.NamesStand.{names_stand}
 use Rattle.register_laws.proofs.NoIdentityTwice.{dividend_free}
 use Rattle.register_laws.proofs.NothingBefore.{last-brought}
 use Rattle.register_laws.proofs.OrderReach.{event_reach}
+use Rattle.register_laws.proofs.OrdersStanding.{orders-standing, standing_on}
 use Rattle.register_laws.proofs.SheetsClimb.{sheets_never_fall}
 use Rattle.register_laws.proofs.TablesAreOrderly.{numbered}
 use Rattle.register_laws.proofs.Tests.{is-false}
@@ -126,7 +127,7 @@ one-more-standing sheets orders row number waits =
     by false = refl
 
 same-orders : (book other : Book) (sheet : Sheet) → standing_on other.table.sheets other.orders sheet.number ≡ standing_on book.table.sheets book.orders sheet.number → orders_on (priced_orders other) sheet ≡ orders_on (priced_orders book) sheet
-same-orders book other sheet same = orders-listed other sheet ∙ (ap all_in_turn same ∙ sym (orders-listed book sheet))
+same-orders book other sheet same = orders-standing other sheet ∙ (ap all_in_turn same ∙ sym (orders-standing book sheet))
 
 -- a number below that of a sheet behind the others
 earlier-number : (journal : Journal) → IsLawful journal → (form : SheetForm) (k : ℕ) (d : Sheet) → k < length (book_behind journal).table.sheets → ((sheet_behind journal form).number == (get_or (book_behind journal).table.sheets k d).number) ≡ false

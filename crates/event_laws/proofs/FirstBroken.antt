@@ -1,21 +1,22 @@
 -- The first order that a correction breaks, among the first ones of the households.
-use Rattle.std.proofs.Common.{All, AllPairs, Bool, List, Option, Some, [], ap, arith, cond, false, filter, get_or, inl, inr, length, not, refl, slice_get, subst, suc, sym, true, zero, ℕ, ◌||◌, ◌<◌, ◌∙◌, ◌∷◌, ◌≡◌, ◌≤◌, ◌⊎◌}
+use Rattle.std.proofs.Common.{AllPairs, Bool, List, Option, Some, [], ap, arith, cond, false, filter, get_or, inl, inr, length, not, refl, slice_get, subst, suc, sym, true, zero, ℕ, ◌||◌, ◌<◌, ◌∙◌, ◌∷◌, ◌≡◌, ◌≤◌, ◌⊎◌}
 use Rattle.std.proofs.lemmas.Option.{get_or_from_slice_get}
 use Rattle.std.specs.Option.{option_map_or}
 use Rattle.std.proofs.lemmas.Bool.{and_parts, cases_lt, true≢false}
-use Rattle.std.proofs.lemmas.List.Elements.{All-cons, All-head, All-nil, All-tail}
 use Rattle.std.proofs.lemmas.List.Kept.{AllPairs-cons}
 use Rattle.agent_events.specs.declared.order.Order.{Order}
 use Rattle.agent_events.specs.declared.request.AccountForm.{AccountForm}
 use Rattle.agent_events.specs.declared.trade.Trade.{Trade}
-use Rattle.event_laws.proofs.OrderTurns.{pairs-first, pairs-rest, some-same, trades_in_turn}
+use Rattle.event_laws.proofs.OrderTurns.{some-same, trades_in_turn}
 use Rattle.event_laws.specs.FirstBroken.{FirstBrokenIsFirst}
 use Rattle.event_laws.specs.OrderTurns.{IsExecutedBefore}
+use Rattle.fund_calendar.proofs.ListFacts.{AllPairs-head, AllPairs-tail}
+use Rattle.fund_calendar.proofs.LookUpLemmas.{find_passes}
 use Rattle.register_laws.proofs.BrokenByParts.{breaks_by_parts}
 use Rattle.register_laws.proofs.Choosing.{none_some}
 use Rattle.register_laws.proofs.ExecutedInTurn.{pairs-none, unfilled_are_orders}
-use Rattle.register_laws.proofs.Isolation.{find-passes}
 use Rattle.register_laws.proofs.Tests.{not-true}
+use Rattle.register_laws.proofs.Unreached.{all-unfiltered}
 use Rattle.register_laws.specs.BrokenByParts.{first_broken_in}
 use Rattle.register_laws.specs.Households.{part_of}
 use Rattle.register_laws.specs.Priced.{is_order_kind}
@@ -25,14 +26,6 @@ use Rattle.register_machine.specs.replay.Trades.{Day}
 use Rattle.register_machine.specs.rules.Breaks.{is_broken, is_filled, is_trade_of, was_filled}
 
 -- ---- pairs of a part of a list
-
-all-unless : {X : Type 0} (p : X → Bool) (P : X → Type 0) (xs : List X) → All P (filter p xs) → All (λ x. p x ≡ true → P x) xs
-all-unless p P [] all = All-nil (λ x. p x ≡ true → P x)
-all-unless {X = X} p P (x ∷ xs) all = by (p x) refl all (all-unless p P xs)
-  where
-    by : (b : Bool) → p x ≡ b → All P (cond b (x ∷ filter p xs) (filter p xs)) → (All P (filter p xs) → All (λ y. p y ≡ true → P y) xs) → All (λ y. p y ≡ true → P y) (x ∷ xs)
-    by true is all later = All-cons (λ y. p y ≡ true → P y) x xs (λ _. All-head P x (filter p xs) all) (later (All-tail P x (filter p xs) all))
-    by false is all later = All-cons (λ y. p y ≡ true → P y) x xs (λ on. absurd (true≢false (sym on ∙ is))) (later all)
 
 abbrev WherePassing : {X : Type 0} → (X → Bool) → (X → X → Type 0) → X → X → Type 0
 WherePassing p R x y = p x ≡ true → p y ≡ true → R x y
@@ -44,8 +37,8 @@ pairs-unless {X = X} p R (x ∷ xs) pairs = by (p x) refl pairs (pairs-unless p 
     by : (b : Bool) → p x ≡ b → AllPairs R (cond b (x ∷ filter p xs) (filter p xs)) → (AllPairs R (filter p xs) → AllPairs (WherePassing p R) xs) → AllPairs (WherePassing p R) (x ∷ xs)
     by true is pairs later =
         AllPairs-cons (WherePassing p R) x xs
-        (λ k d short here there. all-unless p (R x) xs (pairs-first R x (filter p xs) pairs) k d short there)
-        (later (pairs-rest R x (filter p xs) pairs))
+        (λ k d short here there. all-unfiltered (R x) p xs (AllPairs-head R x (filter p xs) pairs) k d short there)
+        (later (AllPairs-tail R x (filter p xs) pairs))
     by false is pairs later =
         AllPairs-cons (WherePassing p R) x xs (λ k d short here. absurd (true≢false (sym here ∙ is))) (later pairs)
 
@@ -86,10 +79,10 @@ first_broken_is_first book order before accounts household numbers once turns tr
     own_unfilled : is_filled trade.outcome ≡ false
     own_unfilled =
         not-filled order (part_of accounts household before).trades trade
-        (find-passes (is_broken order (part_of accounts household before).trades) (part_of accounts household (replay book)).trades trade own)
+        (find_passes (is_broken order (part_of accounts household before).trades) (part_of accounts household (replay book)).trades trade own)
 
     least_unfilled : is_filled least.outcome ≡ false
-    least_unfilled = not-filled order before.trades least (find-passes (is_broken order before.trades) trades least whole)
+    least_unfilled = not-filled order before.trades least (find_passes (is_broken order before.trades) trades least whole)
 
     first_there : slice_get trades first ≡ Some least
     first_there = found.4 ∙ ap Some same

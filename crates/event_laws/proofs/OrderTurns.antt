@@ -1,7 +1,7 @@
 -- The trades of orders stand in the order of execution.
 use Rattle.std.proofs.Common.{All, AllPairs, Bool, Contains, List, Some, [], ap, arith, cond, false, filter, find, flat_map, get_or, inl, inr, length, map, refl, subst, suc, sym, true, zero, ℕ, ◌<◌, ◌==◌, ◌||◌, ◌∙◌, ◌∷◌, ◌≡◌, ◌≤◌, ◌⊎◌}
 use Rattle.std.proofs.lemmas.Bool.{and_from, true≢false}
-use Rattle.std.proofs.lemmas.List.Elements.{All-append, All-cons, All-contains_itself, All-filter, All-head, All-map, All-nil, All-tail, All-weaker}
+use Rattle.std.proofs.lemmas.List.Elements.{All-append, All-contains_itself, All-filter, All-head, All-map, All-nil, All-tail, All-weaker}
 use Rattle.std.proofs.lemmas.List.Kept.{AllPairs-cons}
 use Rattle.std.specs.List.{list_any}
 use Rattle.agent_events.specs.declared.order.OrderRow.{OrderRow}
@@ -10,6 +10,7 @@ use Rattle.event_laws.specs.OrderTurns.{NamesOnce, TradesAreInTurn}
 use Rattle.forward_price.proofs.OrderlyFacts.{any_from}
 use Rattle.forward_price.specs.PriceTables.{AreNumbered}
 use Rattle.forward_price.specs.declared.price_sheet.Sheet.{Sheet}
+use Rattle.fund_calendar.proofs.ListFacts.{All-unmap, AllPairs-head, AllPairs-tail}
 use Rattle.register_laws.proofs.Comparisons.{eq-yes}
 use Rattle.register_laws.proofs.ExecutedInTurn.{pairs-none}
 use Rattle.register_laws.proofs.ListParts.{pairs-append}
@@ -20,30 +21,18 @@ use Rattle.register_machine.specs.pricing.CorrectedBook.{Book}
 use Rattle.register_machine.specs.pricing.CorrectedOrders.{is_named, order_named, stands}
 use Rattle.register_machine.specs.replay.Replay.{orders_on, priced_orders, replay}
 
--- ---- pairs of a list
-
-pub pairs-first : {X : Type 0} (R : X → X → Type 0) (x : X) (xs : List X) → AllPairs R (x ∷ xs) → All (R x) xs
-pairs-first R x xs pairs k d short = pairs zero (suc k) d (omega arith) (omega (arith, short))
-
-pub pairs-rest : {X : Type 0} (R : X → X → Type 0) (x : X) (xs : List X) → AllPairs R (x ∷ xs) → AllPairs R xs
-pairs-rest R x xs pairs i j d less short = pairs (suc i) (suc j) d (omega (arith, less)) (omega (arith, short))
-
--- a list under a function, and back
+-- ---- pairs of a list under a function, and back
 pairs-under : {X Y : Type 0} (P : X → Type 0) (R : X → X → Type 0) (S : Y → Y → Type 0) (f : X → Y) → ((x y : X) → P x → P y → R x y → S (f x) (f y)) → (xs : List X) → All P xs → AllPairs R xs → AllPairs S (map f xs)
 pairs-under P R S f step [] all pairs = pairs-none S
 pairs-under P R S f step (x ∷ xs) all pairs =
     AllPairs-cons S (f x) (map f xs)
-    (All-map (S (f x)) f xs (λ k d short. step x (get_or xs k d) (All-head P x xs all) (All-tail P x xs all k d short) (pairs-first R x xs pairs k d short)))
-    (pairs-under P R S f step xs (All-tail P x xs all) (pairs-rest R x xs pairs))
-
-all-back : {X Y : Type 0} (P : Y → Type 0) (f : X → Y) (xs : List X) → All P (map f xs) → All (λ x. P (f x)) xs
-all-back P f [] all = All-nil (λ x. P (f x))
-all-back P f (x ∷ xs) all = All-cons (λ y. P (f y)) x xs (All-head P (f x) (map f xs) all) (all-back P f xs (All-tail P (f x) (map f xs) all))
+    (All-map (S (f x)) f xs (λ k d short. step x (get_or xs k d) (All-head P x xs all) (All-tail P x xs all k d short) (AllPairs-head R x xs pairs k d short)))
+    (pairs-under P R S f step xs (All-tail P x xs all) (AllPairs-tail R x xs pairs))
 
 pairs-back : {X Y : Type 0} (S : Y → Y → Type 0) (f : X → Y) (xs : List X) → AllPairs S (map f xs) → AllPairs (λ x y. S (f x) (f y)) xs
 pairs-back S f [] pairs = pairs-none (λ x y. S (f x) (f y))
 pairs-back S f (x ∷ xs) pairs =
-    AllPairs-cons (λ y z. S (f y) (f z)) x xs (all-back (S (f x)) f xs (pairs-first S (f x) (map f xs) pairs)) (pairs-back S f xs (pairs-rest S (f x) (map f xs) pairs))
+    AllPairs-cons (λ y z. S (f y) (f z)) x xs (All-unmap (S (f x)) f xs (AllPairs-head S (f x) (map f xs) pairs)) (pairs-back S f xs (AllPairs-tail S (f x) (map f xs) pairs))
 
 -- ---- orders by their names
 
@@ -121,11 +110,11 @@ module _ (book : Book) (once : NamesOnce book.orders) (turns : (sheet : Sheet) �
   all-turns [] rise = pairs-none (IsBefore book.orders)
   all-turns (sheet ∷ sheets) rise =
       pairs-append (IsBefore book.orders) (traded_on sheet) (flat_map traded_on sheets) (within sheet)
-      (all-turns sheets (pairs-rest (λ (s t : Sheet). s.number < t.number) sheet sheets rise))
+      (all-turns sheets (AllPairs-tail (λ (s t : Sheet). s.number < t.number) sheet sheets rise))
       (All-weaker (λ (traded : OrderTraded). traded.sheet ≡ sheet.number) (λ (traded : OrderTraded). All (IsBefore book.orders traded) (flat_map traded_on sheets))
       (λ traded is. All-weaker (λ (later : OrderTraded). sheet.number < later.sheet) (IsBefore book.orders traded)
       (λ later less row other _ _. inl (omega (arith, is, less)))
-      (flat_map traded_on sheets) (of-later sheet.number sheets (pairs-first (λ (s t : Sheet). s.number < t.number) sheet sheets rise)))
+      (flat_map traded_on sheets) (of-later sheet.number sheets (AllPairs-head (λ (s t : Sheet). s.number < t.number) sheet sheets rise)))
       (traded_on sheet) (of-sheet sheet))
 
 rising : (sheets : List Sheet) → AreNumbered sheets → AllPairs (λ (s t : Sheet). s.number < t.number) sheets

@@ -1,6 +1,6 @@
 -- A sheet that comes behind the others, and isn't earlier, changes nothing that they read: no price before their moments, and no
 -- order of theirs.
-use Rattle.std.proofs.Common.{All, Bool, List, None, Option, Some, [], ap, arith, cond, false, filter, fold, map, option_map, refl, true, ℕ, ◌&&◌, ◌++◌, ◌==◌, ◌∙◌, ◌∷◌, ◌≡◌, ◌≤◌}
+use Rattle.std.proofs.Common.{All, Bool, List, None, Option, Some, [], ap, arith, cond, false, filter, fold, option_map, refl, true, ℕ, ◌&&◌, ◌++◌, ◌==◌, ◌∙◌, ◌∷◌, ◌≡◌, ◌≤◌}
 use Rattle.std.proofs.lemmas.List.Elements.{All-head, All-tail, All-weaker, filter_agree}
 use Rattle.std.proofs.lemmas.List.Sums.{fold-append}
 use Rattle.std.specs.Option.{option_map_or}
@@ -11,12 +11,11 @@ use Rattle.forward_price.specs.Choices.{best, best_so_far, found_or_better}
 use Rattle.forward_price.specs.PriceTables.{is_before, is_earlier, is_later, next_sheet, price_before, prices_order, sheet_before}
 use Rattle.forward_price.specs.Sheets.{lists_class, nav_on}
 use Rattle.forward_price.specs.declared.price_sheet.Sheet.{Sheet}
-use Rattle.register_laws.proofs.ListParts.{filter-map}
+use Rattle.register_laws.proofs.OrdersStanding.{standing_on}
 use Rattle.register_laws.proofs.Tests.{is-false}
-use Rattle.register_machine.specs.pricing.CorrectedBook.{Book}
 use Rattle.register_machine.specs.pricing.CorrectedOrders.{stands}
 use Rattle.register_machine.specs.pricing.OrderClasses.{classes_in}
-use Rattle.register_machine.specs.replay.Replay.{Priced, all_in_turn, is_priced_on, orders_on, priced_in, priced_orders}
+use Rattle.register_machine.specs.replay.Replay.{is_priced_on, priced_in}
 
 -- ---- the best of a list with one more
 
@@ -77,19 +76,6 @@ next-more sheets new asked receipt number past other =
     by true None fine = other
     by true (Some y) fine = ap (λ c. is_numbered number (cond c (Some new) (Some y))) (not-before new.moment y.moment fine)
     by false found fine = refl
-
--- the standing orders of a list that a sheet prices
-abbrev pub standing_on : List Sheet → List OrderRow → ℕ → List OrderRow
-standing_on sheets orders number = filter (λ row. is_priced_on number (priced_in sheets row)) (filter stands orders)
-
-pub orders-listed : (book : Book) (sheet : Sheet) → orders_on (priced_orders book) sheet ≡ all_in_turn (standing_on book.table.sheets book.orders sheet.number)
-orders-listed book sheet =
-    ap (λ priced. all_in_turn (map (λ (priced : Priced). priced.row) priced)) (filter-map (is_priced_on sheet.number) (priced_in book.table.sheets) (filter stands book.orders))
-    ∙ ap all_in_turn (rows-back (standing_on book.table.sheets book.orders sheet.number))
-  where
-    rows-back : (rows : List OrderRow) → map (λ (priced : Priced). priced.row) (map (priced_in book.table.sheets) rows) ≡ rows
-    rows-back [] = refl
-    rows-back (row ∷ rows) = ap (λ rest. row ∷ rest) (rows-back rows)
 
 pub standing-more : (sheets : List Sheet) (new : Sheet) (number : ℕ) (orders : List OrderRow) → All (λ (s : Sheet). s.moment ≤ new.moment) sheets → (new.number == number) ≡ false → standing_on (sheets ++ new ∷ []) orders number ≡ standing_on sheets orders number
 standing-more sheets new number orders past other =

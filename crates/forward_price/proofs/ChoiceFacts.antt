@@ -1,5 +1,5 @@
 -- What is chosen step by step is the best of all.
-use Rattle.std.proofs.Common.{◌≡◌, Bool, true, false, List, [], ◌∷◌, ◌++◌, fold, Contains, All, Option, Some, None, IfSome, ◌⊎◌, inl, inr, refl, sym, subst, ◌∙◌, ap, append-nil, append_assoc}
+use Rattle.std.proofs.Common.{◌≡◌, Bool, true, false, List, [], ◌∷◌, ◌++◌, ◌||◌, fold, Contains, All, Option, Some, None, IfSome, ◌⊎◌, inl, inr, refl, sym, subst, ◌∙◌, ap, append-nil, append_assoc}
 use Rattle.std.proofs.lemmas.Bool.{true≢false}
 use Rattle.std.proofs.lemmas.List.Sums.{fold-append}
 use Rattle.std.proofs.lemmas.List.Elements.{All-nil, All-weaker, All-contains, All-push, All-append, Contains-push, Contains-append_left, Contains-append_right}
@@ -211,3 +211,12 @@ some_best {X} passes better order xs x at pass = go (best passes better xs) refl
     go : (b : Option X) → best passes better xs ≡ b → IsChoice passes better xs b → (s : X) × (best passes better xs ≡ Some s) × IsChoice passes better xs (Some s)
     go None e is = absurd (not_true (passes x) pass (All-contains (λ y. passes y ≡ false) xs x is at))
     go (Some s) e is = (s, e, is)
+
+-- one test more
+pub or_false : (b : Bool) → (b || false) ≡ b
+or_false true = refl
+or_false false = refl
+
+pub or_true : (b : Bool) → (b || true) ≡ true
+or_true true = refl
+or_true false = refl

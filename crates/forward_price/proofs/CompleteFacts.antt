@@ -9,8 +9,7 @@ use Rattle.forward_price.specs.Sheets.{lists_class}
 use Rattle.forward_price.specs.Choices.{IsChoice}
 use Rattle.forward_price.specs.PriceTables.{Table, is_sheet_at}
 use Rattle.forward_price.specs.Turns.{is_offered_at, must_list, is_wrong, class_numbers, price_numbers, wrong_class, is_awaited, is_sooner, expected_of, pricing_pairs}
-use Rattle.forward_price.proofs.ChoiceFacts.{best-choice}
-use Rattle.forward_price.proofs.MapFacts.{or_true}
+use Rattle.forward_price.proofs.ChoiceFacts.{best-choice, or_true}
 use Rattle.forward_price.proofs.TurnFacts.{less-order, sooner-order}
 
 tested : (b : Bool) → (b ≡ true) ⊎ (b ≡ false)

@@ -1,7 +1,6 @@
 -- The lemmas of this crate, file by file.
 pub mod ChoiceFacts
 pub mod TurnFacts
-pub mod MapFacts
 pub mod PatchFacts
 pub mod NumberFacts
 pub mod PricingFacts

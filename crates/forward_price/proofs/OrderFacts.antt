@@ -8,6 +8,7 @@ use Rattle.std.proofs.lemmas.List.{length-map}
 use Rattle.std.proofs.lemmas.List.Quantifiers.{all_pairs_push}
 use Rattle.std.proofs.lemmas.List.Folds.{list_any-append}
 use Rattle.std.proofs.lemmas.List.Elements.{All-nil, All-push, All-append, All-map, All-filter, All-contains, Contains-append_left, Contains-get_or, Contains-push}
+use Rattle.fund_calendar.proofs.ListFacts.{All-left, All-right, All-unmap}
 use Rattle.fund_calendar.specs.PricingDays.{Listing}
 use Rattle.forward_price.specs.declared.price_sheet.Opening.{Opening}
 use Rattle.forward_price.specs.declared.price_sheet.Sheet.{Sheet}
@@ -16,7 +17,7 @@ use Rattle.forward_price.specs.Choices.{IsBest}
 use Rattle.forward_price.specs.PriceTables.{Table, is_sheet_at, sheet_published, with_published, with_calendar, with_class, with_sheets, without_day_of, without_last, with_correction, but_last, closed_in, calendar_numbered, class_opened, sheets_with_nav, corrected_sheet}
 use Rattle.forward_price.specs.Turns.{pricing_pair, pairs_of, pricing_pairs, is_offered_at, is_awaited, is_sooner, must_list}
 use Rattle.forward_price.specs.Orderly.{IsOrderly, IsInTurn, OpensAfter, AreOnPricingDays}
-use Rattle.forward_price.proofs.TurnFacts.{Tells, told, never, All-unmap, All-left, All-right, awaited_before, expected_best}
+use Rattle.forward_price.proofs.TurnFacts.{Tells, told, never, awaited_before, expected_best}
 use Rattle.forward_price.proofs.PatchFacts.{moment-kept, calendar-kept, lists-kept, awaited-kept}
 use Rattle.forward_price.proofs.PricingFacts.{lt_fact}
 use Rattle.forward_price.proofs.OrderlyFacts.{pair_calendar, any_from}
@@ -61,7 +62,7 @@ none_classed : (classes : List Opening) (n : ℕ) (x : Opening) → class_opened
 none_classed classes n x e in' same =
     true≢false (sym ((Decides-eqb x.class n).1 same) ∙ none_found (λ class. class.class == n) classes x e in')
 
-one_more : (calendars : List Listing) (c : Listing) → pricing_pairs (calendars ++ c ∷ []) ≡ pricing_pairs calendars ++ pairs_of c
+pub one_more : (calendars : List Listing) (c : Listing) → pricing_pairs (calendars ++ c ∷ []) ≡ pricing_pairs calendars ++ pairs_of c
 one_more calendars c = flat_map-append pairs_of calendars (c ∷ []) ∙ ap (λ ps. pricing_pairs calendars ++ ps) (append-nil (pairs_of c))
 
 pub orderly_at_first : IsOrderly (record { calendars = []; classes = []; sheets = [] })
@@ -127,10 +128,10 @@ orderly_class t n calendar opened o new after = record {
         and_none false = refl
 
 -- a closure
-closed_number : (calendar day : ℕ) (c : Listing) → (closed_in calendar day c).number ≡ c.number
+pub closed_number : (calendar day : ℕ) (c : Listing) → (closed_in calendar day c).number ≡ c.number
 closed_number calendar day c = elim (tested (c.number == calendar)) [ inl here ↦ rw here refl | inr apart ↦ rw apart refl ]
 
-closed_pairs : (P : ℕ × ℕ → Type 0) (calendar day : ℕ) (calendars : List Listing) → All P (pricing_pairs calendars) → All P (pricing_pairs (map (closed_in calendar day) calendars))
+pub closed_pairs : (P : ℕ × ℕ → Type 0) (calendar day : ℕ) (calendars : List Listing) → All P (pricing_pairs calendars) → All P (pricing_pairs (map (closed_in calendar day) calendars))
 closed_pairs P calendar day [] all = all
 closed_pairs P calendar day (c ∷ cs) all =
     All-append P (pairs_of (closed_in calendar day c)) (pricing_pairs (map (closed_in calendar day) cs)) (one (All-left P (pairs_of c) (pricing_pairs cs) all)) (closed_pairs P calendar day cs (All-right P (pairs_of c) (pricing_pairs cs) all))

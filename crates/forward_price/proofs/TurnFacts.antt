@@ -3,10 +3,11 @@ use Rattle.std.proofs.Common.{◌≡◌, ℕ, zero, suc, ◌+◌, ◌<◌, ◌�
 use Rattle.std.proofs.lemmas.Bool.{cases_lt, ltb-true, ltb-false, and_parts, and_from, true≢false}
 use Rattle.std.proofs.lemmas.Bool.Decides.{nat_tests, Decides-eqb, Decides-ltb}
 use Rattle.std.proofs.lemmas.List.{take_more}
-use Rattle.std.proofs.lemmas.List.Elements.{All-nil, All-cons, All-head, All-tail, All-map, All-weaker}
+use Rattle.std.proofs.lemmas.List.Elements.{All-map, All-weaker}
 use Rattle.std.specs.List.{list_any}
 use Rattle.std.proofs.lemmas.List.Folds.{list_any-append}
 use Rattle.std.proofs.lemmas.Grind.{flat_map-append}
+use Rattle.fund_calendar.proofs.ListFacts.{All-left, All-right, All-unmap}
 use Rattle.fund_calendar.specs.declared.pricing_day.PricingDay.{PricingDay}
 use Rattle.fund_calendar.specs.PricingDays.{Listing, first_above, IsLeastAbove, HasNoneAbove}
 use Rattle.forward_price.specs.declared.price_sheet.Opening.{Opening}
@@ -197,18 +198,6 @@ due-is passes days after r same first least none =
     same_choice passes nat_lt nat_same (map (λ (e : PricingDay). e.moment) days) r (best passes nat_lt (map (λ (e : PricingDay). e.moment) days)) (due_choice passes days after r same first least none) (best-choice passes nat_lt less-order (map (λ (e : PricingDay). e.moment) days))
 
 -- what holds of all pairs holds of one calendar's days
-pub All-unmap : {X Y : Type 0} (P : Y → Type 0) (f : X → Y) (xs : List X) → All P (map f xs) → All (λ x. P (f x)) xs
-All-unmap P f [] h = All-nil (λ x. P (f x))
-All-unmap P f (x ∷ xs) h = All-cons (λ x. P (f x)) x xs (All-head P (f x) (map f xs) h) (All-unmap P f xs (All-tail P (f x) (map f xs) h))
-
-pub All-left : {X : Type 0} (P : X → Type 0) (xs ys : List X) → All P (xs ++ ys) → All P xs
-All-left P [] ys h = All-nil P
-All-left P (x ∷ xs) ys h = All-cons P x xs (All-head P x (xs ++ ys) h) (All-left P xs ys (All-tail P x (xs ++ ys) h))
-
-pub All-right : {X : Type 0} (P : X → Type 0) (xs ys : List X) → All P (xs ++ ys) → All P ys
-All-right P [] ys h = h
-All-right P (x ∷ xs) ys h = All-right P xs ys (All-tail P x (xs ++ ys) h)
-
 pub pairs_at : (P : ℕ × ℕ → Type 0) (calendars : List Listing) (i : ℕ) (c : Listing) → i < length calendars → All P (pricing_pairs calendars) → All P (pairs_of (get_or calendars i c))
 pairs_at P [] i c h all = absurd (omega arith)
 pairs_at P (x ∷ xs) zero c h all = All-left P (pairs_of x) (pricing_pairs xs) all

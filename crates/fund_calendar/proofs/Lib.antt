@@ -4,5 +4,6 @@ pub mod JiffLemmas
 pub mod InstantLemmas
 pub mod ScheduleLemmas
 pub mod LookUpLemmas
+pub mod ListFacts
 pub mod AnniversaryLemmas
 pub mod AnniversaryCounts

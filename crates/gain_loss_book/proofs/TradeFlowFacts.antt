@@ -5,10 +5,11 @@ use Rattle.agent_events.specs.declared.trade.Outcome.{Outcome}
 use Rattle.agent_events.specs.declared.trade.Trade.{Trade}
 use Rattle.agent_events.specs.declared.trade.TradeKind.{TradeKind}
 use Rattle.register_machine.specs.corrections.Cash.{movements_by, movements_in, same_party}
+use Rattle.register_machine.specs.replay.Movements.{if_filled, mils_brought_by, mils_taken_by}
 use Rattle.gain_loss_book.proofs.FlowFacts.{flow-same}
 use Rattle.gain_loss_book.proofs.PostedFacts.{flow-in, flow-out}
 use Rattle.gain_loss_book.specs.Flows.{with_flow}
-use Rattle.gain_loss_book.specs.Movements.{if_filled, mils_brought_by, mils_flow_of, mils_taken_by}
+use Rattle.gain_loss_book.specs.Movements.{mils_flow_of}
 use Rattle.gain_loss_book.specs.Posted.{movements_flow}
 use Rattle.gain_loss_book.specs.Tallies.{IsWithin, cash_tallied, mils_tallied}
 use Rattle.gain_loss_book.specs.TradeFlows.{AreSmall, cash_of_flows, flows_by, flows_in, flows_of_trade, mils_of_flows}

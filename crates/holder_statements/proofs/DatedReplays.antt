@@ -4,12 +4,12 @@ use Rattle.std.proofs.lemmas.List.Elements.{All-append, All-filter, All-nil}
 use Rattle.std.proofs.lemmas.List.Kept.{AllPairs-filter}
 use Rattle.agent_events.specs.declared.trade.Trade.{Trade}
 use Rattle.forward_price.specs.declared.price_sheet.Sheet.{Sheet}
+use Rattle.register_machine.proofs.ListItems.{pairs-append}
 use Rattle.register_machine.specs.pricing.CorrectedBook.{Book}
 use Rattle.register_machine.specs.replay.Replay.{Priced, day_after_sheet, orders_on}
 use Rattle.register_machine.specs.replay.Trades.{Day}
 use Rattle.holder_statements.specs.Periods.{AreDated, AreSheetsDated, IsNear, IsSheetNear, PartIsDated}
 use Rattle.holder_statements.proofs.SheetTrades.{Grows, IsOn, step_grows}
-use Rattle.household_positions.proofs.PlaceFacts.{pairs-append}
 
 -- a trade isn't later than any of these sheets
 abbrev pub IsBefore : List Sheet → Trade → Type 0

@@ -9,7 +9,8 @@ use Rattle.dividend_reinvest.specs.declared.payment.Payment.{Payment}
 use Rattle.dividend_reinvest.specs.declared.payment.Payment.TheVariants as pays
 use Rattle.forward_price.specs.declared.price_sheet.Sheet.{Sheet}
 use Rattle.household_positions.specs.Register.{day_without}
-use Rattle.household_positions.proofs.DayFacts.{close-back, own-account, own-class}
+use Rattle.household_positions.proofs.DayFacts.{close-back}
+use Rattle.register_machine.proofs.FoundFacts.{own-account, own-class}
 use Rattle.register_machine.specs.replay.Dividend.{day_after_class, day_after_dividend, day_after_payment, day_after_rate, is_of_class, keys_of_class, payment_on}
 use Rattle.register_machine.specs.pricing.DividendRates.{Rates, rate_at}
 use Rattle.register_machine.specs.replay.Positions.{Position, PositionKey, Register, key_of, position_of, with_holding}

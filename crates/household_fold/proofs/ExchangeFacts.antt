@@ -1,8 +1,7 @@
 -- An exchange: what its parts make of the day of the definitions, and the lots of the target on the way.
-use Rattle.std.proofs.Common.{append-nil, cond, filter, nat_lt, ◌++◌, ◌||◌, Bool, List, [], ap, arith, drop, false, fold, get_or, length, nat_le, refl, sym, true, ℕ, ◌&&◌, ◌+◌, ◌<◌, ◌==◌, ◌∙◌, ◌∷◌, ◌≡◌, ◌≤◌}
+use Rattle.std.proofs.Common.{cond, ◌++◌, List, [], ap, arith, drop, false, fold, get_or, length, nat_le, refl, sym, true, ℕ, ◌&&◌, ◌+◌, ◌<◌, ◌==◌, ◌∙◌, ◌∷◌, ◌≡◌, ◌≤◌}
 use Rattle.std.proofs.lemmas.Bool.{eq-eqb, eqb-true, ne_eqb, true≢false}
 use Rattle.std.proofs.lemmas.Bool.Decides.{nat_tests}
-use Rattle.std.proofs.lemmas.List.Elements.{filter-append}
 use Rattle.std.proofs.lemmas.List.{at_drop_more}
 use Rattle.std.proofs.lemmas.List.Sums.{sum_by-cons}
 use Rattle.agent_events.specs.declared.order.Order.{Order}
@@ -11,11 +10,12 @@ use Rattle.agent_events.specs.declared.trade.TradeKind.{TradeKind}
 use Rattle.fund_exchange.specs.Exchange.{transfer_of, cost_total as pieces_cost, mils_total as pieces_mils}
 use Rattle.fund_exchange.specs.declared.carrying.Carried.{Carried}
 use Rattle.household_positions.specs.Register.{day_without}
-use Rattle.household_positions.proofs.ListParts.{filter-within}
-use Rattle.household_positions.proofs.DayFacts.{close-back, own-account, own-class, put-back}
+use Rattle.household_positions.proofs.DayFacts.{close-back, put-back}
+use Rattle.register_machine.proofs.FoundFacts.{found-elsewhere, own-account, own-class}
+use Rattle.register_machine.proofs.PutAgain.{put-over}
 use Rattle.register_machine.specs.pricing.OrderClasses.{class_of}
 use Rattle.register_machine.specs.replay.Exchange.{exchange_reasons, exchange_trade, holding_with_piece, position_with_pieces}
-use Rattle.register_machine.specs.replay.Positions.{Position, Register, has_room, is_fresh, mils_of, position_of, put, unless_fresh, with_holding}
+use Rattle.register_machine.specs.replay.Positions.{Position, Register, has_room, mils_of, position_of, put, with_holding}
 use Rattle.register_machine.specs.replay.Redemption.{loose_of, position_less}
 use Rattle.register_machine.specs.replay.Trades.{Day, day_after_trade, day_unless_any, nav_of, order_trade, with_position}
 use Rattle.share_lots.specs.Lots.{Holding, cost_total, loose_total, most_cost, most_mils}
@@ -25,7 +25,6 @@ use Rattle.share_lots.proofs.AddedLemmas.{next_kept}
 use Rattle.household_fold.specs.Exchanges.{day_by_move, day_given, exchange_known, moved_known, source_of, target_of}
 use Rattle.household_fold.specs.Facts.{Known, sheet_at_hand}
 use Rattle.household_fold.specs.declared.exchange.Move.{Move}
-use Rattle.household_fold.proofs.FoundFacts.{found-elsewhere}
 
 -- no pieces of no lots
 pub pieces-none : (asked : ℕ) → [] ≡ pieces asked []
@@ -137,60 +136,6 @@ move_of to asked account class = record { account = account; class = class; to =
 
 pub move-by : (a b c d to asked : ℕ) → a ≡ b → c ≡ d → move_of to asked a c ≡ move_of to asked b d
 move-by a b c d to asked one two = ap (λ x. move_of to asked x c) one ∙ ap (λ y. move_of to asked b y) two
-
--- one position put over another in its place
-filter-excluded : {X : Type 0} (s t : X → Bool) → ((x : X) → t x ≡ true → s x ≡ false) → (xs : List X) → filter s (filter t xs) ≡ []
-filter-excluded s t out [] = refl
-filter-excluded s t out (x ∷ xs) =
-    elim (t x) as (λ b. t x ≡ b → filter s (cond b (x ∷ filter t xs) (filter t xs)) ≡ []) [
-      | true ↦ λ e. ap (λ b. cond b (x ∷ filter s (filter t xs)) (filter s (filter t xs))) (out x e) ∙ filter-excluded s t out xs
-      | false ↦ λ e. filter-excluded s t out xs
-    ] refl
-
-abbrev before : ℕ → ℕ → Position → Bool
-before a c x = nat_lt x.account a || (x.account == a && nat_lt x.class c)
-
-abbrev behind : ℕ → ℕ → Position → Bool
-behind a c x = nat_lt a x.account || (a == x.account && nat_lt c x.class)
-
-abbrev put_at : ℕ → ℕ → Position → Register → Register
-put_at a c p register = filter (before a c) register ++ unless_fresh p ++ filter (behind a c) register
-
-before-not_behind : (a c x y : ℕ) → (nat_lt a x || (a == x && nat_lt c y)) ≡ true → (nat_lt x a || (x == a && nat_lt y c)) ≡ false
-before-not_behind a c x y = grind (arith, nat_tests)
-
-not-before : (a c : ℕ) → (nat_lt a a || (a == a && nat_lt c c)) ≡ false
-not-before a c = grind (arith, nat_tests)
-
-own-none : (s : Position → Bool) (p : Position) → s p ≡ false → filter s (unless_fresh p) ≡ []
-own-none s p fails = elim (is_fresh p) as (λ b. filter s (cond b [] (p ∷ [])) ≡ []) [
-  | true ↦ refl
-  | false ↦ ap (λ b. cond b (p ∷ []) []) fails
-]
-
-three-parts : (s : Position → Bool) (xs ys zs : Register) → filter s (xs ++ ys ++ zs) ≡ filter s xs ++ filter s ys ++ filter s zs
-three-parts s xs ys zs = filter-append s (xs ++ ys) zs ∙ ap (λ l. l ++ filter s zs) (filter-append s xs ys)
-
-put-at_own : (a c : ℕ) (q p : Position) (register : Register) → p.account ≡ a → p.class ≡ c → put_at a c q (put_at a c p register) ≡ put_at a c q register
-put-at_own a c q p register at of =
-    let s = before a c in
-    let t = behind a c in
-    let p_before : before a c p ≡ false = ap (λ x. nat_lt x a || (x == a && nat_lt p.class c)) at ∙ (ap (λ y. nat_lt a a || (a == a && nat_lt y c)) of ∙ not-before a c) in
-    let p_behind : behind a c p ≡ false = ap (λ x. nat_lt a x || (a == x && nat_lt c p.class)) at ∙ (ap (λ y. nat_lt a a || (a == a && nat_lt c y)) of ∙ not-before a c) in
-    let low : filter (before a c) (put_at a c p register) ≡ filter (before a c) register =
-    three-parts (before a c) (filter (before a c) register) (unless_fresh p) (filter (behind a c) register)
-    ∙ (rw (filter-within (before a c) (before a c) (λ x e. e) register, own-none (before a c) p p_before, filter-excluded (before a c) (behind a c) (λ x e. before-not_behind a c x.account x.class e) register)
-    (append-nil (filter (before a c) register ++ []) ∙ append-nil (filter (before a c) register))) in
-    let high : filter (behind a c) (put_at a c p register) ≡ filter (behind a c) register =
-    three-parts (behind a c) (filter (before a c) register) (unless_fresh p) (filter (behind a c) register)
-    ∙ (rw (filter-excluded (behind a c) (before a c) (λ x e. before-not_behind x.account x.class a c e) register, own-none (behind a c) p p_behind, filter-within (behind a c) (behind a c) (λ x e. e) register) refl) in
-    ap (λ l. l ++ unless_fresh q ++ filter (behind a c) (put_at a c p register)) low
-    ∙ ap (λ l. filter (before a c) register ++ unless_fresh q ++ l) high
-
-pub put-over : (q p : Position) (register : Register) → p.account ≡ q.account → p.class ≡ q.class → put q (put p register) ≡ put q register
-put-over q p register at of =
-    ap (λ (r : Register). put q r) (ap (λ a. put_at a p.class p register) at ∙ ap (λ c. put_at q.account c p register) of)
-    ∙ put-at_own q.account q.class q p register at of
 
 -- the target as it is found when the source has given
 pub target-given : (day : Day) (move : Move) → position_of (day_given day move).register move.account move.to ≡ target_of day.register move

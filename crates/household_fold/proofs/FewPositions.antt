@@ -1,5 +1,5 @@
 -- A register of a household's accounts has few positions: one at most for each of its accounts and each class.
-use Rattle.std.proofs.Common.{All, Bool, List, Some, [], ap, arith, cond, false, filter, find, get_or, is_some, length, map, nat_lt, refl, sum_by, sym, true, ℕ, ◌&&◌, ◌*◌, ◌+◌, ◌==◌, ◌||◌, ◌∙◌, ◌∷◌, ◌≡◌, ◌≤◌}
+use Rattle.std.proofs.Common.{All, Bool, List, Some, [], ap, arith, cond, false, filter, find, get_or, is_some, length, map, nat_lt, refl, sum_by, sym, true, ℕ, ◌&&◌, ◌*◌, ◌==◌, ◌||◌, ◌∷◌, ◌≡◌, ◌≤◌}
 use Rattle.std.proofs.lemmas.Bool.{and_from, eq-eqb, eqb-true, true≢false}
 use Rattle.std.proofs.lemmas.Bool.Decides.{nat_tests}
 use Rattle.std.proofs.lemmas.List.Elements.{All-head, All-tail}
@@ -12,31 +12,11 @@ use Rattle.household_fold.specs.Facts.{FactsFit, Known, account_in_book, terms_n
 use Rattle.household_fold.specs.Households.{AreOwned, IsOwnPlace}
 use Rattle.household_fold.specs.Limits.{AreFew}
 use Rattle.household_positions.specs.Register.{AreInOrder, IsRegister}
+use Rattle.register_machine.proofs.SumFacts.{sums-exchange}
 use Rattle.register_machine.specs.replay.Positions.{Position, Register, is_position, stands_before}
 use Rattle.share_lots.proofs.LotLemmas.{AllPairs-head, AllPairs-tail}
 
 -- ---- sums
-
-zeros : {X : Type 0} (xs : List X) → sum_by (λ (x : X). 0) xs ≡ 0
-zeros [] = refl
-zeros {X} (x ∷ xs) = omega (arith, sum_by-cons (λ (y : X). 0) x xs, zeros xs)
-
-sum-plus : {X : Type 0} (f g : X → ℕ) (xs : List X) → sum_by (λ x. f x + g x) xs ≡ sum_by f xs + sum_by g xs
-sum-plus f g [] = refl
-sum-plus {X} f g (x ∷ xs) =
-    omega (arith, sum_by-cons (λ (y : X). f y + g y) x xs, sum_by-cons f x xs, sum_by-cons g x xs, sum-plus f g xs)
-
-sum-swap : {X Y : Type 0} (f : X → Y → ℕ) (xs : List X) (ys : List Y) → sum_by (λ x. sum_by (f x) ys) xs ≡ sum_by (λ y. sum_by (λ x. f x y) xs) ys
-sum-swap f [] ys = sym (zeros ys)
-sum-swap {X} {Y} f (x ∷ xs) ys =
-    sum_by-cons (λ (z : X). sum_by (f z) ys) x xs
-    ∙ (ap (λ n. sum_by (f x) ys + n) (sum-swap f xs ys)
-    ∙ (sym (sum-plus (f x) (λ (y : Y). sum_by (λ (z : X). f z y) xs) ys)
-    ∙ sum-same (λ (y : Y). f x y + sum_by (λ (z : X). f z y) xs) (λ (y : Y). sum_by (λ (z : X). f z y) (x ∷ xs)) (λ y. sym (sum_by-cons (λ (z : X). f z y) x xs)) ys))
-  where
-    sum-same : {Z : Type 0} (g h : Z → ℕ) → ((z : Z) → g z ≡ h z) → (zs : List Z) → sum_by g zs ≡ sum_by h zs
-    sum-same g h same [] = refl
-    sum-same g h same (z ∷ zs) = omega (arith, sum_by-cons g z zs, sum_by-cons h z zs, same z, sum-same g h same zs)
 
 sum-most : {X : Type 0} (f : X → ℕ) (m : ℕ) → ((x : X) → f x ≤ m) → (xs : List X) → sum_by f xs ≤ length xs * m
 sum-most f m most [] = omega arith
@@ -123,7 +103,7 @@ few-owned known household register fit is owned =
     sum-least (λ (x : Position). sum_by (λ (a : AccountRow). sum_by (λ (t : TermsForm). at_place a.account t.class x) known.terms) rows) register
     (λ k d short. placed known household (get_or register k d) (owned k d short)) in
     let swapped : sum_by (λ (x : Position). sum_by (λ (a : AccountRow). sum_by (λ (t : TermsForm). at_place a.account t.class x) known.terms) rows) register ≡ sum_by (λ (a : AccountRow). sum_by (λ (x : Position). sum_by (λ (t : TermsForm). at_place a.account t.class x) known.terms) register) rows =
-    sum-swap (λ (x : Position) (a : AccountRow). sum_by (λ (t : TermsForm). at_place a.account t.class x) known.terms) register rows in
+    sums-exchange (λ (x : Position) (a : AccountRow). sum_by (λ (t : TermsForm). at_place a.account t.class x) known.terms) register rows in
     let most : sum_by (λ (a : AccountRow). sum_by (λ (x : Position). sum_by (λ (t : TermsForm). at_place a.account t.class x) known.terms) register) rows ≤ length rows * 1000 =
     sum-most (λ (a : AccountRow). sum_by (λ (x : Position). sum_by (λ (t : TermsForm). at_place a.account t.class x) known.terms) register) 1000 (λ a. in-account a) rows in
     omega (arith, least, swapped, most, length-filter (λ (row : AccountRow). row.household == household) known.accounts, fit.few_accounts household)
@@ -132,7 +112,7 @@ few-owned known household register fit is owned =
     in-account a =
         omega (
           arith,
-          sum-swap (λ (x : Position) (t : TermsForm). at_place a.account t.class x) register known.terms,
+          sums-exchange (λ (x : Position) (t : TermsForm). at_place a.account t.class x) register known.terms,
           sum-most (λ (t : TermsForm). sum_by (λ (x : Position). at_place a.account t.class x) register) 1 (λ t. once a.account t.class register is.ordered) known.terms,
           fit.few_terms,
         )

@@ -10,6 +10,7 @@ use Rattle.forward_price.specs.declared.price_sheet.Sheet.{Sheet}
 use Rattle.letter_of_intent.specs.Letters.{IsLetter, new_letter, has_expired, settlement}
 use Rattle.letter_of_intent.specs.declared.letter.Letter.{Letter}
 use Rattle.letter_of_intent.specs.declared.letter.Settlement.{Settlement}
+use Rattle.register_machine.proofs.FoundFacts.{own-account, own-class}
 use Rattle.register_machine.specs.pricing.CorrectedBook.{Book, front_of}
 use Rattle.register_machine.specs.pricing.OrderClasses.{class_of}
 use Rattle.register_machine.specs.replay.Letter.{day_after_end_of, day_after_settlement, has_letter_over, keys_of_letters_over, letter_end_trade, letter_is_over}
@@ -18,7 +19,7 @@ use Rattle.register_machine.specs.replay.Purchase.{credit_of, day_after_reaching
 use Rattle.register_machine.specs.replay.Trades.{Day, day_after_trade, nav_of, order_trade, plain_trade}
 use Rattle.share_lots.specs.Lots.{held_total, release_all}
 use Rattle.share_lots.specs.Taking.{after_paying}
-use Rattle.household_positions.proofs.DayFacts.{close-back, own-account, own-class}
+use Rattle.household_positions.proofs.DayFacts.{close-back}
 use Rattle.household_positions.specs.Register.{day_without}
 use Rattle.household_fold.specs.Facts.{Known, book_of_facts, sheet_at_hand}
 use Rattle.household_fold.specs.Limits.{AreLettersWithin}

@@ -15,7 +15,6 @@ pub mod LetterSteps
 -- a redemption, by what it is short of
 pub mod RedemptionFacts
 -- what is found in a register in every other place than that of a position that was put
-pub mod FoundFacts
 -- the numbers of next lots never fall
 pub mod LotNumbers
 -- what holds over each order

@@ -1,15 +1,14 @@
 -- The numbers of next lots never fall within a step: so a bound on them at its end holds all the way.
-use Rattle.std.proofs.Common.{All, List, None, Option, Some, [], ap, arith, cond, false, find, fold, get_or, length, nat_lt, not, refl, suc, sym, true, unwrap_or, ℕ, ◌&&◌, ◌==◌, ◌||◌, ◌∙◌, ◌∷◌, ◌≡◌, ◌≤◌, is_none}
-use Rattle.std.proofs.lemmas.Bool.{and_parts, eqb-true, cases_Bool}
+use Rattle.std.proofs.Common.{All, List, None, Option, Some, [], ap, arith, cond, find, fold, get_or, refl, suc, true, unwrap_or, ℕ, ◌∙◌, ◌∷◌, ◌≡◌, ◌≤◌}
+use Rattle.std.proofs.lemmas.Bool.{cases_Bool}
 use Rattle.std.proofs.Common.{inl, inr}
-use Rattle.std.proofs.lemmas.Bool.Decides.{nat_tests}
 use Rattle.std.proofs.lemmas.List.Elements.{All-cons, All-nil}
 use Rattle.household_positions.specs.Register.{AreInOrder, IsRegister}
-use Rattle.household_positions.proofs.PlaceFacts.{same-place}
-use Rattle.register_machine.specs.replay.Positions.{Position, Register, fresh_position, is_fresh, is_position, position_of, put, stands_before}
+use Rattle.register_machine.proofs.FoundFacts.{found-elsewhere, found-own, same-place}
+use Rattle.register_machine.proofs.KeyOrder.{keys-apart, keys-same}
+use Rattle.register_machine.specs.replay.Positions.{Position, Register, fresh_position, is_position, position_of, put, stands_before}
 use Rattle.household_fold.specs.Limits.{AreLotsWithin}
 use Rattle.household_fold.specs.Numbers.{AreNumbersWithin}
-use Rattle.household_fold.proofs.FoundFacts.{found-elsewhere, found-own}
 use Rattle.household_fold.proofs.PutFacts.{find-all}
 
 -- the number of the next lot of an account and class
@@ -26,14 +25,9 @@ grows-same register a c = omega arith
 pub grows-on : (first second third : Register) → Grows first second → Grows second third → Grows first third
 grows-on first second third one two a c = omega (arith, one a c, two a c)
 
-fresh-next : (p : Position) → is_fresh p ≡ true → 1 ≡ p.holding.next_lot
-fresh-next p fresh =
-    let rest = (and_parts (length p.holding.lots == 0) (p.holding.next_lot == 1 && (not p.in_cash && is_none p.letter)) fresh).1 in
-    sym (eqb-true p.holding.next_lot 1 (and_parts (p.holding.next_lot == 1) (not p.in_cash && is_none p.letter) rest).0)
-
 -- the next number of a position where it was put
 pub next-put : (p : Position) (register : Register) → next_of (put p register) p.account p.class ≡ p.holding.next_lot
-next-put p register = found-own (λ x. x.holding.next_lot) p register (fresh-next p)
+next-put p register = ap (λ (x : Position). x.holding.next_lot) (found-own p register)
 
 -- a position put with no lower number
 pub grows-put : (p : Position) (register : Register) → next_of register p.account p.class ≤ p.holding.next_lot → Grows register (put p register)
@@ -73,21 +67,15 @@ pub numbers-before : (register later : Register) → Grows register later → Ar
 numbers-before register later grows within a c = omega (arith, grows a c, within a c)
 
 -- in a register each position is found by its key
-other-key : (a c x y : ℕ) → (nat_lt a x || (a == x && nat_lt c y)) ≡ true → (a == x && c == y) ≡ false
-other-key a c x y = grind (arith, nat_tests)
-
-own-key : (a c : ℕ) → (a == a && c == c) ≡ true
-own-key a c = grind (arith, nat_tests)
-
 found-each : (register : Register) → AreInOrder register → All (λ p. find (is_position p.account p.class) register ≡ Some p) register
 found-each [] ordered = All-nil (λ p. find (is_position p.account p.class) [] ≡ Some p)
 found-each (x ∷ xs) ordered =
     All-cons (λ p. find (is_position p.account p.class) (x ∷ xs) ≡ Some p) x xs
-    (ap (λ b. cond b (Some x) (find (is_position x.account x.class) xs)) (own-key x.account x.class))
+    (ap (λ b. cond b (Some x) (find (is_position x.account x.class) xs)) (keys-same x.account x.class))
     (λ k d short.
     let y = get_or xs k d in
     let first : stands_before x y ≡ true = ordered 0 (suc k) d (omega arith) (omega arith) in
-    ap (λ b. cond b (Some x) (find (is_position y.account y.class) xs)) (other-key x.account x.class y.account y.class first)
+    ap (λ b. cond b (Some x) (find (is_position y.account y.class) xs)) (keys-apart x.account x.class y.account y.class first)
     ∙ found-each xs (λ i j e less end. ordered (suc i) (suc j) e (omega arith) (omega arith)) k d short)
 
 -- so the same holds of a bound on all positions of a register

@@ -8,19 +8,17 @@ use Rattle.agent_events.specs.declared.trade.Why.{Why}
 use Rattle.forward_price.specs.declared.price_sheet.Sheet.{Sheet}
 use Rattle.fund_exchange.specs.Exchange.{transfer_of}
 use Rattle.household_fold.proofs.ExchangeFacts.{next-pieces}
-use Rattle.household_fold.proofs.FoundFacts.{found-elsewhere}
 use Rattle.household_fold.proofs.LotNumbers.{Grows, grows-on, grows-put, grows-same, next-put, next_of}
-use Rattle.household_fold.proofs.PutFacts.{all-put}
 use Rattle.household_fold.specs.Facts.{Known, book_of_facts, sheet_at_hand}
 use Rattle.household_fold.specs.Households.{AreOwned, IsOwnPlace, order_known, orders_known}
-use Rattle.household_positions.proofs.DayFacts.{own-account, own-class}
-use Rattle.household_positions.proofs.PlaceFacts.{put-register, same-place}
+use Rattle.household_positions.proofs.PlaceFacts.{put-register}
 use Rattle.household_positions.specs.Register.{IsRegister}
 use Rattle.letter_of_intent.specs.Letters.{new_letter, note_of_purchase}
 use Rattle.letter_of_intent.specs.declared.letter.Letter.{Letter}
 use Rattle.money_units.specs.Rounding.{half}
 use Rattle.offering_price.specs.Purchase.{split_of}
 use Rattle.offering_price.specs.declared.purchase.Split.{Split}
+use Rattle.register_machine.proofs.FoundFacts.{found-elsewhere, own-account, own-class, put-all, same-place}
 use Rattle.register_machine.specs.journal.Choices.{first_some, when}
 use Rattle.register_machine.specs.pricing.CorrectedBook.{Book, front_of}
 use Rattle.register_machine.specs.pricing.OrderClasses.{class_of, classes_in}
@@ -217,5 +215,5 @@ pub owned-stay : (known : Known) (household : ℕ) → IsKept (StaysOwned known 
 owned-stay known household = record {
   same = λ r is. is;
   next = λ r s t f g is. g (f is);
-  over = λ p r place low all. all-put (λ x. IsOwnPlace known household x.account x.class) p r all place;
+  over = λ p r place low all. put-all (λ x. IsOwnPlace known household x.account x.class) p r place all;
 }

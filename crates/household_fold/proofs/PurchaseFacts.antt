@@ -6,21 +6,22 @@ use Rattle.agent_events.specs.declared.trade.TradeKind.{TradeKind}
 use Rattle.agent_events.specs.declared.trade.Why.{Why}
 use Rattle.class_terms.specs.declared.lists.Bracket.{Bracket}
 use Rattle.forward_price.specs.declared.price_sheet.Sheet.{Sheet}
-use Rattle.household_fold.proofs.PutFacts.{letter-found, letters-put, letters-put-over, lots-kept, next-within, position-put}
+use Rattle.household_fold.proofs.PutFacts.{letter-found, letters-put, letters-put-over, next-within}
 use Rattle.household_fold.specs.Facts.{Known, book_of_facts, sheet_at_hand}
 use Rattle.household_fold.specs.Limits.{AreLettersWithin, AreLotsWithin, IsLetterWithin}
 use Rattle.household_fold.specs.Purchases.{day_by_split, day_with_purchase, lot_bought, position_in, purchase_known, rate_known, trade_of_purchase}
-use Rattle.household_positions.proofs.DayFacts.{close-back, own-account, own-class}
+use Rattle.household_positions.proofs.DayFacts.{close-back}
 use Rattle.household_positions.specs.Register.{day_without, without}
 use Rattle.letter_of_intent.specs.Letters.{IsLetter, after_purchase, note_of_purchase}
 use Rattle.letter_of_intent.specs.declared.letter.Letter.{Letter}
 use Rattle.offering_price.specs.Accumulation.{bracket}
 use Rattle.offering_price.specs.Purchase.{split_of}
 use Rattle.offering_price.specs.declared.purchase.Split.{Split}
+use Rattle.register_machine.proofs.FoundFacts.{found-own, own-account, own-class}
 use Rattle.register_machine.specs.journal.Choices.{when}
 use Rattle.register_machine.specs.pricing.CorrectedBook.{front_of}
 use Rattle.register_machine.specs.pricing.OrderClasses.{class_of}
-use Rattle.register_machine.specs.replay.Positions.{Position, has_room, is_fresh, position_of, put, with_holding}
+use Rattle.register_machine.specs.replay.Positions.{Position, has_room, position_of, put, with_holding}
 use Rattle.register_machine.specs.replay.Purchase.{amount_rated, credit_of, day_at_split, day_if_reached, day_with_lot, position_after_note}
 use Rattle.register_machine.specs.replay.Trades.{Day, day_after_trade, day_unless_any, nav_of, order_trade, with_trade}
 use Rattle.share_lots.specs.Lots.{Added, hold_in, new_lot, lots_with, ranks_before, release_all, release_lot}
@@ -119,21 +120,13 @@ under-letter known day order gross split letter b is reached =
     ∙ sym (ap (λ o. day_with_lot sheet day position lot o gross split trade) is)
 
 -- the position of an order after its trade
-kept-some : (known : Known) (day : Day) (order : Order) (letter : Letter) (gross : ℕ) (split : Split) → is_fresh (kept_in known day order letter gross split) ≡ false
-kept-some known day order letter gross split =
-    let position = position_in day order in
-    let lot = lot_bought known day order gross split in
-    lots-kept (kept_in known day order letter gross split)
-    (same-length lot.holding.lots (hold_in lot.number (note_of_purchase letter gross split.price split.mils).hold)
-    (placed-some (new_lot position.holding (sheet_at_hand known).day split.mils gross false) position.holding.lots))
-
 pub position-kept : (known : Known) (day : Day) (order : Order) (gross : ℕ) (split : Split) (letter : Letter) (trade : Trade) → position_in (day_after_trade (day_without order.account (class_of order.body) day) (kept_in known day order letter gross split) trade) order ≡ kept_in known day order letter gross split
 position-kept known day order gross split letter trade =
     let kept = kept_in known day order letter gross split in
     let register = without order.account (class_of order.body) day.register in
     ap (λ a. position_of (put kept register) a (class_of order.body)) (sym (own-account day.register order.account (class_of order.body)))
     ∙ ap (λ c. position_of (put kept register) kept.account c) (sym (own-class day.register order.account (class_of order.body)))
-    ∙ position-put kept register (kept-some known day order letter gross split)
+    ∙ found-own kept register
 
 -- the letters after the purchase
 stays : (letter : Letter) (gross price mils : ℕ) → IsLetter letter → (note_of_purchase letter gross price mils).reached ≡ false → IsLetter (after_purchase letter gross price mils)

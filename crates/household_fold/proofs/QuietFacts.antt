@@ -1,14 +1,15 @@
 -- A sheet that is quiet for a household changes nothing.
-use Rattle.std.proofs.Common.{inl, inr, ◌*◌, ◌-◌, Bool, List, None, Option, Some, [], ap, arith, cond, false, find, fold, get_or, length, map, not, refl, sym, true, unwrap_or, ℕ, ◌&&◌, ◌==◌, ◌||◌, ◌∙◌, ◌∷◌, ◌≡◌, All}
+use Rattle.std.proofs.Common.{◌*◌, ◌-◌, Bool, List, None, Option, Some, [], ap, arith, cond, false, find, fold, get_or, length, map, not, refl, sym, true, unwrap_or, ℕ, ◌&&◌, ◌==◌, ◌||◌, ◌∙◌, ◌∷◌, ◌≡◌, All}
 use Rattle.std.specs.List.{list_any}
 use Rattle.fund_calendar.proofs.LookUpLemmas.{find_passes}
 use Rattle.household_fold.proofs.DividendFacts.{keys-of_class}
 use Rattle.household_positions.proofs.ListParts.{filter-none}
-use Rattle.household_positions.proofs.PlaceFacts.{same-place}
 use Rattle.money_units.proofs.RoundingFacts.{half-zero}
 use Rattle.money_units.specs.Rounding.{half}
+use Rattle.register_machine.proofs.FoundFacts.{same-place}
+use Rattle.register_machine.proofs.ListItems.{none-all}
 use Rattle.share_lots.specs.Lots.{cost_total, most_cost, most_mils}
-use Rattle.std.proofs.lemmas.Bool.{and_parts, cases_Bool, eq-eqb, eqb-true, true≢false}
+use Rattle.std.proofs.lemmas.Bool.{and_parts, eq-eqb, eqb-true, true≢false}
 use Rattle.std.proofs.lemmas.List.Folds.{list_any_at}
 use Rattle.std.proofs.lemmas.List.Elements.{All-head, All-tail}
 use Rattle.agent_events.specs.declared.order.Order.{Order}
@@ -25,13 +26,6 @@ use Rattle.register_machine.specs.replay.Dividend.{day_after_class, day_after_di
 use Rattle.register_machine.specs.replay.Letter.{day_after_letter_end, day_after_letter_ends, has_letter_over}
 use Rattle.register_machine.specs.replay.Positions.{Position, PositionKey, Register, fresh_position, is_position, key_of, mils_of, position_of}
 use Rattle.register_machine.specs.replay.Trades.{Day, nav_of}
-
--- what no element of a list passes, each fails
-none-passes : {X : Type 0} (p : X → Bool) (xs : List X) → list_any p xs ≡ false → All (λ x. p x ≡ false) xs
-none-passes p xs e k d short = elim (cases_Bool (p (get_or xs k d))) [
-  | inl passes ↦ absurd (true≢false (sym (list_any_at p xs k d short passes) ∙ e))
-  | inr fails ↦ fails
-]
 
 -- steps that change nothing, one after another
 fold-still : {D E : Type 0} (step : D → E → D) (d : D) (es : List E) → All (λ e. step d e ≡ d) es → fold step d es ≡ d
@@ -106,7 +100,7 @@ still-class known day price unpaid listed =
 
 pub still-dividends : (known : Known) (day : Day) → list_any (is_paid known) day.register ≡ false → day_after_dividends (book_of_facts known) (sheet_at_hand known) day ≡ day
 still-dividends known day none =
-    let unpaid = none-passes (is_paid known) day.register none in
+    let unpaid = none-all (is_paid known) day.register none in
     let prices = (sheet_at_hand known).prices in
     fold-still (day_after_class (book_of_facts known).rates (sheet_at_hand known)) day prices
     (λ k d short.
@@ -120,7 +114,7 @@ still-letters known day none =
     let sheet = sheet_at_hand known in
     let book = book_of_facts known in
     ap (λ positions. fold (day_after_letter_end book sheet) day (map key_of positions))
-    (filter-none (has_letter_over sheet) day.register (none-passes (has_letter_over sheet) day.register none))
+    (filter-none (has_letter_over sheet) day.register (none-all (has_letter_over sheet) day.register none))
 
 -- and with no order the step changes nothing
 no-orders : (orders : List Order) → (length orders == 0) ≡ true → orders ≡ []

@@ -7,13 +7,13 @@ use Rattle.agent_events.specs.declared.trade.TradeKind.{TradeKind}
 use Rattle.agent_events.specs.declared.trade.Why.{Why}
 use Rattle.forward_price.specs.declared.price_sheet.Sheet.{Sheet}
 use Rattle.money_units.specs.Rounding.{half}
+use Rattle.register_machine.proofs.FoundFacts.{own-class}
 use Rattle.register_machine.specs.journal.Choices.{when}
 use Rattle.register_machine.specs.pricing.CorrectedBook.{Book}
 use Rattle.register_machine.specs.pricing.OrderClasses.{class_of}
 use Rattle.register_machine.specs.replay.Positions.{position_of}
 use Rattle.register_machine.specs.replay.Redemption.{day_after_redemption, day_after_redemption_for, day_after_sale, short_of}
 use Rattle.register_machine.specs.replay.Trades.{Day, day_unless_any, nav_of, order_trade, with_trade}
-use Rattle.household_positions.proofs.DayFacts.{own-class}
 
 -- nothing is short
 pub sold-is : (book : Book) (sheet : Sheet) (day : Day) (order : Order) (asked : ℕ) → None ≡ short_of (position_of day.register order.account (class_of order.body)).holding asked → day_after_sale book sheet day (position_of day.register order.account (class_of order.body)) asked (order_trade sheet order TradeKind.Sell) ≡ day_after_redemption book sheet day order asked

@@ -1,27 +1,11 @@
 -- What a handler needs of a position that it takes out of a day and closes with a trade.
-use Rattle.std.proofs.Common.{Bool, List, Some, [], ap, cond, false, find, refl, subst, true, unwrap_or, ℕ, ◌++◌, ◌∙◌, ◌∷◌, ◌≡◌}
+use Rattle.std.proofs.Common.{[], ap, subst, ℕ, ◌++◌, ◌∙◌, ◌∷◌, ◌≡◌}
 use Rattle.agent_events.specs.declared.trade.Trade.{Trade}
-use Rattle.register_machine.specs.replay.Positions.{Position, Register, fresh_position, is_position, position_of, put}
+use Rattle.register_machine.proofs.FoundFacts.{own-account, own-class}
+use Rattle.register_machine.specs.replay.Positions.{Position, Register, position_of, put}
 use Rattle.register_machine.specs.replay.Trades.{Day, day_after_trade}
 use Rattle.household_positions.specs.Register.{day_without, without}
-use Rattle.household_positions.proofs.PlaceFacts.{put-without, same-place}
-
-found-is : {X : Type 0} (P : X → Type 0) (p : X → Bool) (d : X) → ((x : X) → p x ≡ true → P x) → P d → (xs : List X) → P (unwrap_or (find p xs) d)
-found-is P p d holds base [] = base
-found-is P p d holds base (x ∷ xs) =
-    elim (p x) as (λ b. p x ≡ b → P (unwrap_or (cond b (Some x) (find p xs)) d)) [
-      | true ↦ λ e. holds x e
-      | false ↦ λ e. found-is P p d holds base xs
-    ] refl
-
--- a position looked up has the account and the class that it was looked up by
-pub own-account : (register : Register) (a c : ℕ) → (position_of register a c).account ≡ a
-own-account register a c =
-    found-is (λ x. x.account ≡ a) (is_position a c) (fresh_position a c) (λ x e. (same-place a c x e).0) refl register
-
-pub own-class : (register : Register) (a c : ℕ) → (position_of register a c).class ≡ c
-own-class register a c =
-    found-is (λ x. x.class ≡ c) (is_position a c) (fresh_position a c) (λ x e. (same-place a c x e).1) refl register
+use Rattle.household_positions.proofs.PlaceFacts.{put-without}
 
 -- a position put back where it was taken out is put in its stead
 pub put-back : (p : Position) (register : Register) (a c : ℕ) → p.account ≡ a → p.class ≡ c → put p (without a c register) ≡ put p register

@@ -1,49 +1,25 @@
 -- The order of places by account and then class, and what a position taken out and put back leaves.
-use Rattle.std.proofs.Common.{All, AllPairs, List, None, Some, [], ap, append_assoc, append-nil, arith, cond, drop, false, filter, find, get_or, inl, inr, nat_lt, not, refl, slice_get, suc, sym, take, true, zero, ℕ, ◌&&◌, ◌++◌, ◌==◌, ◌||◌, ◌∙◌, ◌∷◌, ◌≡◌}
-use Rattle.std.proofs.lemmas.Bool.{and_parts, cases_lt, eqb-true, true≢false}
-use Rattle.std.proofs.lemmas.Bool.Decides.{nat_tests}
+use Rattle.std.proofs.Common.{All, AllPairs, None, Some, [], ap, append_assoc, append-nil, arith, cond, drop, false, filter, find, get_or, inl, inr, not, refl, slice_get, suc, sym, take, true, zero, ℕ, ◌++◌, ◌∙◌, ◌∷◌, ◌≡◌}
+use Rattle.std.proofs.lemmas.Bool.{cases_lt, true≢false}
 use Rattle.std.proofs.lemmas.List.{drop_all, take-append-drop, take_all}
-use Rattle.std.proofs.lemmas.List.Elements.{All-append, All-cons, All-filter, All-head, All-nil, All-tail, filter_passes}
-use Rattle.std.proofs.lemmas.List.Kept.{AllPairs-cons, AllPairs-filter}
+use Rattle.std.proofs.lemmas.List.Elements.{All-append, All-cons, All-filter, All-nil, All-tail, filter_passes}
+use Rattle.std.proofs.lemmas.List.Kept.{AllPairs-filter}
 use Rattle.std.specs.List.{remove}
 use Rattle.std.specs.List.Sorted.{IsPartitionPoint, IsPartitionedBy}
 use Rattle.std.specs.Option.{option_map_or}
+use Rattle.register_machine.proofs.KeyOrder.{keys-apart, keys-apart-later, keys-back, keys-either, keys-in-stead, keys-next}
+use Rattle.register_machine.proofs.ListItems.{pairs-append}
 use Rattle.register_machine.specs.replay.Positions.{Position, Register, fresh_position, is_fresh, is_position, put, stands_before, unless_fresh}
 use Rattle.share_lots.proofs.LotLemmas.{AllPairs-head, AllPairs-tail}
 use Rattle.household_positions.specs.Register.{AreInOrder, IsRegister, without}
 use Rattle.household_positions.proofs.ListParts.{filter-all, filter-none, filter-within, find-none}
-
--- of two keys one is before the other, or they are the same
-three : (a b c d : ℕ) → (nat_lt a c || (a == c && nat_lt b d)) ≡ false → (a == c && b == d) ≡ false → (nat_lt c a || (c == a && nat_lt d b)) ≡ true
-three a b c d = grind (arith, nat_tests)
-
-next : (a b c d e f : ℕ) → (nat_lt a c || (a == c && nat_lt b d)) ≡ true → (nat_lt c e || (c == e && nat_lt d f)) ≡ true → (nat_lt a e || (a == e && nat_lt b f)) ≡ true
-next a b c d e f = grind (arith, nat_tests)
-
-back : (a b c d : ℕ) → (nat_lt a c || (a == c && nat_lt b d)) ≡ true → (nat_lt c a || (c == a && nat_lt d b)) ≡ false
-back a b c d = grind (arith, nat_tests)
-
-apart : (a b c d : ℕ) → (nat_lt a c || (a == c && nat_lt b d)) ≡ true → (a == c && b == d) ≡ false
-apart a b c d = grind (arith, nat_tests)
-
-apart-later : (a b c d : ℕ) → (nat_lt a c || (a == c && nat_lt b d)) ≡ true → (c == a && d == b) ≡ false
-apart-later a b c d = grind (arith, nat_tests)
-
-same-first : (a b c d e f : ℕ) → (a == c && b == d) ≡ true → (nat_lt a e || (a == e && nat_lt b f)) ≡ true → (nat_lt c e || (c == e && nat_lt d f)) ≡ true
-same-first a b c d e f = grind (arith, nat_tests)
-
--- of what stands in a place the key is known
-pub same-place : (a c : ℕ) (p : Position) → is_position a c p ≡ true → (p.account ≡ a) × (p.class ≡ c)
-same-place a c p e =
-    let parts = and_parts (p.account == a) (p.class == c) e in
-    (eqb-true p.account a parts.0, eqb-true p.class c parts.1)
 
 pub parted : (a c : ℕ) (register : Register) → AreInOrder register → IsPartitionedBy (λ other. stands_before other (fresh_position a c)) register
 parted a c register ordered i j d le short first = elim (cases_lt i j) [
   | inl lt ↦
       let x = get_or register i d in
       let y = get_or register j d in
-      next x.account x.class y.account y.class a c (ordered i j d lt short) first
+      keys-next x.account x.class y.account y.class a c (ordered i j d lt short) first
   | inr ge ↦ let same : i ≡ j = omega arith in rw same first
 ]
 
@@ -78,10 +54,10 @@ holds-at a c (x ∷ xs) zero ordered point stands =
       rest =
           ap (λ b. cond (not b) (x ∷ without a c xs) (without a c xs)) stands
           ∙ filter-all (λ other. not (is_position a c other)) xs
-          (λ k d short. let y = get_or xs k d in ap not (apart-later a c y.account y.class (same-first x.account x.class a c y.account y.class stands (behind k d short))));
+          (λ k d short. let y = get_or xs k d in ap not (keys-apart-later a c y.account y.class (keys-in-stead x.account x.class a c y.account y.class stands (behind k d short))));
     }
 holds-at a c (x ∷ xs) (suc i) ordered point stands =
-    let away = apart x.account x.class a c (place-head a c x xs i point) in
+    let away = keys-apart x.account x.class a c (place-head a c x xs i point) in
     let rest = holds-at a c xs i (AllPairs-tail (λ p q. stands_before p q ≡ true) x xs ordered) (place-rest a c x xs i point) stands in
     record {
       found = ap (λ b. cond b (Some x) (find (is_position a c) xs)) away ∙ rest.found;
@@ -94,11 +70,11 @@ pub none-at : (a c : ℕ) (register : Register) (k : ℕ) → AreInOrder registe
 none-at a c [] k ordered point stands = All-nil (λ x. is_position a c x ≡ false)
 none-at a c (x ∷ xs) zero ordered point stands =
     let behind = AllPairs-head (λ p q. stands_before p q ≡ true) x xs ordered in
-    let later = three x.account x.class a c (place-all a c (x ∷ xs) point 0 x (omega arith)) stands in
+    let later = keys-either x.account x.class a c (place-all a c (x ∷ xs) point 0 x (omega arith)) stands in
     All-cons (λ x. is_position a c x ≡ false) x xs stands
-    (λ k d short. let y = get_or xs k d in apart-later a c y.account y.class (next a c x.account x.class y.account y.class later (behind k d short)))
+    (λ k d short. let y = get_or xs k d in keys-apart-later a c y.account y.class (keys-next a c x.account x.class y.account y.class later (behind k d short)))
 none-at a c (x ∷ xs) (suc i) ordered point stands =
-    All-cons (λ x. is_position a c x ≡ false) x xs (apart x.account x.class a c (place-head a c x xs i point))
+    All-cons (λ x. is_position a c x ≡ false) x xs (keys-apart x.account x.class a c (place-head a c x xs i point))
     (none-at a c xs i (AllPairs-tail (λ p q. stands_before p q ≡ true) x xs ordered) (place-rest a c x xs i point) stands)
 
 pub none-found : (a c : ℕ) (register : Register) → All (λ x. is_position a c x ≡ false) register → find (is_position a c) register ≡ None
@@ -131,7 +107,7 @@ divides-at a c (x ∷ xs) zero point none =
       before = filter-none (λ other. stands_before other (fresh_position a c)) (x ∷ xs) late;
       behind =
           filter-all (λ other. stands_before (fresh_position a c) other) (x ∷ xs)
-          (λ k d short. let y = get_or (x ∷ xs) k d in three y.account y.class a c (late k d short) (none k d short));
+          (λ k d short. let y = get_or (x ∷ xs) k d in keys-either y.account y.class a c (late k d short) (none k d short));
     }
 divides-at a c (x ∷ xs) (suc i) point none =
     let first = place-head a c x xs i point in
@@ -142,7 +118,7 @@ divides-at a c (x ∷ xs) (suc i) point none =
           ∙ ap (λ ys. x ∷ ys) rest.before;
       behind =
           ap (λ b. cond b (x ∷ filter (λ other. stands_before (fresh_position a c) other) xs) (filter (λ other. stands_before (fresh_position a c) other) xs))
-          (back x.account x.class a c first)
+          (keys-back x.account x.class a c first)
           ∙ rest.behind;
     }
 
@@ -169,9 +145,9 @@ pub put-without : (p : Position) (register : Register) → put p (without p.acco
 put-without p register =
     let other = λ (x : Position). not (is_position p.account p.class x) in
     ap (λ ys. ys ++ unless_fresh p ++ filter (λ x. stands_before p x) (filter other register))
-    (filter-within other (λ x. stands_before x p) (λ x e. ap not (apart x.account x.class p.account p.class e)) register)
+    (filter-within other (λ x. stands_before x p) (λ x e. ap not (keys-apart x.account x.class p.account p.class e)) register)
     ∙ ap (λ ys. filter (λ x. stands_before x p) register ++ unless_fresh p ++ ys)
-    (filter-within other (λ x. stands_before p x) (λ x e. ap not (apart-later p.account p.class x.account x.class e)) register)
+    (filter-within other (λ x. stands_before p x) (λ x e. ap not (keys-apart-later p.account p.class x.account x.class e)) register)
 
 -- ---- what holds of every register
 
@@ -180,13 +156,6 @@ without-register a c register is = record {
   ordered = AllPairs-filter (λ x y. stands_before x y ≡ true) (λ other. not (is_position a c other)) register is.ordered;
   kept = All-filter (λ other. not (is_position a c other)) (λ x. is_fresh x ≡ false) register is.kept;
 }
-
-pub pairs-append : {X : Type 0} (R : X → X → Type 0) (xs ys : List X) → AllPairs R xs → AllPairs R ys → All (λ x. All (R x) ys) xs → AllPairs R (xs ++ ys)
-pairs-append R [] ys left right across = right
-pairs-append R (x ∷ xs) ys left right across =
-    AllPairs-cons R x (xs ++ ys)
-    (All-append (R x) xs ys (AllPairs-head R x xs left) (All-head (λ x. All (R x) ys) x xs across))
-    (pairs-append R xs ys (AllPairs-tail R x xs left) right (All-tail (λ x. All (R x) ys) x xs across))
 
 own-all : (P : Position → Type 0) (p : Position) → (is_fresh p ≡ false → P p) → All P (unless_fresh p)
 own-all P p here = elim (is_fresh p) as (λ b. is_fresh p ≡ b → All P (cond b [] (p ∷ []))) [
@@ -220,7 +189,7 @@ put-register p register is =
           (λ k d short i e within.
           let x = get_or before k d in
           let y = get_or behind i e in
-          next x.account x.class p.account p.class y.account y.class (are_before k d short) (are_behind i e within))
+          keys-next x.account x.class p.account p.class y.account y.class (are_before k d short) (are_behind i e within))
           (own-all (λ x. All (R x) behind) p (λ e. are_behind)));
       kept =
           All-append K (before ++ unless_fresh p) behind

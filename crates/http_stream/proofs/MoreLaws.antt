@@ -72,13 +72,17 @@ ended-size-by rest size true false few a b c is = let e : Front.Ended (scan_of (
 ended-size-by rest size false many true a b c is = absurd (let e : Front.Open ≡ Front.Ended size = rw (a, c) at is in cc)
 ended-size-by rest size false many false a b c is = absurd (let e : Front.Full ≡ Front.Ended size = rw (a, c) at is in cc)
 
-pub ended-size : (rest : List ℕ) (size : ℕ) → front rest ≡ Front.Ended size → size ≤ length rest
-ended-size rest size is =
+-- it is no longer than a head may be, nor than what is there
+pub ended-within : (rest : List ℕ) (size : ℕ) → front rest ≡ Front.Ended size → size ≤ min head_limit (length rest)
+ended-within rest size is =
     let found = ended-size-by rest size (scan_of (take head_limit rest)).ended (ltb (field_limit + 1) (scan_of (take head_limit rest)).filled)
     (ltb (length rest) head_limit) refl refl refl is in
     let bound : (scan_of (take head_limit rest)).size ≤ 0 + length (take head_limit rest) = scan-size scan_of_nothing (take head_limit rest) in
     let taken : length (take head_limit rest) ≡ min head_limit (length rest) = length-take head_limit rest in
     omega arith
+
+ended-size : (rest : List ℕ) (size : ℕ) → front rest ≡ Front.Ended size → size ≤ length rest
+ended-size rest size is = omega (arith, ended-within rest size is)
 
 pub text-more : (rest more : List ℕ) (size : ℕ) → front rest ≡ Front.Ended size → take size (rest ++ more) ≡ take size rest
 text-more rest more size is = take-append-le size rest more (ended-size rest size is)

@@ -1,5 +1,5 @@
 -- What is found among rows with one more in its place, and how many there are.
-use Rattle.std.proofs.Common.{Bool, List, None, Option, Some, [], ap, arith, cond, count_by, false, find, inl, inr, is_some, length, nat_lt, refl, subst, sym, true, ℕ, ◌&&◌, ◌+◌, ◌==◌, ◌||◌, ◌∙◌, ◌∷◌, ◌≡◌, ◌≤◌}
+use Rattle.std.proofs.Common.{Bool, List, None, Option, Some, [], ap, arith, cond, count_by, false, find, inl, inr, is_some, length, nat_lt, refl, subst, sym, true, ℕ, ◌&&◌, ◌+◌, ◌==◌, ◌∙◌, ◌∷◌, ◌≡◌, ◌≤◌}
 use Rattle.std.proofs.lemmas.Bool.{and_from, and_parts, cases_Bool, eq-eqb, eqb-true}
 use Rattle.std.proofs.lemmas.Bool.Decides.{nat_tests}
 use Rattle.std.proofs.lemmas.List.Sums.{sum_by-cons}
@@ -9,6 +9,7 @@ use Rattle.household_fold.specs.Facts.{rate_numbered, rate_stands_before}
 use Rattle.journal_tables.proofs.PutRows.{new-all}
 use Rattle.journal_tables.specs.Places.{put_new, put_row}
 use Rattle.journal_tables.specs.Tables.{is_rate_of, with_dividend, with_fixed_rate}
+use Rattle.register_machine.proofs.KeyOrder.{keys-apart}
 
 -- ---- the row itself, and another one
 
@@ -80,9 +81,6 @@ numbered-new {R} n row xs k = elim (cases_Bool (n row == k)) [
 
 -- ---- by class and moment
 
-rate-apart : (a b c d : ℕ) → (nat_lt a c || (a == c && nat_lt b d)) ≡ true → (a == c && b == d) ≡ false
-rate-apart a b c d = grind (arith, nat_tests)
-
 rates-differ : (a b c d e f : ℕ) → (c == e && d == f) ≡ false → (a == c && b == d) ≡ true → (a == e && b == f) ≡ false
 rates-differ a b c d e f = grind (arith, nat_tests)
 
@@ -99,7 +97,7 @@ at-rate P row class moment is own =
 pub rates-new : (row : RateRow) (rates : List RateRow) (class moment : ℕ) → rate_numbered (with_dividend rates row) class moment ≡ option_or (rate_numbered rates class moment) (cond (is_rate_of class moment row) (Some row) None)
 rates-new row rates class moment = elim (cases_Bool (is_rate_of class moment row)) [
   | inl is ↦ at-rate Found row class moment is
-      (new-own (rate_stands_before row.class row.moment) (is_rate_of row.class row.moment) row rates (own-rate row) (λ x. rate-apart x.class x.moment row.class row.moment)
+      (new-own (rate_stands_before row.class row.moment) (is_rate_of row.class row.moment) row rates (own-rate row) (λ x. keys-apart x.class x.moment row.class row.moment)
       ∙ ap (λ b. option_or (rate_numbered rates row.class row.moment) (cond b (Some row) None)) (sym (own-rate row)))
   | inr other ↦
       new-other (rate_stands_before row.class row.moment) (is_rate_of row.class row.moment) (is_rate_of class moment) row rates other
@@ -113,7 +111,7 @@ rates-new row rates class moment = elim (cases_Bool (is_rate_of class moment row
 pub rates-put : (row : RateRow) (rates : List RateRow) (class moment : ℕ) → rate_numbered (with_fixed_rate rates row) class moment ≡ cond (is_rate_of class moment row) (Some row) (rate_numbered rates class moment)
 rates-put row rates class moment = elim (cases_Bool (is_rate_of class moment row)) [
   | inl is ↦ at-rate Found row class moment is
-      (find-own (rate_stands_before row.class row.moment) (is_rate_of row.class row.moment) (is_rate_of row.class row.moment) row rates (own-rate row) (λ x. rate-apart x.class x.moment row.class row.moment)
+      (find-own (rate_stands_before row.class row.moment) (is_rate_of row.class row.moment) (is_rate_of row.class row.moment) row rates (own-rate row) (λ x. keys-apart x.class x.moment row.class row.moment)
       ∙ ap (λ b. cond b (Some row) (rate_numbered rates row.class row.moment)) (sym (own-rate row)))
   | inr other ↦
       find-other (rate_stands_before row.class row.moment) (is_rate_of row.class row.moment) (is_rate_of class moment) row rates other

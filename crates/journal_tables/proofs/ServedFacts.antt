@@ -1,6 +1,6 @@
 -- What a step reads of the tables of a lawful journal: facts that fit, the book of the journal, and the sheet of its number.
-use Rattle.std.proofs.Common.{All, List, None, Option, Some, [], ap, arith, false, find, inl, inr, is_some, length, map, option_map, refl, slice_get, subst, sym, true, unwrap_or, ℕ, ◌-◌, ◌∙◌, ◌≡◌, ◌≤◌}
-use Rattle.std.proofs.lemmas.Option.{get_or_from_slice_get, slice_get_cases}
+use Rattle.std.proofs.Common.{None, Option, Some, [], ap, arith, false, find, inl, inr, is_some, length, map, option_map, refl, slice_get, subst, sym, true, unwrap_or, ℕ, ◌-◌, ◌∙◌, ◌≡◌, ◌≤◌}
+use Rattle.std.proofs.lemmas.Option.{slice_get_cases}
 use Rattle.std.specs.List.{list_any}
 use Rattle.std.specs.Option.{option_map_or, option_or}
 use Rattle.agent_events.specs.Events.{Event}
@@ -18,7 +18,6 @@ use Rattle.journal_tables.proofs.EventTables.{tables_go_on}
 use Rattle.journal_tables.proofs.SheetsOfJournals.{corrected-known}
 use Rattle.journal_tables.specs.Tables.{IsInRange, Tables, row_of_account, tables_after}
 use Rattle.journal_tables.specs.TablesOfJournals.{AreTablesOf, IsSheetOf, ServeFor}
-use Rattle.register_laws.proofs.Choosing.{none_some}
 use Rattle.register_laws.proofs.Isolation.{some-map}
 use Rattle.register_laws.proofs.KeepsLimits.{keeps_its_limits}
 use Rattle.register_laws.proofs.OrderlyBooks.{sheets_are_numbered}
@@ -29,6 +28,7 @@ use Rattle.register_laws.specs.Identities.{is_class}
 use Rattle.register_laws.specs.Lawful.{book_behind}
 use Rattle.register_laws.specs.LawfulLimits.{KeepsItsLimits}
 use Rattle.register_laws.specs.OneEventMore.{corrected_table, corrected_table_by}
+use Rattle.register_machine.proofs.ListItems.{has-at}
 use Rattle.register_machine.specs.journal.Journals.{Journal, with_event}
 use Rattle.register_machine.specs.journal.Kinds.{account_numbered, accounts_of, class_numbered, classes_of}
 use Rattle.register_machine.specs.journal.Lawful.{IsLawful}
@@ -74,12 +74,6 @@ alike known journal are sheets = record {
 
 -- ---- the sheet at hand
 
-found-has : {X : Type 0} (P : X → Type 0) (xs : List X) (i : ℕ) (x : X) → All P xs → slice_get xs i ≡ Some x → P x
-found-has P xs i x all e = elim (slice_get_cases xs i).1 [
-  | inl there ↦ subst P (get_or_from_slice_get xs i x x e) (all i x there.1)
-  | inr past ↦ absurd (none_some (sym past.1 ∙ e))
-]
-
 at-hand : (known : Known) (journal : Journal) → sheets_known known ≡ (corrected_table journal).sheets → IsSheetOf journal known.sheet → slice_get (corrected_table journal).sheets (known.sheet - 1) ≡ Some (sheet_at_hand known)
 at-hand known journal sheets is = elim (slice_get_cases (corrected_table journal).sheets (known.sheet - 1)).1 [
   | inl there ↦ there.2 ∙ ap Some (sym (ap (λ o. unwrap_or o no_sheet) there.2) ∙ same)
@@ -107,7 +101,7 @@ serve known journal lawful are sheets there is = record {
         sym (some-map class_in_book (terms_numbered known.terms class))
         ∙ (ap is_some (are.terms class)
         ∙ (find-any (is_class class) (classes_of journal)
-        ∙ found-has (λ sheet. lists_class sheet.prices class ≡ true → list_any (is_class class) (classes_of journal) ≡ true) (corrected_table journal).sheets (known.sheet - 1) (sheet_at_hand known) (corrected-known journal class lawful) at listed));
+        ∙ has-at (λ sheet. lists_class sheet.prices class ≡ true → list_any (is_class class) (classes_of journal) ≡ true) (corrected_table journal).sheets (known.sheet - 1) (sheet_at_hand known) (corrected-known journal class lawful) at listed));
     terms_rise = are.stand.terms;
     accounts_rise = are.stand.accounts;
     rates_rise = are.stand.rates;

@@ -1,5 +1,5 @@
 -- The tables stand by number with one row more.
-use Rattle.std.proofs.Common.{All, AllPairs, List, arith, false, nat_lt, true, ℕ, ◌&&◌, ◌<◌, ◌==◌, ◌||◌, ◌≡◌, ◌≤◌}
+use Rattle.std.proofs.Common.{All, AllPairs, List, arith, false, nat_lt, true, ℕ, ◌<◌, ◌==◌, ◌≡◌, ◌≤◌}
 use Rattle.std.proofs.lemmas.Bool.Decides.{nat_tests}
 use Rattle.agent_events.specs.declared.event.EventKind.{EventKind}
 use Rattle.agent_events.specs.declared.rows.AccountRow.{AccountRow}
@@ -8,6 +8,7 @@ use Rattle.class_terms.specs.declared.form.TermsForm.{TermsForm}
 use Rattle.household_fold.specs.Facts.{rate_stands_before}
 use Rattle.journal_tables.proofs.PutRows.{Ranks, new-all, put-all, put-pairs}
 use Rattle.journal_tables.specs.Tables.{IsInRange, StandByNumber, Tables, has_account_number, has_class_number, is_rate_of, row_of_account, row_of_dividend, row_of_fix, tables_after, with_account, with_dividend, with_fixed_rate, with_terms}
+use Rattle.register_machine.proofs.KeyOrder.{keys-either, keys-in-stead, keys-next}
 use Rattle.register_machine.specs.rules.Terms.{terms_of}
 
 -- ---- by one number
@@ -44,21 +45,12 @@ accounts-rise accounts row rise =
 
 -- ---- by class and moment
 
-three : (a b c d : ℕ) → (nat_lt a c || (a == c && nat_lt b d)) ≡ false → (a == c && b == d) ≡ false → (nat_lt c a || (c == a && nat_lt d b)) ≡ true
-three a b c d = grind (arith, nat_tests)
-
-next : (a b c d e f : ℕ) → (nat_lt a c || (a == c && nat_lt b d)) ≡ true → (nat_lt c e || (c == e && nat_lt d f)) ≡ true → (nat_lt a e || (a == e && nat_lt b f)) ≡ true
-next a b c d e f = grind (arith, nat_tests)
-
-same-first : (a b c d e f : ℕ) → (a == c && b == d) ≡ true → (nat_lt a e || (a == e && nat_lt b f)) ≡ true → (nat_lt c e || (c == e && nat_lt d f)) ≡ true
-same-first a b c d e f = grind (arith, nat_tests)
-
 by-class : (row : RateRow) → Ranks (rate_stands_before row.class row.moment) (is_rate_of row.class row.moment) row (λ a b. rate_stands_before b.class b.moment a ≡ true)
 by-class row = record {
   ahead = λ x e. e;
-  behind = λ x. three x.class x.moment row.class row.moment;
-  stead = λ x y. same-first x.class x.moment row.class row.moment y.class y.moment;
-  through = λ x y. next row.class row.moment x.class x.moment y.class y.moment;
+  behind = λ x. keys-either x.class x.moment row.class row.moment;
+  stead = λ x y. keys-in-stead x.class x.moment row.class row.moment y.class y.moment;
+  through = λ x y. keys-next row.class row.moment x.class x.moment y.class y.moment;
 }
 
 pub fixed-rise : (rates : List RateRow) (row : RateRow) → AllPairs (λ a b. rate_stands_before b.class b.moment a ≡ true) rates → AllPairs (λ a b. rate_stands_before b.class b.moment a ≡ true) (with_fixed_rate rates row)

@@ -1,68 +1,23 @@
 -- The outstanding mils of a class are the net of what the trades brought and took, over all and in each part.
-use Rattle.std.proofs.Common.{All, List, [], ap, arith, cond, filter, fold, pos, refl, subst, sum_by, sym, ℕ, ℤ, ◌+◌, ◌∙◌, ◌∷◌, ◌≡◌}
+use Rattle.std.proofs.Common.{All, List, [], ap, arith, cond, filter, fold, pos, subst, sum_by, sym, ℕ, ℤ, ◌+◌, ◌∙◌, ◌∷◌, ◌≡◌}
 use Rattle.std.proofs.Math.IntN.{+ℤ-neg_ℤ_cancel}
 use Rattle.std.proofs.lemmas.List.Elements.{All-filter}
 use Rattle.std.proofs.lemmas.List.Sums.{sum_by-cons}
 use Rattle.std.specs.Prelude.{◌+ℤ◌, ◌-ℤ◌}
 use Rattle.agent_events.specs.declared.order.OrderRow.{OrderRow}
-use Rattle.agent_events.specs.declared.trade.Outcome.{Outcome}
-use Rattle.agent_events.specs.declared.trade.Trade.{Trade}
-use Rattle.agent_events.specs.declared.trade.TradeKind.{TradeKind}
-use Rattle.gain_loss_book.specs.Movements.{if_filled, mils_brought, mils_brought_by, mils_taken, mils_taken_by}
 use Rattle.ledger_laws.specs.ClassTotals.{IsNetOfTrades, OrderlyTotalsByDifferences}
 use Rattle.register_laws.proofs.ListParts.{filter-swap}
 use Rattle.register_laws.proofs.ReplayedAlone.{replayed_alone}
 use Rattle.register_laws.proofs.SharesByTrades.{shares_go_by_trades}
-use Rattle.register_laws.proofs.Sums.{sum-same}
 use Rattle.register_laws.specs.Households.{is_of_household, is_own_row, own_book, part_of}
-use Rattle.register_laws.specs.Trades.{if_filled as in_filled}
-use Rattle.register_laws.specs.Trades.{IsOrderly, IsOutstandingByTrades, LeavesItsClass, is_order_of, mils_in, mils_in_by, mils_out, mils_out_by}
+use Rattle.register_laws.specs.Trades.{IsOrderly, IsOutstandingByTrades, LeavesItsClass, is_order_of}
 use Rattle.register_machine.specs.corrections.Cash.{outstanding}
 use Rattle.register_machine.specs.pricing.CorrectedBook.{Book}
 use Rattle.register_machine.specs.pricing.CorrectedOrders.{stands}
+use Rattle.register_machine.specs.replay.Movements.{mils_brought, mils_taken}
 use Rattle.register_machine.specs.replay.Replay.{replay}
 use Rattle.register_machine.specs.replay.Trades.{Day}
 use Rattle.share_lots.proofs.LotLemmas.{sum_by-filter-le}
-
--- ---- the words of the laws and those of the gains are one
-
-brought-by : (kind : TradeKind) (class : ℕ) (trade : Trade) → mils_in_by kind class trade ≡ mils_brought_by kind class trade
-brought-by TradeKind.Buy class trade = refl
-brought-by TradeKind.Sell class trade = refl
-brought-by TradeKind.Exchange class trade = refl
-brought-by TradeKind.Letter class trade = refl
-brought-by TradeKind.ElectCash class trade = refl
-brought-by TradeKind.ElectShares class trade = refl
-brought-by TradeKind.LetterReached class trade = refl
-brought-by TradeKind.LetterEnded class trade = refl
-brought-by TradeKind.DividendShares class trade = refl
-brought-by TradeKind.DividendCash class trade = refl
-
-taken-by : (kind : TradeKind) (class : ℕ) (trade : Trade) → mils_out_by kind class trade ≡ mils_taken_by kind class trade
-taken-by TradeKind.Buy class trade = refl
-taken-by TradeKind.Sell class trade = refl
-taken-by TradeKind.Exchange class trade = refl
-taken-by TradeKind.Letter class trade = refl
-taken-by TradeKind.ElectCash class trade = refl
-taken-by TradeKind.ElectShares class trade = refl
-taken-by TradeKind.LetterReached class trade = refl
-taken-by TradeKind.LetterEnded class trade = refl
-taken-by TradeKind.DividendShares class trade = refl
-taken-by TradeKind.DividendCash class trade = refl
-
-in-brought : (class : ℕ) (trade : Trade) → mils_in class trade ≡ mils_brought class trade
-in-brought class trade =
-    elim trade.outcome as (λ outcome. in_filled outcome (mils_in_by trade.kind class trade) ≡ if_filled outcome (mils_brought_by trade.kind class trade)) [
-      | Outcome.Filled ↦ brought-by trade.kind class trade
-      | Outcome.Unfilled why ↦ refl
-    ]
-
-out-taken : (class : ℕ) (trade : Trade) → mils_out class trade ≡ mils_taken class trade
-out-taken class trade =
-    elim trade.outcome as (λ outcome. in_filled outcome (mils_out_by trade.kind class trade) ≡ if_filled outcome (mils_taken_by trade.kind class trade)) [
-      | Outcome.Filled ↦ taken-by trade.kind class trade
-      | Outcome.Unfilled why ↦ refl
-    ]
 
 -- ---- differences
 
@@ -73,7 +28,7 @@ less left out brought whole =
 net-of : (class : ℕ) (day : Day) → IsOutstandingByTrades class day → IsNetOfTrades class day
 net-of class day is =
     less (outstanding day.register class) (sum_by (mils_taken class) day.trades) (sum_by (mils_brought class) day.trades)
-    (omega (arith, is, sum-same (mils_in class) (mils_brought class) (in-brought class) day.trades, sum-same (mils_out class) (mils_taken class) (out-taken class) day.trades))
+    (omega (arith, is))
 
 -- ---- a household's own book is orderly where the whole one is
 

@@ -1,7 +1,7 @@
 -- The book of a lawful journal is sound, and tables that agree with a book give its facts.
 use Rattle.std.proofs.Common.{All, Bool, List, None, Option, Some, [], ap, false, filter, get_or, is_some, map, option_map, refl, sym, true, ℕ, ◌&&◌, ◌==◌, ◌||◌, ◌∙◌, ◌∷◌, ◌≡◌}
 use Rattle.std.proofs.lemmas.Bool.{and_parts}
-use Rattle.std.proofs.lemmas.List.Elements.{All-cons, All-filter, All-nil, All-weaker}
+use Rattle.std.proofs.lemmas.List.Elements.{All-filter, All-weaker}
 use Rattle.std.specs.List.{list_all, list_any}
 use Rattle.std.specs.Option.{option_map_or}
 use Rattle.agent_events.specs.declared.order.OrderRow.{OrderRow}
@@ -22,6 +22,7 @@ use Rattle.register_laws.specs.AlikeBooks.{BooksAlike}
 use Rattle.register_laws.specs.Identities.{has_number, is_class}
 use Rattle.register_laws.specs.Lawful.{book_behind}
 use Rattle.register_laws.specs.NamesStand.{is_placed_in}
+use Rattle.register_machine.proofs.ListItems.{all-of}
 use Rattle.register_machine.specs.journal.Journals.{Journal}
 use Rattle.register_machine.specs.journal.Kinds.{accounts_of, class_numbered, classes_of}
 use Rattle.register_machine.specs.journal.Lawful.{IsLawful}
@@ -33,19 +34,13 @@ use Rattle.household_fold.specs.Facts.{book_of_facts}
 
 -- ---- the classes of orders and sheets
 
-all-true : {X : Type 0} (test : X → Bool) (xs : List X) → list_all test xs ≡ true → All (λ x. test x ≡ true) xs
-all-true test [] e = All-nil (λ x. test x ≡ true)
-all-true test (x ∷ xs) e =
-    let parts = and_parts (test x) (list_all test xs) e in
-    All-cons (λ y. test y ≡ true) x xs parts.0 (all-true test xs parts.1)
-
 orders-named : (journal : Journal) → IsLawful journal → All (NamesItsClasses (book_behind journal)) (filter stands (orders_of journal))
 orders-named journal lawful =
     All-filter stands (NamesItsClasses (book_behind journal)) (orders_of journal)
     (All-weaker (λ (row : OrderRow). is_placed_in journal row.order ≡ true) (NamesItsClasses (book_behind journal))
     (λ row placed. (and_parts (list_any (has_number row.order.account) (accounts_of journal)) (list_all (λ class. list_any (is_class class) (classes_of journal)) (classes_in row.order.body)) placed).1)
     (orders_of journal)
-    (all-true (λ (row : OrderRow). is_placed_in journal row.order) (orders_of journal) (names_stand journal lawful).orders))
+    (all-of (λ (row : OrderRow). is_placed_in journal row.order) (orders_of journal) (names_stand journal lawful).orders))
 
 -- a class that a sheet must list was opened
 must-open : (openings : List Opening) (calendar : ℕ) (moment : ℕ) (class : ℕ) → must_list openings calendar moment class ≡ true → list_any (λ (opening : Opening). opening.class == class) openings ≡ true

@@ -12,12 +12,12 @@ use Rattle.ledger_laws.proofs.StepsAlone.{rows-alone, step-alone}
 use Rattle.ledger_laws.specs.PartsByFacts.{StepsAsPart}
 use Rattle.offering_price.specs.Accumulation.{credit}
 use Rattle.register_laws.proofs.ListParts.{filter-known, map-agree}
-use Rattle.register_laws.proofs.PositionsInOrder.{put-all}
 use Rattle.register_laws.proofs.ReplayedAlone.{own-household, part-day, step-part}
 use Rattle.register_laws.proofs.StepsAlike.{PositionCounts, RowCounts, SheetAlike, step-after}
 use Rattle.register_laws.specs.AlikeBooks.{BooksAlike}
 use Rattle.register_laws.specs.Households.{is_of_household, is_own_position, is_own_row, own_book, own_orders, part_of}
 use Rattle.register_laws.specs.ReplayKeeps.{AreInOrder}
+use Rattle.register_machine.proofs.FoundFacts.{put-all}
 use Rattle.register_machine.specs.journal.Kinds.{household_of}
 use Rattle.register_machine.specs.pricing.CorrectedBook.{Book, counts}
 use Rattle.register_machine.specs.replay.DayStep.{day_step}

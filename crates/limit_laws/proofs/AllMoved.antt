@@ -22,10 +22,10 @@ use Rattle.limit_laws.specs.SmallTrades.{AddsFewTrades, IsLettersEnd, IsPayment,
 use Rattle.register_laws.proofs.OrdersInTurn.{executed-few}
 use Rattle.register_laws.proofs.TradesMoveCash.{trades_move_their_cash}
 use Rattle.register_laws.specs.TradeCash.{FilledMoves, MovesBy, MovesItsCash}
-use Rattle.register_laws.specs.Trades.{if_filled}
 use Rattle.register_machine.specs.corrections.Cash.{movements_in}
 use Rattle.register_machine.specs.pricing.CorrectedBook.{Book}
 use Rattle.register_machine.specs.pricing.CorrectedOrders.{stands}
+use Rattle.register_machine.specs.replay.Movements.{if_filled}
 use Rattle.register_machine.specs.replay.Replay.{Priced, orders_on, priced_in, priced_orders, replay}
 use Rattle.share_lots.specs.Lots.{most_mils}
 

@@ -20,8 +20,9 @@ use Rattle.limit_laws.specs.Moved.{cents_of, mils_by, mils_of}
 use Rattle.limit_laws.specs.Posts.{DifferencesFit, NamesEachOnce}
 use Rattle.register_laws.proofs.Comparisons.{eq-yes}
 use Rattle.register_laws.proofs.Sums.{sum-plus}
-use Rattle.register_laws.specs.Trades.{IsOutstandingByTrades, if_filled, mils_in, mils_in_by}
+use Rattle.register_laws.specs.Trades.{IsOutstandingByTrades}
 use Rattle.register_machine.specs.corrections.Cash.{Movement, cents_paid, cents_received, movements_in, movements_of, outstanding, same_party}
+use Rattle.register_machine.specs.replay.Movements.{if_filled, mils_brought, mils_brought_by}
 use Rattle.register_machine.specs.replay.Trades.{Day}
 
 -- ---- parties
@@ -105,15 +106,15 @@ abbrev class_brought : TradeKind → Trade → ℕ
 class_brought TradeKind.Exchange trade = trade.to_class
 class_brought _ trade = trade.class
 
-brought-by : (kind : TradeKind) (class : ℕ) (trade : Trade) → mils_in_by kind class trade ≤ cond (class_brought kind trade == class) (mils_by kind trade) 0
+brought-by : (kind : TradeKind) (class : ℕ) (trade : Trade) → mils_brought_by kind class trade ≤ cond (class_brought kind trade == class) (mils_by kind trade) 0
 brought-by TradeKind.Buy class trade = omega arith
 brought-by TradeKind.Exchange class trade = omega arith
 brought-by TradeKind.DividendShares class trade = omega arith
 brought-by _ class trade = omega arith
 
-brought-in : (class : ℕ) (trade : Trade) → mils_in class trade ≤ cond (class_brought trade.kind trade == class) (mils_of trade) 0
+brought-in : (class : ℕ) (trade : Trade) → mils_brought class trade ≤ cond (class_brought trade.kind trade == class) (mils_of trade) 0
 brought-in class trade =
-    elim trade.outcome as (λ outcome. if_filled outcome (mils_in_by trade.kind class trade) ≤ cond (class_brought trade.kind trade == class) (if_filled outcome (mils_by trade.kind trade)) 0) [
+    elim trade.outcome as (λ outcome. if_filled outcome (mils_brought_by trade.kind class trade) ≤ cond (class_brought trade.kind trade == class) (if_filled outcome (mils_by trade.kind trade)) 0) [
       | Outcome.Filled ↦ brought-by trade.kind class trade
       | Outcome.Unfilled why ↦ omega arith
     ]
@@ -122,7 +123,7 @@ pub mils-brought : {Row : Type 0} (class : Row → ℕ) (rows : List Row) (day :
 mils-brought {Row = Row} class rows day once shares =
     let own = λ (row : Row) (trade : Trade). class_brought trade.kind trade == class row in
     let each = sum_by-le-sum_by (λ row. outstanding day.register (class row)) (λ row. sum_by (λ (trade : Trade). cond (own row trade) (mils_of trade) 0) day.trades) rows
-    (λ row. omega (arith, shares (class row), sum_by-le-sum_by (mils_in (class row)) (λ (trade : Trade). cond (own row trade) (mils_of trade) 0) day.trades (brought-in (class row)))) in
+    (λ row. omega (arith, shares (class row), sum_by-le-sum_by (mils_brought (class row)) (λ (trade : Trade). cond (own row trade) (mils_of trade) 0) day.trades (brought-in (class row)))) in
     let all = key-sum own mils_of rows day.trades
     (λ trade. omega (
       arith,

@@ -1,19 +1,11 @@
 -- Counts of what passes a test, and sums over one list that are sums over another.
-use Rattle.std.proofs.Common.{All, Bool, List, [], arith, cond, count_by, false, get_or, length, refl, sum_by, sym, true, ℕ, ◌*◌, ◌+◌, ◌||◌, ◌∷◌, ◌≡◌, ◌≤◌}
-use Rattle.std.proofs.lemmas.Bool.{and_parts, true≢false}
-use Rattle.std.proofs.lemmas.List.Elements.{All-cons, All-head, All-nil, All-tail}
+use Rattle.std.proofs.Common.{All, Bool, List, [], arith, cond, count_by, false, get_or, length, refl, sum_by, true, ℕ, ◌*◌, ◌+◌, ◌||◌, ◌∷◌, ◌≡◌, ◌≤◌}
+use Rattle.std.proofs.lemmas.Bool.{true≢false}
+use Rattle.std.proofs.lemmas.List.Elements.{All-head, All-tail}
 use Rattle.std.proofs.lemmas.List.Sums.{sum_by-cons, sum_by-le}
-use Rattle.std.specs.List.{list_all, list_any}
+use Rattle.std.specs.List.{list_any}
 use Rattle.register_laws.proofs.Sums.{sums-exchange}
-
--- what is there is counted
-pub any-counted : {X : Type 0} (p : X → Bool) (xs : List X) → list_any p xs ≡ true → 1 ≤ count_by p xs
-any-counted p [] e = absurd (true≢false (sym e))
-any-counted {X = X} p (x ∷ xs) e = by (p x) e (any-counted p xs) (sum_by-cons (λ y. cond (p y) 1 0) x xs)
-  where
-    by : (is : Bool) → (is || list_any p xs) ≡ true → (list_any p xs ≡ true → 1 ≤ count_by p xs) → count_by p (x ∷ xs) ≡ cond is 1 0 + count_by p xs → 1 ≤ count_by p (x ∷ xs)
-    by true h rest whole = omega (arith, whole)
-    by false h rest whole = omega (arith, whole, rest h)
+use Rattle.register_machine.proofs.ListItems.{any-counted}
 
 -- and what isn't there counts nothing
 pub none-counted : {X : Type 0} (p : X → Bool) (xs : List X) → list_any p xs ≡ false → count_by p xs ≡ 0
@@ -41,13 +33,6 @@ counts-more {X = X} p q (x ∷ xs) all =
     one : (is : Bool) → p x ≡ is → cond is 1 0 ≤ cond (q x) 1 0
     one false e = omega arith
     one true e = rw (All-head (λ y. p y ≡ true → q y ≡ true) x xs all e) (omega arith)
-
--- a test of all
-pub all-of : {X : Type 0} (p : X → Bool) (xs : List X) → list_all p xs ≡ true → All (λ x. p x ≡ true) xs
-all-of p [] e = All-nil (λ x. p x ≡ true)
-all-of p (x ∷ xs) e =
-    let parts = and_parts (p x) (list_all p xs) e in
-    All-cons (λ y. p y ≡ true) x xs parts.0 (all-of p xs parts.1)
 
 -- a sum of larger terms
 pub sum-within : {X : Type 0} (f g : X → ℕ) (xs : List X) → All (λ x. f x ≤ g x) xs → sum_by f xs ≤ sum_by g xs

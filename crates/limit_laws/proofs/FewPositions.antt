@@ -7,7 +7,7 @@ use Rattle.std.specs.List.{list_all, list_any}
 use Rattle.agent_events.specs.declared.order.OrderRow.{OrderRow}
 use Rattle.agent_events.specs.declared.request.AccountForm.{AccountForm}
 use Rattle.forward_price.proofs.OrderlyFacts.{any_from, found_in}
-use Rattle.limit_laws.proofs.Counting.{all-of, any-counted, sum-within}
+use Rattle.limit_laws.proofs.Counting.{sum-within}
 use Rattle.limit_laws.proofs.FewThings.{has_few_things}
 use Rattle.limit_laws.specs.Counts.{HasFewPositions, HasFewShares, most_accounts, most_outstanding, positions_in}
 use Rattle.limit_laws.specs.Limited.{IsPlacedAmong, stands_among}
@@ -22,6 +22,7 @@ use Rattle.register_laws.specs.Identities.{has_number, is_class}
 use Rattle.register_laws.specs.Lawful.{book_behind}
 use Rattle.register_laws.specs.NamesStand.{is_placed_in}
 use Rattle.register_laws.specs.ReplayKeeps.{AreInOrder, IsKeptPosition}
+use Rattle.register_machine.proofs.ListItems.{all-of, any-counted}
 use Rattle.register_machine.specs.corrections.Cash.{outstanding, outstanding_in}
 use Rattle.register_machine.specs.journal.Journals.{Journal}
 use Rattle.register_machine.specs.journal.Kinds.{accounts_of, classes_of}

@@ -21,7 +21,7 @@ use Rattle.forward_price.specs.Turns.{pricing_pairs}
 use Rattle.forward_price.specs.declared.price_sheet.Opening.{Opening}
 use Rattle.forward_price.specs.declared.price_sheet.Sheet.{Sheet}
 use Rattle.fund_calendar.specs.PricingDays.{longest_span}
-use Rattle.limit_laws.proofs.Counting.{all-of, counted-once, counts-more, few-matched, matched, none-counted, sum-within}
+use Rattle.limit_laws.proofs.Counting.{counted-once, counts-more, few-matched, matched, none-counted, sum-within}
 use Rattle.limit_laws.specs.Counts.{HasFewThings, most_accounts, most_listings, prices_listed, sheets_listing}
 use Rattle.limit_laws.specs.InForm.{AreInForm, IsInForm, SaysInForm}
 use Rattle.register_laws.proofs.Comparisons.{eq-yes}
@@ -33,6 +33,7 @@ use Rattle.register_laws.specs.Identities.{is_class, is_household}
 use Rattle.register_laws.specs.Lawful.{book_behind}
 use Rattle.register_laws.specs.NamesStand.{has_its_household}
 use Rattle.register_laws.specs.Priced.{IsWithFewSheets, KeepsFewSheets, is_sheet_of}
+use Rattle.register_machine.proofs.ListItems.{all-of}
 use Rattle.register_machine.specs.journal.Journals.{Journal}
 use Rattle.register_machine.specs.journal.Kinds.{accounts_of, classes_of, each_in, households_of, price_fix_in, replacement_in}
 use Rattle.register_machine.specs.journal.Lawful.{IsLawful}

@@ -4,8 +4,8 @@ use Rattle.std.proofs.Math.Nat.{mul-le-mul_left}
 use Rattle.std.proofs.lemmas.List.Elements.{Contains-get_or}
 use Rattle.std.proofs.lemmas.List.Sums.{sum_by-cons, sum_by-le-sum_by}
 use Rattle.forward_price.proofs.OrderlyFacts.{any_from}
-use Rattle.limit_laws.proofs.Counting.{any-counted}
 use Rattle.register_laws.proofs.Sums.{passing, sum-none, sums-exchange}
+use Rattle.register_machine.proofs.ListItems.{any-counted}
 
 -- each move is of one row at most
 pub key-sum : {Row Move : Type 0} (match : Row → Move → Bool) (amount : Move → ℕ) (rows : List Row) (moves : List Move) → ((move : Move) → count_by (λ row. match row move) rows ≤ 1) → sum_by (λ row. sum_by (λ move. cond (match row move) (amount move) 0) moves) rows ≤ sum_by amount moves

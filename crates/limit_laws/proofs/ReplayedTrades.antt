@@ -1,5 +1,5 @@
 -- The trades of a replay, sheet by sheet: each sheet adds few, and each trade is small.
-use Rattle.std.proofs.Common.{All, List, Some, [], ap, append_assoc, arith, length, refl, slice_get, subst, suc, sym, take, zero, ℕ, ◌++◌, ◌+◌, ◌<◌, ◌∙◌, ◌∷◌, ◌≡◌, ◌≤◌}
+use Rattle.std.proofs.Common.{All, List, Some, [], ap, append_assoc, arith, length, slice_get, subst, suc, sym, take, zero, ℕ, ◌++◌, ◌+◌, ◌∙◌, ◌≡◌, ◌≤◌}
 use Rattle.std.proofs.lemmas.List.Elements.{All-append, All-nil, All-weaker}
 use Rattle.std.proofs.lemmas.List.Sums.{fold_more}
 use Rattle.std.proofs.lemmas.Option.{get_or_from_slice_get, slice_get_within}
@@ -14,6 +14,7 @@ use Rattle.register_laws.proofs.LotsCounted.{counted_to}
 use Rattle.register_laws.proofs.OrdersInTurn.{rows-standing}
 use Rattle.register_laws.proofs.RegistersKept.{at-last}
 use Rattle.register_laws.specs.ReplayKeeps.{RowInRange, SheetInRange}
+use Rattle.register_machine.proofs.ListItems.{item-there}
 use Rattle.register_machine.specs.pricing.CorrectedBook.{Book}
 use Rattle.register_machine.specs.replay.DayStep.{day_step}
 use Rattle.register_machine.specs.replay.Dividend.{day_after_dividends}
@@ -70,16 +71,11 @@ sheets_add_few_trades book limited place sheet is =
 
 -- ---- along the sheets
 
-at-place : {X : Type 0} (xs : List X) (place : ℕ) → place < length xs → (x : X) × (slice_get xs place ≡ Some x)
-at-place [] place short = absurd (omega arith)
-at-place (x ∷ xs) zero short = (x, refl)
-at-place (x ∷ xs) (suc place) short = at-place xs place (omega (arith, short))
-
 -- what each sheet's additions keep holds of the trades up to each place
 pub along : (book : Book) → IsLimited book → (K : ℕ → List Trade → Type 0) → K 0 [] → ((place : ℕ) (sheet : Sheet) → slice_get book.table.sheets place ≡ Some sheet → (before after : List Trade) → AddsFewTrades book sheet before after → K place before → K (place + 1) after) → (place : ℕ) → place ≤ length book.table.sheets → K place (replay_to book place).trades
 along book limited K first keeps zero within = first
 along book limited K first keeps (suc place) within =
-    let here = at-place book.table.sheets place (omega (arith, within)) in
+    let here = item-there book.table.sheets place (omega (arith, within)) in
     let before = along book limited K first keeps place (omega (arith, within)) in
     let more : place + 1 ≡ suc place = omega arith in
     subst (λ n. K n (replay_to book n).trades) more

@@ -17,7 +17,7 @@ use Rattle.forward_price.specs.declared.price_sheet.Sheet.{Sheet}
 use Rattle.letter_of_intent.specs.Letters.{load_due, rate_earned}
 use Rattle.letter_of_intent.specs.declared.letter.Letter.{Letter}
 use Rattle.limit_laws.proofs.AddedTrades.{Adds, adds-both, adds-fewer, adds-none}
-use Rattle.limit_laws.proofs.Counting.{any-counted, sum-within}
+use Rattle.limit_laws.proofs.Counting.{sum-within}
 use Rattle.limit_laws.proofs.FewPositions.{PositionsStand, few-in-class}
 use Rattle.limit_laws.proofs.SmallTurns.{few-mils, turn-small}
 use Rattle.limit_laws.specs.Counts.{positions_in}
@@ -30,11 +30,12 @@ use Rattle.offering_price.specs.Accumulation.{bracket}
 use Rattle.register_laws.proofs.Comparisons.{eq-yes}
 use Rattle.register_laws.proofs.DayTurns.{dividend-turns, letter_end-turns, order-turns, reinvested, settled_by, trades_added, with_letter_ended}
 use Rattle.register_laws.proofs.HouseholdCredit.{FoundAs, found-as}
-use Rattle.register_laws.proofs.PositionsInOrder.{own-account, put-all}
 use Rattle.register_laws.proofs.RegistersStand.{RegisterStands, looked_up-stands, turn-stands}
 use Rattle.register_laws.proofs.ReplayTurns.{All-one}
 use Rattle.register_laws.proofs.Sums.{found-of, sums-exchange}
 use Rattle.register_laws.specs.ReplayKeeps.{AreKeptLetters, IsWithinLimits, KeepsLetter, RowInRange, SheetInRange, TermsWithinLimits}
+use Rattle.register_machine.proofs.FoundFacts.{own-account, put-all}
+use Rattle.register_machine.proofs.ListItems.{any-counted}
 use Rattle.register_machine.specs.journal.Kinds.{class_numbered}
 use Rattle.register_machine.specs.pricing.CorrectedBook.{Book, front_of}
 use Rattle.register_machine.specs.pricing.DividendRates.{rate_at}

@@ -6,10 +6,10 @@ use Rattle.gain_loss_book.specs.Posted.{cents_moved}
 use Rattle.limit_laws.specs.InForm.{AreInForm}
 use Rattle.limit_laws.specs.Limited.{IsCounted, IsLimited}
 use Rattle.register_laws.specs.Lawful.{book_behind}
-use Rattle.register_laws.specs.Trades.{if_filled}
 use Rattle.register_machine.specs.corrections.Cash.{movements_in}
 use Rattle.register_machine.specs.journal.Journals.{Journal}
 use Rattle.register_machine.specs.pricing.CorrectedBook.{Book}
+use Rattle.register_machine.specs.replay.Movements.{if_filled}
 use Rattle.register_machine.specs.replay.Replay.{replay}
 
 -- the cents that a trade moves between parties: those of a reinvested dividend go and come back

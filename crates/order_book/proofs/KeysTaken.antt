@@ -19,8 +19,8 @@ use Rattle.order_book.specs.Indexes.{key_text, same_text}
 use Rattle.order_book.specs.Kept.{KeepsKeys}
 use Rattle.order_book.specs.declared.keys.KeyText.{KeyText}
 use Rattle.order_book.specs.declared.keys.Keys.{Keys}
-use Rattle.register_laws.proofs.PositionsInOrder.{option_or-none}
 use Rattle.register_laws.proofs.Tests.{is-false}
+use Rattle.register_machine.proofs.FoundFacts.{option_or-none}
 use Rattle.register_machine.specs.journal.Journals.{Journal, with_event}
 
 front : (a pad : List ℕ) → take (length a) (a ++ pad) ≡ a

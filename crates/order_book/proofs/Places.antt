@@ -4,7 +4,7 @@ use Rattle.std.proofs.lemmas.Iterator.Adapters.{position_from-zero}
 use Rattle.std.specs.List.{position, position_from, slice_get}
 use Rattle.std.specs.Option.{option_or, unwrap_or}
 use Rattle.std.specs.Prelude.{option_and_then}
-use Rattle.register_laws.proofs.PositionsInOrder.{option_or-none}
+use Rattle.register_machine.proofs.FoundFacts.{option_or-none}
 
 from-more : {X : Type 0} (test : X → Bool) (place : ℕ) (xs : List X) (x : X) → position_from test place (xs ++ x ∷ []) ≡ option_or (position_from test place xs) (cond (test x) (Some (place + length xs)) None)
 from-more {X} test place [] x = ap (λ at. cond (test x) (Some at) None) at

@@ -1,15 +1,16 @@
 -- Rows of events in form are those of one journal alone, so no row of a lawful journal is a bad one.
-use Rattle.std.proofs.Common.{List, Some, [], ap, arith, drop, length, option_map, slice_get, subst, suc, sym, take, zero, ℕ, ◌++◌, ◌+◌, ◌<◌, ◌∙◌, ◌∷◌, ◌≡◌, refl}
+use Rattle.std.proofs.Common.{List, Some, [], ap, drop, option_map, slice_get, subst, sym, take, ℕ, ◌++◌, ◌+◌, ◌<◌, ◌∙◌, ◌∷◌, ◌≡◌, refl}
 use Rattle.std.specs.Prelude.{All}
 use Rattle.std.proofs.lemmas.List.{length-map, take-append-drop, take-map}
 use Rattle.std.proofs.lemmas.List.Elements.{All-head, All-tail, All-take}
-use Rattle.std.proofs.lemmas.Option.{none-some, same_Some, slice_get-map}
+use Rattle.std.proofs.lemmas.Option.{slice_get-map}
 use Rattle.agent_events.specs.Events.{Event}
 use Rattle.event_rows.specs.InForm.{InForm}
 use Rattle.event_rows.specs.Rows.{event_row}
 use Rattle.register_desk.proofs.RowsOfJournals.{take_next}
 use Rattle.register_desk.specs.Rows.{IsDamagedAt, IsFirstBad, rows_of}
 use Rattle.register_laws.proofs.LawfulJournals.{lawful-before}
+use Rattle.register_machine.proofs.ListItems.{item-there, has-at}
 use Rattle.register_machine.specs.journal.Journals.{Journal, with_event}
 use Rattle.register_machine.specs.journal.Lawful.{IsLawful}
 
@@ -42,18 +43,6 @@ one_journal none (event ∷ journal) (second ∷ other) fits suits same =
     (one_journal none journal other (All-tail InForm event journal fits) (All-tail InForm second other suits)
     (tail-of (event_row event) (event_row second) (rows_of journal) (rows_of other) same))
 
--- an event within a list
-event-there : {X : Type 0} (xs : List X) (place : ℕ) → place < length xs → (x : X) × (slice_get xs place ≡ Some x)
-event-there [] place within = absurd (omega (arith, within))
-event-there (x ∷ xs) zero within = (x, refl)
-event-there (x ∷ xs) (suc place) within = event-there xs place (omega (arith, within))
-
--- an item of a list all of whose items have a property has it
-has-it : {X : Type 0} (P : X → Type 0) (xs : List X) (place : ℕ) (x : X) → All P xs → slice_get xs place ≡ Some x → P x
-has-it P [] place x all there = absurd (none-some x there)
-has-it P (first ∷ xs) zero x all there = subst P (same_Some first x there) (All-head P first xs all)
-has-it P (first ∷ xs) (suc place) x all there = has-it P xs place x (All-tail P first xs all) there
-
 lawful-take : (journal : Journal) (count : ℕ) → IsLawful journal → IsLawful (take count journal)
 lawful-take journal count lawful = lawful-before (take count journal) (drop count journal) (subst IsLawful (sym (take-append-drop count journal)) lawful)
 
@@ -64,10 +53,10 @@ not_damaged none journal lawful in_form place damaged = bad.bad there.0 fits row
     bad = damaged.1
 
     there : (event : Event) × (slice_get journal place ≡ Some event)
-    there = event-there journal place (subst (λ n. place < n) (length-map journal event_row) damaged.0)
+    there = item-there journal place (subst (λ n. place < n) (length-map journal event_row) damaged.0)
 
     fits : InForm there.0
-    fits = has-it InForm journal place there.0 in_form there.1
+    fits = has-at InForm journal place there.0 in_form there.1
 
     row : slice_get (rows_of journal) place ≡ Some (event_row there.0)
     row = slice_get-map event_row journal place ∙ ap (option_map event_row) there.1

@@ -8,9 +8,10 @@ use Rattle.letter_of_intent.specs.declared.letter.Letter.{Letter}
 use Rattle.register_laws.proofs.Comparisons.{eq-yes}
 use Rattle.register_laws.proofs.LotParts.{parts}
 use Rattle.register_laws.proofs.LotTotals.{frees}
-use Rattle.register_laws.proofs.PositionsInOrder.{mass, once, own-mass, put-all, put-elsewhere, put-sum}
+use Rattle.register_laws.proofs.PositionsInOrder.{mass, once, own-mass, put-elsewhere, put-sum}
 use Rattle.register_laws.proofs.Sums.{found-of, sum-filtered}
 use Rattle.register_laws.specs.ReplayKeeps.{AreInOrder}
+use Rattle.register_machine.proofs.FoundFacts.{put-all}
 use Rattle.register_machine.specs.replay.Positions.{Position, Register, fresh_position, is_fresh, is_position, position_of, put}
 use Rattle.share_lots.proofs.LotLemmas.{sum_by-filter-le}
 use Rattle.share_lots.specs.declared.lot.Lot.{Lot}

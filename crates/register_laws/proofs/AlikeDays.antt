@@ -22,7 +22,7 @@ use Rattle.money_units.specs.Rounding.{half}
 use Rattle.offering_price.specs.Accumulation.{bracket}
 use Rattle.offering_price.specs.Purchase.{split_of}
 use Rattle.offering_price.specs.declared.purchase.Split.{Split}
-use Rattle.register_laws.proofs.PositionsInOrder.{own-account, own-class}
+use Rattle.register_machine.proofs.FoundFacts.{own-account, own-class}
 use Rattle.register_machine.specs.journal.Choices.{first_some, when}
 use Rattle.register_machine.specs.pricing.CorrectedBook.{Book, front_of, schedule_of}
 use Rattle.register_machine.specs.pricing.OrderClasses.{class_of, target_of}

@@ -10,8 +10,8 @@ use Rattle.forward_price.specs.declared.price_sheet.Sheet.{Sheet}
 use Rattle.offering_price.specs.Accumulation.{credit}
 use Rattle.register_laws.proofs.AlikeDays.{BodyCounts}
 use Rattle.register_laws.proofs.OrdersInTurn.{rows-standing}
-use Rattle.register_laws.proofs.PositionsInOrder.{put-all}
 use Rattle.register_laws.proofs.StepsAlike.{Counts, PositionCounts, PriceAlike, RowCounts, SheetAlike, step-after}
+use Rattle.register_machine.proofs.FoundFacts.{put-all}
 use Rattle.register_machine.specs.journal.Kinds.{household_of}
 use Rattle.register_machine.specs.pricing.CorrectedBook.{Book, counts, front_of, schedule_of}
 use Rattle.register_machine.specs.pricing.CorrectedOrders.{stands}

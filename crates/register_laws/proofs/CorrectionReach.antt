@@ -19,7 +19,6 @@ use Rattle.forward_price.specs.Sheets.{lists_all, lists_class, nav_on}
 use Rattle.forward_price.specs.declared.price_sheet.Sheet.{Sheet}
 use Rattle.register_laws.proofs.AlikeDays.{BodyCounts}
 use Rattle.register_laws.proofs.ClassesAlike.{SheetReads, TermsAlike, classes-replay, sheet_with}
-use Rattle.register_laws.proofs.HouseholdSheets.{none-all}
 use Rattle.register_laws.proofs.ListParts.{map-agree}
 use Rattle.register_laws.proofs.ReplayedAlone.{replayed_alone}
 use Rattle.register_laws.proofs.StepsAlike.{Counts}
@@ -27,6 +26,7 @@ use Rattle.register_laws.proofs.TablesAreOrderly.{lists-corrected}
 use Rattle.register_laws.proofs.Tests.{last-of-more, not-true}
 use Rattle.register_laws.specs.CorrectionReach.{IsBeforePrice, PriceLeavesBefore, RateLeavesBefore, book_with_price, book_with_rate, names_class, LeavesPart}
 use Rattle.register_laws.specs.Households.{own_book, part_of}
+use Rattle.register_machine.proofs.ListItems.{none-all}
 use Rattle.register_machine.specs.journal.Choices.{last_of}
 use Rattle.register_machine.specs.pricing.CorrectedBook.{Book, sheet_of}
 use Rattle.register_machine.specs.pricing.CorrectedOrders.{stands}

@@ -21,8 +21,8 @@ use Rattle.money_units.specs.Rounding.{half}
 use Rattle.offering_price.specs.Purchase.{split_at_price, mils_bought, offering_price, split_of}
 use Rattle.offering_price.specs.declared.purchase.Split.{Split}
 use Rattle.register_laws.proofs.Comparisons.{eq-yes, not-zero}
-use Rattle.register_laws.proofs.PositionsInOrder.{put-again}
 use Rattle.register_laws.specs.Trades.{stays_in_class}
+use Rattle.register_machine.proofs.PutAgain.{put-over}
 use Rattle.register_machine.specs.journal.Choices.{first_some, when}
 use Rattle.register_machine.specs.pricing.CorrectedBook.{Book, front_of, schedule_of}
 use Rattle.register_machine.specs.pricing.OrderClasses.{class_of, target_of}
@@ -331,7 +331,7 @@ lot-turns book sheet day row gross split is (Some letter) opened =
       turn = Turn.Reached row gross split letter is (record { open_letter = opened; reaches = so });
       rows = refl;
       keys = refl;
-      is = ap (λ (register : Register). let after : Day = record { register = register; trades = day.trades ++ bought_by sheet row gross split ∷ reached_by sheet day.register row ∷ [] } in after) (sym (put-again kept (release_all kept.holding) kept.in_cash None day.register))
+      is = ap (λ (register : Register). let after : Day = record { register = register; trades = day.trades ++ bought_by sheet row gross split ∷ reached_by sheet day.register row ∷ [] } in after) (sym (put-over (record kept { holding = release_all kept.holding; in_cash = kept.in_cash; letter = None }) kept day.register refl refl))
           ∙ ap (λ (trades : List Trade). let after : Day = record { register = put (released kept) (put kept day.register); trades = trades } in after) (sym (append_assoc day.trades (bought_by sheet row gross split ∷ []) (reached_by sheet day.register row ∷ [])));
     }
       where

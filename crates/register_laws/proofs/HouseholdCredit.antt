@@ -16,10 +16,11 @@ use Rattle.money_units.proofs.RoundingFacts.{half-le}
 use Rattle.money_units.specs.Rounding.{half}
 use Rattle.offering_price.specs.Accumulation.{credit, worth, worth_at}
 use Rattle.register_laws.proofs.Comparisons.{and-false}
-use Rattle.register_laws.proofs.PositionsInOrder.{Once, at_place, once, own-place}
+use Rattle.register_laws.proofs.PositionsInOrder.{Once, at_place, once}
 use Rattle.register_laws.proofs.RegistersStand.{RegisterStands, Stands}
 use Rattle.register_laws.proofs.Sums.{passing, sum-mapped, sums-exchange, zeros}
 use Rattle.register_laws.specs.ReplayKeeps.{AreInOrder, IsWithinLimits, SheetInRange, most_nav}
+use Rattle.register_machine.proofs.FoundFacts.{own-place}
 use Rattle.register_machine.specs.journal.Kinds.{account_numbered, class_numbered, household_of}
 use Rattle.register_machine.specs.pricing.CorrectedBook.{Book, counts}
 use Rattle.register_machine.specs.pricing.CorrectedOrders.{stands}

@@ -1,8 +1,8 @@
 -- A quiet sheet leaves the part of a household as it was, and its part goes on from any sheet.
 use Rattle.std.proofs.Common.{All, Bool, List, Option, [], ap, cond, false, filter, find, fold, get_or, map, not, refl, subst, sym, take, drop, true, unwrap_or, ℕ, ◌&&◌, ◌++◌, ◌==◌, ◌||◌, ◌∙◌, ◌∷◌, ◌≡◌, ◌≤◌}
-use Rattle.std.proofs.lemmas.Bool.{eqb-true, or_parts, true≢false}
+use Rattle.std.proofs.lemmas.Bool.{eqb-true, true≢false}
 use Rattle.std.proofs.lemmas.List.{take-append-drop, take-take}
-use Rattle.std.proofs.lemmas.List.Elements.{All-cons, All-filter, All-head, All-map, All-nil, All-tail, filter_passes}
+use Rattle.std.proofs.lemmas.List.Elements.{All-filter, All-head, All-map, All-tail, filter_passes}
 use Rattle.std.proofs.lemmas.List.Folds.{list_any_at}
 use Rattle.std.proofs.lemmas.List.Sums.{fold-append}
 use Rattle.std.specs.List.{list_any}
@@ -10,10 +10,11 @@ use Rattle.dividend_reinvest.specs.declared.payment.Payment.{Payment}
 use Rattle.forward_price.specs.declared.price_sheet.Sheet.{Sheet}
 use Rattle.register_laws.proofs.Comparisons.{eq-yes}
 use Rattle.register_laws.proofs.ListParts.{filter-none}
-use Rattle.register_laws.proofs.PositionsInOrder.{own-place, same-place}
 use Rattle.register_laws.proofs.ReplayedAlone.{orders-part, replayed_alone}
 use Rattle.register_laws.specs.HouseholdSheets.{QuietLeavesPart, is_paid_at, is_paid_in, is_paid_on, pays_something, IsQuiet, replay_from, sheets_between}
 use Rattle.register_laws.specs.Households.{own_book, own_orders, part_of}
+use Rattle.register_machine.proofs.FoundFacts.{own-place, same-place}
+use Rattle.register_machine.proofs.ListItems.{none-all}
 use Rattle.register_machine.specs.pricing.CorrectedBook.{Book}
 use Rattle.register_machine.specs.pricing.DividendRates.{rate_at}
 use Rattle.register_machine.specs.replay.DayStep.{day_step}
@@ -30,12 +31,6 @@ fold-idle : {X D : Type 0} (P : X → Type 0) (f : D → X → D) (z : D) → ((
 fold-idle P f z idle [] all = refl
 fold-idle P f z idle (x ∷ xs) all =
     ap (λ d. fold f d xs) (idle x (All-head P x xs all)) ∙ fold-idle P f z idle xs (All-tail P x xs all)
-
-pub none-all : {X : Type 0} (test : X → Bool) (xs : List X) → list_any test xs ≡ false → All (λ x. test x ≡ false) xs
-none-all test [] none = All-nil (λ x. test x ≡ false)
-none-all test (x ∷ xs) none =
-    let parts = or_parts (test x) (list_any test xs) none in
-    All-cons (λ y. test y ≡ false) x xs parts.0 (none-all test xs parts.1)
 
 -- what is found is one of those that pass
 found-one : {X : Type 0} (P : X → Type 0) (q : X → Bool) (d : X) (xs : List X) → All P xs → list_any q xs ≡ true → P (unwrap_or (find q xs) d) × (q (unwrap_or (find q xs) d) ≡ true)

@@ -22,6 +22,7 @@ use Rattle.register_laws.specs.Households.{is_of_household, is_own_position, is_
 use Rattle.register_laws.specs.Identities.{has_number, is_class, is_household}
 use Rattle.register_laws.specs.Lawful.{book_behind}
 use Rattle.register_laws.specs.NamesStand.{has_its_household, is_placed_in}
+use Rattle.register_machine.proofs.ListItems.{any-counted}
 use Rattle.register_machine.specs.corrections.Cash.{Movement, cash_of, cents_paid, cents_paid_in, cents_received, cents_received_in, movements_in, movements_of, outstanding, outstanding_in}
 use Rattle.register_machine.specs.journal.Journals.{Journal}
 use Rattle.register_machine.specs.journal.Kinds.{accounts_of, classes_of, household_of, households_of}
@@ -61,14 +62,6 @@ cash-total taken given a b (h ∷ households) =
 
 -- ---- each account of the journal is of one household
 
-pub some-pass : {X : Type 0} (test : X → Bool) (xs : List X) → list_any test xs ≡ true → 1 ≤ count_by test xs
-some-pass test [] e = absurd (true≢false (sym e))
-some-pass test (x ∷ xs) e =
-    elim (test x) as (λ b. (b || list_any test xs) ≡ true → count_by test (x ∷ xs) ≡ cond b 1 0 + count_by test xs → 1 ≤ count_by test (x ∷ xs)) [
-      | true ↦ λ h s. omega (arith, s)
-      | false ↦ λ h s. omega (arith, s, some-pass test xs h)
-    ] e (sum_by-cons (λ y. cond (test y) 1 0) x xs)
-
 -- an account that stands has its form, and that one has what all have
 form-found : {X : Type 0} (has test : X → Bool) (xs : List X) → list_all has xs ≡ true → list_any test xs ≡ true → (x : X) × (find test xs ≡ Some x) × (has x ≡ true)
 form-found has test [] all some = absurd (true≢false (sym some))
@@ -85,7 +78,7 @@ owned-once journal lawful number stands_there =
     let forms = households_of journal in
     let test = is_household found.0.household in
     let few : count_by test forms ≤ 1 = subst (λ n. n ≤ 1) (length-filter test forms) (no_household_twice journal lawful found.0.household) in
-    let some = some-pass test forms found.2 in
+    let some = any-counted test forms found.2 in
     let owner = ap (λ form. option_map (λ (a : AccountForm). a.household) form) found.1 in
     count-map (λ household. is_of_household (accounts_of journal) household number) (λ (form : HouseholdForm). form.household) forms
     ∙ (sum-same (λ (form : HouseholdForm). cond (is_of_household (accounts_of journal) form.household number) 1 0) (λ (form : HouseholdForm). cond (test form) 1 0) (λ form. same form (household_of (accounts_of journal) number) found.0.household owner) forms

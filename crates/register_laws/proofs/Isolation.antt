@@ -7,6 +7,7 @@ use Rattle.std.proofs.lemmas.Option.{slice_get_cases}
 use Rattle.std.specs.List.{list_any, position_or_len}
 use Rattle.std.specs.Option.{option_map_or}
 use Rattle.std.specs.Prelude.{codes, drop, flat_map}
+use Rattle.fund_calendar.proofs.LookUpLemmas.{find_passes}
 use Rattle.register_machine.specs.pricing.PublishedTable.{table_of}
 use Rattle.agent_events.specs.Contents.{same_request}
 use Rattle.agent_events.specs.Events.{Event, request_of}
@@ -283,14 +284,6 @@ pub record ReplaysAlike (book other : Book) (account : ℕ) : Type 0 where
   pub traded : (ref_no : ℕ) → find (is_trade_of account ref_no) (replay book).trades ≡ find (is_trade_of account ref_no) (replay other).trades
   pub in_period : (form : StatementForm) → form.account ≡ account → filter (is_in_period form) (replay book).trades ≡ filter (is_in_period form) (replay other).trades
 
-pub find-passes : {X : Type 0} (p : X → Bool) (xs : List X) (x : X) → find p xs ≡ Some x → p x ≡ true
-find-passes p [] x e = absurd (none_some e)
-find-passes {X = X} p (y ∷ ys) x e = by (p y) refl e (find-passes p ys x)
-  where
-    by : (b : Bool) → p y ≡ b → cond b (Some y) (find p ys) ≡ Some x → (find p ys ≡ Some x → p x ≡ true) → p x ≡ true
-    by true is e rest = let same : y ≡ x = cc in ap p (sym same) ∙ is
-    by false is e rest = rest e
-
 trace-row : (base : Base) (one other : Parts) (account : ℕ) → ReplaysAlike (book_at base one) (book_at base other) account → (row : OrderRow) → row.order.account ≡ account → trace_of_row (book_at base one) row ≡ trace_of_row (book_at base other) row
 trace-row base one other account alike row by =
     ap (λ found. cond row.struck (bare_trace row OrderState.Struck (unwrap_or (due_moment (book_at base one) row) 0)) (trace_by (book_at base one) row found))
@@ -302,7 +295,7 @@ trace-same base one other account ref_no alike None (Some y) is e = absurd (none
 trace-same base one other account ref_no alike (Some x) None is e = absurd (some_none e)
 trace-same base one other account ref_no alike (Some x) (Some y) is e =
     let same = ap (λ (o : Option OrderRow). unwrap_or o (unplaced x)) e in
-    let named = find-passes (λ row. is_named account ref_no row.order) one.orders x is in
+    let named = find_passes (λ row. is_named account ref_no row.order) one.orders x is in
     ap Reply.Trace (trace-row base one other account alike x (eqb-true x.order.account account (and_parts (x.order.account == account) (x.order.ref_no == ref_no) named).0))
     ∙ ap (λ row. Reply.Trace (trace_of_row (book_at base other) row)) same
 

@@ -7,8 +7,8 @@ use Rattle.agent_events.specs.declared.trade.Trade.{Trade}
 use Rattle.forward_price.specs.PriceTables.{with_prices}
 use Rattle.forward_price.specs.declared.price_sheet.Sheet.{Sheet}
 use Rattle.register_laws.proofs.OrdersInTurn.{rows-standing}
-use Rattle.register_laws.proofs.PositionsInOrder.{put-all}
 use Rattle.register_laws.proofs.StepsAlike.{PositionCounts, RowCounts, SheetAlike, step-after}
+use Rattle.register_machine.proofs.FoundFacts.{put-all}
 use Rattle.register_machine.specs.pricing.CorrectedBook.{Book}
 use Rattle.register_machine.specs.pricing.CorrectedOrders.{stands}
 use Rattle.register_machine.specs.replay.DayStep.{day_step}

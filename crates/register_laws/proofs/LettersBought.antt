@@ -9,10 +9,11 @@ use Rattle.letter_of_intent.specs.Letters.{after_purchase}
 use Rattle.letter_of_intent.specs.declared.letter.Letter.{Letter}
 use Rattle.register_laws.proofs.Comparisons.{and-false, eq-yes}
 use Rattle.register_laws.proofs.DayTurns.{Turn, bought_by, elected_by, exchanged_by, position_asked, positions_put, reached_by, reinvested, released, settled_by, sold_by, trade_of, trades_added, with_all_put, with_letter_begun, with_letter_ended, with_lot_of, with_note_of, with_pieces_of}
-use Rattle.register_laws.proofs.PositionsInOrder.{not-before, own-account, own-class, put-all, same-place}
+use Rattle.register_laws.proofs.PositionsInOrder.{not-before}
 use Rattle.register_laws.proofs.ReplayTurns.{All-one, AnyKey, AnyRow, TurnsKeep, any-all}
 use Rattle.register_laws.proofs.Sums.{found-of}
 use Rattle.register_laws.specs.LettersBought.{IsBoughtIn, IsBoughtSince, IsBoughtWhereOpen, LettersAreBought, gross_by, gross_in, is_trade_of, turns_letter, turns_letter_in}
+use Rattle.register_machine.proofs.FoundFacts.{own-account, own-class, put-all, same-place}
 use Rattle.register_machine.specs.pricing.CorrectedBook.{Book}
 use Rattle.register_machine.specs.pricing.OrderClasses.{class_of}
 use Rattle.register_machine.specs.replay.Dividend.{cash_dividend_trade, dividend_trade}

@@ -61,10 +61,12 @@ pub mod RowsFit
 pub mod NamesStand
 pub mod FixesOnePrice
 pub mod ListParts
+pub mod OrdersStanding
 pub mod PartPlaces
 pub mod AlikeDays
 pub mod StepsAlike
 pub mod ReplayedAlone
+pub mod TurnsFiltered
 pub mod PlacesLeftOut
 pub mod ViewBooks
 pub mod HouseholdSheets

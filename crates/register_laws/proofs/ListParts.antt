@@ -1,14 +1,14 @@
 -- Parts of lists: what a filter leaves of another filter, of a map and of a list cut in two, and folds over a part.
-use Rattle.std.proofs.Common.{Bool, List, None, Option, Some, [], ap, cond, false, filter, find, fold, is_some, map, refl, sym, true, ◌++◌, ◌||◌, ◌∙◌, ◌∷◌, ◌≡◌}
+use Rattle.std.proofs.Common.{Bool, List, None, Option, Some, [], ap, cond, false, filter, fold, is_some, map, refl, sym, true, ◌++◌, ◌||◌, ◌∙◌, ◌∷◌, ◌≡◌}
 use Rattle.std.proofs.lemmas.Bool.{true≢false}
-use Rattle.std.proofs.lemmas.List.Elements.{All-append, All-head, All-tail}
-use Rattle.std.proofs.lemmas.List.Kept.{AllPairs-cons}
+use Rattle.std.proofs.lemmas.List.Elements.{All-head, All-tail}
 use Rattle.std.specs.List.{list_any}
 use Rattle.std.specs.Prelude.{All, AllPairs}
 use Rattle.register_laws.proofs.Tests.{find-any}
 use Rattle.register_machine.specs.journal.Choices.{last_of}
 use Rattle.share_lots.proofs.LotLemmas.{AllPairs-head, AllPairs-tail}
-pub use Rattle.register_machine.proofs.FilterFacts.{filter-all, filter-none, filter-within}
+pub use Rattle.register_machine.proofs.ListItems.{pairs-append}
+pub use Rattle.register_machine.proofs.FilterFacts.{filter-all, filter-none, filter-within, found-within}
 
 -- ---- two states in a relation, of which the second takes no step but the own ones
 
@@ -67,17 +67,6 @@ filter-known p q [] all = refl
 filter-known p q (x ∷ xs) all =
     ap (λ b. cond b (x ∷ filter p xs) (filter p xs)) (All-head (λ x. p x ≡ q x) x xs all)
     ∙ ap (λ rest. cond (q x) (x ∷ rest) rest) (filter-known p q xs (All-tail (λ x. p x ≡ q x) x xs all))
-
--- what is found among those that pass
-pub found-within : {X : Type 0} (p q : X → Bool) → ((x : X) → q x ≡ true → p x ≡ true) → (xs : List X) → find q (filter p xs) ≡ find q xs
-found-within p q within [] = refl
-found-within p q within (x ∷ xs) = by (p x) (q x) refl refl (found-within p q within xs)
-  where
-    by : (a b : Bool) → p x ≡ a → q x ≡ b → find q (filter p xs) ≡ find q xs → find q (cond a (x ∷ filter p xs) (filter p xs)) ≡ cond b (Some x) (find q xs)
-    by true b first second rest =
-        ap (λ c. cond c (Some x) (find q (filter p xs))) second ∙ ap (λ found. cond b (Some x) found) rest
-    by false false first second rest = rest
-    by false true first second rest = absurd (true≢false (sym (within x second) ∙ first))
 
 pub map-agree : {X Y : Type 0} (f g : X → Y) → ((x : X) → f x ≡ g x) → (xs : List X) → map f xs ≡ map g xs
 map-agree f g agree [] = refl
@@ -152,10 +141,3 @@ filter-sides {X = X} own less more R apart other past (x ∷ xs) ordered =
         ∙ sym (ap (λ c. cond c (x ∷ filter own xs) (filter own xs)) mine)))))
 
 -- ---- pairs in order
-
-pub pairs-append : {X : Type 0} (R : X → X → Type 0) (xs ys : List X) → AllPairs R xs → AllPairs R ys → All (λ x. All (R x) ys) xs → AllPairs R (xs ++ ys)
-pairs-append R [] ys left right across = right
-pairs-append R (x ∷ xs) ys left right across =
-    AllPairs-cons R x (xs ++ ys)
-    (All-append (R x) xs ys (AllPairs-head R x xs left) (All-head (λ y. All (R y) ys) x xs across))
-    (pairs-append R xs ys (AllPairs-tail R x xs left) right (All-tail (λ y. All (R y) ys) x xs across))

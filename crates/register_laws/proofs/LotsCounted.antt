@@ -15,12 +15,12 @@ use Rattle.register_laws.proofs.DayTurns.{Turn, goes-elsewhere, position_asked, 
 use Rattle.register_laws.proofs.LotParts.{added-grows, bought-parts, carried-owned, paid-parts, pieces-grows, release-parts, taken-parts}
 use Rattle.register_laws.proofs.LotTotals.{hold-frees, one-free, release-frees}
 use Rattle.register_laws.proofs.OrdersInTurn.{executed-few, rows-standing}
-use Rattle.register_laws.proofs.PositionsInOrder.{own-account, own-class}
 use Rattle.register_laws.proofs.RegistersStand.{Beside, KeptBeside, RegisterStands, Stands, beside, first-stands, looked_up-stands}
 use Rattle.register_laws.proofs.ReplayTurns.{AnyKey, at_turn-kept, done_at, done_with, executed, first-sheets, over-kept}
 use Rattle.register_laws.proofs.Sums.{count-map}
 use Rattle.register_laws.specs.OrderTurns.{OrderTurn, register_at}
 use Rattle.register_laws.specs.Trades.{IsOrderly, LeavesItsClass, is_order_of}
+use Rattle.register_machine.proofs.FoundFacts.{own-account, own-class}
 use Rattle.register_machine.specs.pricing.CorrectedBook.{Book}
 use Rattle.register_machine.specs.pricing.CorrectedOrders.{stands}
 use Rattle.register_machine.specs.pricing.OrderClasses.{class_of}

@@ -16,6 +16,7 @@ use Rattle.agent_events.specs.declared.request.CalendarForm.{CalendarForm}
 use Rattle.agent_events.specs.declared.request.CloseForm.{CloseForm}
 use Rattle.agent_events.specs.declared.request.FixPriceForm.{FixPriceForm}
 use Rattle.agent_events.specs.declared.request.Request.{Request}
+use Rattle.forward_price.proofs.OrderFacts.{closed_number}
 use Rattle.forward_price.proofs.TurnFacts.{expected_best}
 use Rattle.forward_price.specs.PriceTables.{Table, calendar_numbered, closed_in, is_priced_day, is_sheet_at, sheet_published, without_day_of}
 use Rattle.forward_price.specs.Turns.{expected_of, fault_of, is_offered_at, is_pair, list_fault, wrong_class}
@@ -98,17 +99,10 @@ unfolding new_calendar
 listing-number form = rule-number (read_zone form.zone) (calendar_terms form)
 
 -- a closure keeps the numbers
-pub closed-number : (calendar day : ℕ) (c : Listing) → (closed_in calendar day c).number ≡ c.number
-closed-number calendar day c =
-    elim (c.number == calendar) as (λ b. (cond b (without_day c day) c).number ≡ c.number) [
-      | true ↦ refl
-      | false ↦ refl
-    ]
-
 closed-numbers : (calendar day number : ℕ) (calendars : List Listing) → list_any (is_numbered number) (map (closed_in calendar day) calendars) ≡ list_any (is_numbered number) calendars
 closed-numbers calendar day number [] = refl
 closed-numbers calendar day number (c ∷ calendars) =
-    ap (λ n. n == number || list_any (is_numbered number) (map (closed_in calendar day) calendars)) (closed-number calendar day c)
+    ap (λ n. n == number || list_any (is_numbered number) (map (closed_in calendar day) calendars)) (closed_number calendar day c)
     ∙ ap (λ b. c.number == number || b) (closed-numbers calendar day number calendars)
 
 calendar-step : (number : ℕ) (table : Table) (moment : ℕ) (kind : EventKind) → sees_calendar number (table_by table moment kind) ≡ (sees_calendar number table || option_map_or (is_calendar number) (calendar_in kind) false)

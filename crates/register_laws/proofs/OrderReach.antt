@@ -18,21 +18,22 @@ use Rattle.forward_price.specs.declared.price_sheet.Sheet.{Sheet}
 use Rattle.register_laws.proofs.BooksGoOn.{book_goes_on_by, touches_nothing}
 use Rattle.register_laws.proofs.Choosing.{none_some}
 use Rattle.register_laws.proofs.CorrectionReach.{leaves-part, price-replay, price_leaves_before, rate-replay, rate_leaves_before}
-use Rattle.register_laws.proofs.HouseholdSheets.{none-all}
 use Rattle.register_laws.proofs.ListParts.{filter-all, filter-map, filter-swap, fold-known, maps-agree}
 use Rattle.register_laws.proofs.LawfulJournals.{lawful-before}
+use Rattle.register_laws.proofs.OrdersStanding.{orders-standing, standing_on}
 use Rattle.register_laws.proofs.SheetsClimb.{sheets-before}
 use Rattle.register_laws.proofs.StepsAlike.{books_step_alike}
 use Rattle.register_laws.specs.CorrectionReach.{IsOnNone, LawfulEventReach, LeavesPart, TriedEventReach, book_with_price, book_with_rate, is_on_sheet, order_changed}
 use Rattle.register_laws.specs.Households.{is_of_household, own_book, own_orders}
 use Rattle.register_laws.specs.Lawful.{book_behind}
 use Rattle.register_laws.specs.OneEventMore.{TouchesNothing, book_after, orders_after, replaced_by, struck_by}
+use Rattle.register_machine.proofs.ListItems.{none-all}
 use Rattle.register_machine.specs.journal.Journals.{Journal, with_event}
 use Rattle.register_machine.specs.journal.Kinds.{accounts_of}
 use Rattle.register_machine.specs.pricing.CorrectedBook.{Book}
 use Rattle.register_machine.specs.pricing.CorrectedOrders.{is_named, replaces, row_as_sent, stands}
 use Rattle.register_machine.specs.replay.DayStep.{day_step}
-use Rattle.register_machine.specs.replay.Replay.{Priced, all_in_turn, day_after_sheet, first_day, is_priced_on, orders_on, priced_in, priced_orders, replay, replay_over, replay_to}
+use Rattle.register_machine.specs.replay.Replay.{all_in_turn, day_after_sheet, first_day, is_priced_on, orders_on, priced_in, priced_orders, replay, replay_over, replay_to}
 use Rattle.register_machine.specs.replay.Trades.{Day}
 use Rattle.register_machine.specs.pricing.CorrectedPrices.{sheet_as_corrected}
 
@@ -159,26 +160,13 @@ own-same book orders household same =
     leaves-part book (with_orders book orders) household (λ sheets. sheets) refl refl (λ number. refl)
     (λ sheets. ap (λ (rows : List OrderRow). replay_over (with_orders (own_book household book) rows) sheets) (sym same))
 
--- the standing orders of a list that a sheet prices
-abbrev standing_on : List Sheet → List OrderRow → Sheet → List OrderRow
-standing_on sheets orders sheet = filter (λ row. is_priced_on sheet.number (priced_in sheets row)) (filter stands orders)
-
-orders-listed : (book : Book) (sheet : Sheet) → orders_on (priced_orders book) sheet ≡ all_in_turn (standing_on book.table.sheets book.orders sheet)
-orders-listed book sheet =
-    ap (λ priced. all_in_turn (map (λ (priced : Priced). priced.row) priced)) (filter-map (is_priced_on sheet.number) (priced_in book.table.sheets) (filter stands book.orders))
-    ∙ ap all_in_turn (rows-back (standing_on book.table.sheets book.orders sheet))
-  where
-    rows-back : (rows : List OrderRow) → map (λ (priced : Priced). priced.row) (map (priced_in book.table.sheets) rows) ≡ rows
-    rows-back [] = refl
-    rows-back (row ∷ rows) = ap (λ rest. row ∷ rest) (rows-back rows)
-
-same-replay : (book : Book) (orders : List OrderRow) (sheets : List Sheet) → All (λ (sheet : Sheet). standing_on book.table.sheets orders sheet ≡ standing_on book.table.sheets book.orders sheet) sheets → replay_over (with_orders book orders) sheets ≡ replay_over book sheets
+same-replay : (book : Book) (orders : List OrderRow) (sheets : List Sheet) → All (λ (sheet : Sheet). standing_on book.table.sheets orders sheet.number ≡ standing_on book.table.sheets book.orders sheet.number) sheets → replay_over (with_orders book orders) sheets ≡ replay_over book sheets
 same-replay book orders sheets same =
     let other = with_orders book orders in
-    fold-known (λ (sheet : Sheet). standing_on book.table.sheets orders sheet ≡ standing_on book.table.sheets book.orders sheet) (λ (d e : Day). d ≡ e)
+    fold-known (λ (sheet : Sheet). standing_on book.table.sheets orders sheet.number ≡ standing_on book.table.sheets book.orders sheet.number) (λ (d e : Day). d ≡ e)
     (day_after_sheet other (priced_orders other)) (day_after_sheet book (priced_orders book))
     (λ d e sheet here is.
-    ap (λ rows. day_step other sheet rows d) (orders-listed other sheet ∙ (ap all_in_turn here ∙ sym (orders-listed book sheet)))
+    ap (λ rows. day_step other sheet rows d) (orders-standing other sheet ∙ (ap all_in_turn here ∙ sym (orders-standing book sheet)))
     ∙ (books_step_alike other book sheet (orders_on (priced_orders book) sheet) d (record {
       price = λ class moment. refl;
       front = λ class. refl;
@@ -191,13 +179,13 @@ same-replay book orders sheets same =
     first_day first_day sheets same refl
 
 -- where the order isn't on a sheet, the others are all that are
-others-there : (sheets : List Sheet) (named : ℕ × ℕ) (sheet : Sheet) (orders : List OrderRow) → list_any (λ row. is_named named.0 named.1 row.order && (stands row && is_priced_on sheet.number (priced_in sheets row))) orders ≡ false → standing_on sheets orders sheet ≡ standing_on sheets (filter (λ row. not (is_named named.0 named.1 row.order)) orders) sheet
+others-there : (sheets : List Sheet) (named : ℕ × ℕ) (sheet : Sheet) (orders : List OrderRow) → list_any (λ row. is_named named.0 named.1 row.order && (stands row && is_priced_on sheet.number (priced_in sheets row))) orders ≡ false → standing_on sheets orders sheet.number ≡ standing_on sheets (filter (λ row. not (is_named named.0 named.1 row.order)) orders) sheet.number
 others-there sheets named sheet orders none =
     sym
     (ap (filter on) (filter-swap stands keep orders)
     ∙ (filter-swap on keep (filter stands orders)
-    ∙ filter-all keep (standing_on sheets orders sheet)
-    (λ k d short. kept (get_or (standing_on sheets orders sheet) k d)
+    ∙ filter-all keep (standing_on sheets orders sheet.number)
+    (λ k d short. kept (get_or (standing_on sheets orders sheet.number) k d)
     (All-filter on (λ row. off row ≡ false) (filter stands orders) (All-filter stands (λ row. off row ≡ false) orders (none-all off orders none)) k d short)
     (All-filter on (λ row. stands row ≡ true) (filter stands orders) (filter_passes stands orders) k d short)
     (filter_passes on (filter stands orders) k d short))))
@@ -218,10 +206,10 @@ others-there sheets named sheet orders none =
     kept : (row : OrderRow) → off row ≡ false → stands row ≡ true → on row ≡ true → keep row ≡ true
     kept row e second third = by (is_named named.0 named.1 row.order) (stands row) (on row) e second third
 
-standing-same : (book : Book) (kind : EventKind) (named : ℕ × ℕ) → order_changed kind ≡ Some named → (place : ℕ) (sheet : Sheet) → is_on_sheet book named sheet ≡ false → is_on_sheet (with_orders book (orders_after place book.orders kind)) named sheet ≡ false → standing_on book.table.sheets (orders_after place book.orders kind) sheet ≡ standing_on book.table.sheets book.orders sheet
+standing-same : (book : Book) (kind : EventKind) (named : ℕ × ℕ) → order_changed kind ≡ Some named → (place : ℕ) (sheet : Sheet) → is_on_sheet book named sheet ≡ false → is_on_sheet (with_orders book (orders_after place book.orders kind)) named sheet ≡ false → standing_on book.table.sheets (orders_after place book.orders kind) sheet.number ≡ standing_on book.table.sheets book.orders sheet.number
 standing-same book kind named is place sheet before behind =
     others-there book.table.sheets named sheet (orders_after place book.orders kind) behind
-    ∙ (ap (λ orders. standing_on book.table.sheets orders sheet) (orders-left (λ order. not (is_named named.0 named.1 order)) kind named is (λ order e. ap not e) place book.orders)
+    ∙ (ap (λ orders. standing_on book.table.sheets orders sheet.number) (orders-left (λ order. not (is_named named.0 named.1 order)) kind named is (λ order e. ap not e) place book.orders)
     ∙ sym (others-there book.table.sheets named sheet book.orders before))
 
 -- ---- an event behind a lawful journal

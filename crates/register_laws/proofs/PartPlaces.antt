@@ -3,9 +3,10 @@ use Rattle.std.proofs.Common.{Bool, [], ap, append-nil, cond, false, filter, map
 use Rattle.std.proofs.lemmas.Bool.{true≢false}
 use Rattle.std.proofs.lemmas.List.Elements.{filter-append}
 use Rattle.register_laws.proofs.ListParts.{filter-map, filter-sides, filter-swap, found-within}
-use Rattle.register_laws.proofs.PositionsInOrder.{Order, before-next, not-both, order-of, same-place}
+use Rattle.register_laws.proofs.PositionsInOrder.{Order, before-next, not-both, order-of}
 use Rattle.register_laws.specs.Households.{is_own_position}
 use Rattle.register_laws.specs.ReplayKeeps.{AreInOrder}
+use Rattle.register_machine.proofs.FoundFacts.{same-place}
 use Rattle.register_machine.specs.replay.Positions.{Position, PositionKey, Register, fresh_position, is_fresh, is_position, key_of, position_of, put, stands_before, unless_fresh}
 
 own-fresh : (own : ℕ → Bool) (p : Position) → own p.account ≡ true → filter (is_own_position own) (unless_fresh p) ≡ unless_fresh p

@@ -10,9 +10,9 @@ use Rattle.agent_events.specs.declared.order.Party.{Party}
 use Rattle.agent_events.specs.declared.request.AccountForm.{AccountForm}
 use Rattle.agent_events.specs.declared.request.ClassForm.{ClassForm}
 use Rattle.agent_events.specs.declared.request.DealerForm.{DealerForm}
+use Rattle.register_machine.proofs.ListItems.{any-counted}
 use Rattle.register_machine.specs.rules.Situations.{Situation}
 use Rattle.register_machine.specs.corrections.Cash.{Movement, balance, same_party}
-use Rattle.register_laws.proofs.HouseholdSums.{some-pass}
 use Rattle.register_laws.specs.CashBooks.{books_total, classes_cash, dealers_cash, times_among, total_balance}
 use Rattle.register_machine.specs.corrections.Gains.{class_numbers_of, dealer_numbers_of, in_its_place, rising_numbers}
 use Rattle.register_laws.specs.Identities.{NoAccountTwice, has_number, is_class, is_dealer}
@@ -139,7 +139,7 @@ same-both a b = elim (eqb_tells a b) [
 holder-once : (journal : Journal) (account : ℕ) → NoAccountTwice journal → Known journal (Party.Holder account) → count_by (same_party (Party.Holder account)) (map of_account (accounts_of journal)) ≡ 1
 holder-once journal account once known =
     let alike = counts-alike (Party.Holder account) of_account (has_number account) (λ form. same-both account form.account) (accounts_of journal) in
-    omega (arith, alike, some-pass (has_number account) (accounts_of journal) known, length-filter (has_number account) (accounts_of journal), once account)
+    omega (arith, alike, any-counted (has_number account) (accounts_of journal) known, length-filter (has_number account) (accounts_of journal), once account)
 
 pub stands-once : (journal : Journal) → NoAccountTwice journal → (party : Party) → Known journal party → times_among (booked_parties (class_numbers_of journal) (dealer_numbers_of journal) (accounts_of journal)) party ≡ 1
 stands-once journal once (Party.Holder account) known =

@@ -1,22 +1,18 @@
 -- The register: one position in each place, by account and then class, and what a position put into it changes.
-use Rattle.std.proofs.Common.{All, Bool, List, None, Option, Some, [], ap, append-nil, arith, cond, count_by, false, filter, find, get_or, inl, inr, is_none, length, nat_lt, not, refl, sum_by, sym, true, unwrap_or, ℕ, ◌&&◌, ◌++◌, ◌+◌, ◌<◌, ◌==◌, ◌∙◌, ◌∷◌, ◌≡◌, ◌≤◌, ◌⊎◌}
-use Rattle.std.proofs.lemmas.Bool.{and_from, and_parts, cases_lt, eqb-true, or_from, true≢false}
+use Rattle.std.proofs.Common.{All, Bool, [], ap, arith, cond, count_by, false, filter, get_or, inl, inr, nat_lt, refl, sum_by, sym, true, ℕ, ◌&&◌, ◌++◌, ◌+◌, ◌<◌, ◌==◌, ◌∙◌, ◌∷◌, ◌≡◌, ◌≤◌, ◌⊎◌}
+use Rattle.std.proofs.lemmas.Bool.{cases_lt, or_from, true≢false}
 use Rattle.std.proofs.lemmas.Bool.Decides.{Decides-and, Decides-eqb, Decides-ltb, Decides-or}
-use Rattle.std.proofs.lemmas.List.Elements.{All-append, All-cons, All-filter, All-head, All-nil, All-tail, filter-append, filter_passes}
-use Rattle.std.proofs.lemmas.List.Folds.{find-append}
+use Rattle.std.proofs.lemmas.List.Elements.{All-append, All-cons, All-head, All-nil, All-tail, filter_passes}
 use Rattle.std.proofs.lemmas.List.Kept.{AllPairs-filter}
 use Rattle.std.proofs.lemmas.List.Sums.{sum_by-append, sum_by-cons}
-use Rattle.std.specs.Option.{option_or}
 use Rattle.std.specs.Prelude.{AllPairs, Decides}
-use Rattle.letter_of_intent.specs.declared.letter.Letter.{Letter}
-use Rattle.register_laws.proofs.Comparisons.{and-false, eq-yes, lt-no, same-twice, three-two}
-use Rattle.register_laws.proofs.ListParts.{found-within, pairs-append}
-use Rattle.register_laws.proofs.Sums.{found-is, sum-filtered, sum-found, sum-same, sum-three}
+use Rattle.register_laws.proofs.Comparisons.{and-false, lt-no, same-twice, three-two}
+use Rattle.register_laws.proofs.ListParts.{pairs-append}
+use Rattle.register_laws.proofs.Sums.{sum-filtered, sum-found, sum-same, sum-three}
 use Rattle.register_laws.specs.ReplayKeeps.{AreInOrder}
+use Rattle.register_machine.proofs.FoundFacts.{own-account, own-class, own-place, same-place}
 use Rattle.register_machine.specs.replay.Positions.{Position, Register, fresh_position, is_fresh, is_position, position_of, put, stands_before, unless_fresh}
 use Rattle.share_lots.proofs.LotLemmas.{AllPairs-head, AllPairs-tail}
-use Rattle.share_lots.specs.Lots.{Holding}
-use Rattle.share_lots.specs.declared.lot.Lot.{Lot}
 
 -- ---- what a position is put for
 
@@ -53,14 +49,6 @@ pub put-sum : (f : Position → ℕ) (p : Position) (register : Register) → (i
 put-sum f p register none =
     omega (arith, put-parts f p register, thirds f p register, unless_fresh-sum f p none)
 
-pub own-place : (p : Position) → is_position p.account p.class p ≡ true
-own-place p = rw (eq-yes p.account p.account refl, eq-yes p.class p.class refl) refl
-
-pub same-place : (a c : ℕ) (p : Position) → is_position a c p ≡ true → (p.account ≡ a) × (p.class ≡ c)
-same-place a c p e =
-    let parts = and_parts (p.account == a) (p.class == c) e in
-    (eqb-true p.account a parts.0, eqb-true p.class c parts.1)
-
 -- ---- what stands in a place
 
 abbrev pub f_at : (Position → ℕ) → ℕ → ℕ → Position → ℕ
@@ -80,14 +68,6 @@ Once register = (a c : ℕ) → count_by (is_position a c) register ≤ 1
 pub mass-own : (f : Position → ℕ) (register : Register) (a c : ℕ) → f (fresh_position a c) ≡ 0 → Once register → mass f a c register ≡ f (position_of register a c)
 unfolding Once
 mass-own f register a c void once = sum-found f (is_position a c) (fresh_position a c) void register (once a c)
-
-pub own-account : (register : Register) (a c : ℕ) → (position_of register a c).account ≡ a
-own-account register a c =
-    found-is (λ x. x.account ≡ a) (is_position a c) (fresh_position a c) (λ x e. (same-place a c x e).0) refl register
-
-pub own-class : (register : Register) (a c : ℕ) → (position_of register a c).class ≡ c
-own-class register a c =
-    found-is (λ x. x.class ≡ c) (is_position a c) (fresh_position a c) (λ x e. (same-place a c x e).1) refl register
 
 -- what the place of a position looked up has
 pub own-mass : (f : Position → ℕ) (register : Register) (a c : ℕ) → f (fresh_position a c) ≡ 0 → Once register → mass f (position_of register a c).account (position_of register a c).class register ≡ f (position_of register a c)
@@ -244,144 +224,3 @@ once (x ∷ xs) ordered a c =
     by_first behind rest true e s =
         let is = same-place a c x e in
         omega (arith, s, nowhere x is.0 is.1 xs behind)
-
-pub put-all : (P : Position → Type 0) (p : Position) (register : Register) → P p → All P register → All P (put p register)
-put-all P p register here all =
-    let before = filter (λ other. stands_before other p) register in
-    let behind = filter (λ other. stands_before p other) register in
-    All-append P (before ++ unless_fresh p) behind
-    (All-append P before (unless_fresh p) (All-filter (λ other. stands_before other p) P register all) own)
-    (All-filter (λ other. stands_before p other) P register all)
-  where
-    own : All P (unless_fresh p)
-    own = elim (is_fresh p) as (λ b. All P (cond b [] (p ∷ []))) [
-      | true ↦ All-nil P
-      | false ↦ All-cons P p [] here (All-nil P)
-    ]
-
--- ---- what is found in a place
-
-lost-found : {X : Type 0} (p s : X → Bool) → ((x : X) → p x ≡ true → s x ≡ false) → (xs : List X) → find p (filter s xs) ≡ None
-lost-found p s fails [] = refl
-lost-found p s fails (x ∷ xs) =
-    elim (s x) as (λ b. s x ≡ b → find p (cond b (x ∷ filter s xs) (filter s xs)) ≡ None) [
-      | true ↦ λ e.
-          elim (p x) as (λ b. p x ≡ b → cond b (Some x) (find p (filter s xs)) ≡ None) [
-            | true ↦ λ t. absurd (true≢false (sym e ∙ fails x t))
-            | false ↦ λ t. lost-found p s fails xs
-          ] refl
-      | false ↦ λ e. lost-found p s fails xs
-    ] refl
-
-pub option_or-none : {X : Type 0} (found : Option X) → option_or found None ≡ found
-option_or-none None = refl
-option_or-none (Some x) = refl
-
-found-put : (q : Position → Bool) (p : Position) (register : Register) → find q (put p register) ≡ option_or (option_or (find q (filter (λ other. stands_before other p) register)) (find q (unless_fresh p))) (find q (filter (λ other. stands_before p other) register))
-found-put q p register =
-    let before = filter (λ other. stands_before other p) register in
-    let behind = filter (λ other. stands_before p other) register in
-    find-append q (before ++ unless_fresh p) behind
-    ∙ ap (λ found. option_or found (find q behind)) (find-append q before (unless_fresh p))
-
--- elsewhere it finds what it found
-pub looked_up-elsewhere : (p : Position) (register : Register) (a c : ℕ) → is_position a c p ≡ false → position_of (put p register) a c ≡ position_of register a c
-looked_up-elsewhere p register a c away =
-    ap (λ found. unwrap_or found (fresh_position a c)) (found-put (is_position a c) p register ∙ by_order (order-of (fresh_position a c) p))
-  where
-    none : find (is_position a c) (unless_fresh p) ≡ None
-    none = elim (is_fresh p) as (λ b. find (is_position a c) (cond b [] (p ∷ [])) ≡ None) [
-      | true ↦ refl
-      | false ↦ ap (λ b. cond b (Some p) None) away
-    ]
-
-    by_order : Order (fresh_position a c) p → option_or (option_or (find (is_position a c) (filter (λ other. stands_before other p) register)) (find (is_position a c) (unless_fresh p))) (find (is_position a c) (filter (λ other. stands_before p other) register)) ≡ find (is_position a c) register
-    by_order (Order.Same account class) =
-        absurd (true≢false (sym (and_from (p.account == a) (p.class == c) (eq-yes p.account a (sym account)) (eq-yes p.class c (sym class))) ∙ away))
-    by_order (Order.First early not_late) =
-        let left = found-within (λ other. stands_before other p) (is_position a c) (λ x e. let is = same-place a c x e in rw (is.0, is.1) early) register in
-        let right = lost-found (is_position a c) (λ other. stands_before p other) (λ x e. let is = same-place a c x e in rw (is.0, is.1) not_late) register in
-        rw (left, none, right, option_or-none (find (is_position a c) register), option_or-none (find (is_position a c) register)) refl
-    by_order (Order.Later not_early late) =
-        let left = lost-found (is_position a c) (λ other. stands_before other p) (λ x e. let is = same-place a c x e in rw (is.0, is.1) not_early) register in
-        let right = found-within (λ other. stands_before p other) (is_position a c) (λ x e. let is = same-place a c x e in rw (is.0, is.1) late) register in
-        rw (left, none, right) refl
-
--- a fresh position is what is found where there is none
-fresh-is : (p : Position) → is_fresh p ≡ true → fresh_position p.account p.class ≡ p
-fresh-is p e =
-    let first = and_parts (length p.holding.lots == 0) (p.holding.next_lot == 1 && (not p.in_cash && is_none p.letter)) e in
-    let second = and_parts (p.holding.next_lot == 1) (not p.in_cash && is_none p.letter) first.1 in
-    let third = and_parts (not p.in_cash) (is_none p.letter) second.1 in
-    by p.account p.class p.holding.lots p.holding.next_lot p.in_cash p.letter (eqb-true (length p.holding.lots) 0 first.0) (eqb-true p.holding.next_lot 1 second.0) third.0 third.1
-  where
-    by : (account class : ℕ) (lots : List Lot) (next : ℕ) (in_cash : Bool) (letter : Option Letter) → length lots ≡ 0 → next ≡ 1 → not in_cash ≡ true → is_none letter ≡ true → fresh_position account class ≡ record { account = account; class = class; holding = record { lots = lots; next_lot = next }; in_cash = in_cash; letter = letter }
-    by account class [] next false None empty one cash open_letter =
-        ap (λ n. record { account = account; class = class; holding = record { lots = []; next_lot = n }; in_cash = false; letter = None }) (sym one)
-    by account class (x ∷ xs) next in_cash letter empty one cash open_letter = absurd (omega (arith, empty))
-    by account class [] next true letter empty one cash open_letter = absurd (true≢false (sym cash))
-    by account class [] next false (Some letter) empty one cash open_letter = absurd (true≢false (sym open_letter))
-
--- and in its own place the position that was put
-pub looked_up-put : (p : Position) (register : Register) → position_of (put p register) p.account p.class ≡ p
-looked_up-put p register =
-    let q = is_position p.account p.class in
-    let left = lost-found q (λ other. stands_before other p) (λ x e. let is = same-place p.account p.class x e in not-before x p is.0 is.1) register in
-    let right = lost-found q (λ other. stands_before p other) (λ x e. let is = same-place p.account p.class x e in not-before p x (sym is.0) (sym is.1)) register in
-    let found : find q (put p register) ≡ find q (unless_fresh p) = found-put q p register ∙ rw (left, right, option_or-none (find q (unless_fresh p))) refl in
-    ap (λ one. unwrap_or one (fresh_position p.account p.class)) found ∙ own
-  where
-    own : unwrap_or (find (is_position p.account p.class) (unless_fresh p)) (fresh_position p.account p.class) ≡ p
-    own =
-        elim (is_fresh p) as (λ b. is_fresh p ≡ b → unwrap_or (find (is_position p.account p.class) (cond b [] (p ∷ []))) (fresh_position p.account p.class) ≡ p) [
-          | true ↦ λ e. fresh-is p e
-          | false ↦ λ e. ap (λ b. unwrap_or (cond b (Some p) None) (fresh_position p.account p.class)) (own-place p)
-        ] refl
-
--- ---- a position put twice
-
-kept-twice : {X : Type 0} (s : X → Bool) (xs : List X) → filter s (filter s xs) ≡ filter s xs
-kept-twice s [] = refl
-kept-twice s (x ∷ xs) =
-    elim (s x) as (λ b. s x ≡ b → filter s (cond b (x ∷ filter s xs) (filter s xs)) ≡ cond b (x ∷ filter s xs) (filter s xs)) [
-      | true ↦ λ e. ap (λ b. cond b (x ∷ filter s (filter s xs)) (filter s (filter s xs))) e ∙ ap (λ ys. x ∷ ys) (kept-twice s xs)
-      | false ↦ λ e. kept-twice s xs
-    ] refl
-
-none-kept : {X : Type 0} (s t : X → Bool) → ((x : X) → t x ≡ true → s x ≡ false) → (xs : List X) → filter s (filter t xs) ≡ []
-none-kept s t fails [] = refl
-none-kept s t fails (x ∷ xs) =
-    elim (t x) as (λ b. t x ≡ b → filter s (cond b (x ∷ filter t xs) (filter t xs)) ≡ []) [
-      | true ↦ λ e. ap (λ b. cond b (x ∷ filter s (filter t xs)) (filter s (filter t xs))) (fails x e) ∙ none-kept s t fails xs
-      | false ↦ λ e. none-kept s t fails xs
-    ] refl
-
-none-own : (s : Position → Bool) (p : Position) → s p ≡ false → filter s (unless_fresh p) ≡ []
-none-own s p fails = elim (is_fresh p) as (λ b. filter s (cond b [] (p ∷ [])) ≡ []) [
-  | true ↦ refl
-  | false ↦ ap (λ b. cond b (p ∷ []) []) fails
-]
-
-append-none : {X : Type 0} (xs ys : List X) → ys ≡ [] → xs ++ ys ≡ xs
-append-none xs ys e = ap (λ zs. xs ++ zs) e ∙ append-nil xs
-
--- the later one alone counts
-pub put-again : (p : Position) (holding : Holding) (in_cash : Bool) (letter : Option Letter) (register : Register) → put (record p { holding = holding; in_cash = in_cash; letter = letter }) (put p register) ≡ put (record p { holding = holding; in_cash = in_cash; letter = letter }) register
-put-again p holding in_cash letter register =
-    let less = λ (other : Position). stands_before other p in
-    let more = λ (other : Position). stands_before p other in
-    let before = filter less register in
-    let behind = filter more register in
-    let q = record p { holding = holding; in_cash = in_cash; letter = letter } in
-    let left : filter less (put p register) ≡ before =
-    filter-append less (before ++ unless_fresh p) behind
-    ∙ (append-none (filter less (before ++ unless_fresh p)) (filter less behind) (none-kept less more (λ x e. not-both p x e) register)
-    ∙ (filter-append less before (unless_fresh p)
-    ∙ (append-none (filter less before) (filter less (unless_fresh p)) (none-own less p (not-before p p refl refl)) ∙ kept-twice less register))) in
-    let right : filter more (put p register) ≡ behind =
-    filter-append more (before ++ unless_fresh p) behind
-    ∙ (ap (λ ys. ys ++ filter more behind)
-    (filter-append more before (unless_fresh p)
-    ∙ (append-none (filter more before) (filter more (unless_fresh p)) (none-own more p (not-before p p refl refl)) ∙ none-kept more less (λ x e. not-both x p e) register))
-    ∙ kept-twice more register) in
-    ap (λ ys. ys ++ unless_fresh q ++ filter more (put p register)) left ∙ ap (λ ys. before ++ unless_fresh q ++ ys) right

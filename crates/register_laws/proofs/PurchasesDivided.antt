@@ -14,9 +14,9 @@ use Rattle.offering_price.specs.Purchase.{split_at_price, mils_bought, offering_
 use Rattle.offering_price.specs.declared.purchase.Split.{Split}
 use Rattle.register_laws.proofs.DayTurns.{IsBought, Turn, bought_by, elected_by, exchanged_by, kind_of, position_asked, reached_by, rows_done, settled_by, sold_by, trade_of, trades_added}
 use Rattle.register_laws.proofs.OrdersInTurn.{rows-on}
-use Rattle.register_laws.proofs.PositionsInOrder.{own-class}
 use Rattle.register_laws.proofs.ReplayTurns.{All-one, AnyKey, TurnsKeep, any-all, replay-kept}
 use Rattle.register_laws.specs.Trades.{GrossIsWhole, IsDone, IsPurchase, is_purchase}
+use Rattle.register_machine.proofs.FoundFacts.{own-class}
 use Rattle.register_machine.specs.pricing.CorrectedBook.{Book, front_of}
 use Rattle.register_machine.specs.pricing.CorrectedOrders.{stands}
 use Rattle.register_machine.specs.pricing.OrderClasses.{class_of}

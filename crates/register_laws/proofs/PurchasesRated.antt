@@ -11,10 +11,10 @@ use Rattle.offering_price.specs.Accumulation.{bracket}
 use Rattle.offering_price.specs.Purchase.{split_of}
 use Rattle.offering_price.specs.declared.purchase.Split.{Split}
 use Rattle.register_laws.proofs.DayTurns.{IsBought, Turn, bought_by, elected_by, exchanged_by, order-turns, reached_by, rows_done, settled_by, sold_by, trade_of, trades_added}
-use Rattle.register_laws.proofs.PositionsInOrder.{own-account, own-class}
 use Rattle.register_laws.proofs.ReplayTurns.{All-one, AnyKey, TurnsKeep, any-all, phases-kept}
 use Rattle.register_laws.specs.OrderTurns.{day_at}
 use Rattle.register_laws.specs.PurchaseRates.{IsRatedPurchase, PurchasesHaveTheirRate, amount_at, is_filled_purchase}
+use Rattle.register_machine.proofs.FoundFacts.{own-account, own-class}
 use Rattle.register_machine.specs.pricing.CorrectedBook.{Book, front_of}
 use Rattle.register_machine.specs.pricing.OrderClasses.{class_of}
 use Rattle.register_machine.specs.replay.DayStep.{day_after_order, day_step}

@@ -11,10 +11,11 @@ use Rattle.letter_of_intent.specs.declared.letter.Letter.{Letter}
 use Rattle.offering_price.specs.declared.purchase.Split.{Split}
 use Rattle.register_laws.proofs.DayTurns.{HasRoom, Turn, day_after_turn, moved_by, position_asked, positions_put, reinvested, released, rows_done, settled_by, with_all_put, with_letter_begun, with_letter_ended, with_lot_of, with_note_of, with_pieces_of}
 use Rattle.register_laws.proofs.LotTotals.{Grown, added-grown, fresh-holds, new-loose, paying-holds, pieces-grown, release-none_held, taking-held}
-use Rattle.register_laws.proofs.PositionsInOrder.{put-all, put-in_order}
+use Rattle.register_laws.proofs.PositionsInOrder.{put-in_order}
 use Rattle.register_laws.proofs.ReplayTurns.{All-one, AnyKey, TurnsKeep, any-all}
 use Rattle.register_laws.proofs.Sums.{found-of}
 use Rattle.register_laws.specs.ReplayKeeps.{AreInOrder}
+use Rattle.register_machine.proofs.FoundFacts.{put-all}
 use Rattle.register_machine.specs.pricing.CorrectedBook.{Book, front_of}
 use Rattle.register_machine.specs.pricing.OrderClasses.{class_of}
 use Rattle.register_machine.specs.replay.Positions.{Position, Register, fresh_position, is_position, position_at, position_of, put}

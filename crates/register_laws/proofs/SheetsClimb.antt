@@ -1,10 +1,10 @@
 -- The moments of a lawful journal's sheets never fall: a sheet has the least pricing moment that is awaited, and a class that is
 -- opened later awaits later ones alone. So what is published before a sheet isn't later than it.
 use Rattle.std.specs.Prelude.{AllPairs}
-use Rattle.std.proofs.Common.{All, Bool, List, None, Some, [], ap, append-nil, append_assoc, arith, cond, false, filter, find, get_or, inl, inr, nat_lt, is_some, length, map, not, option_map, refl, subst, sym, take, true, ℕ, ◌&&◌, ◌++◌, ◌<◌, ◌==◌, ◌||◌, ◌∙◌, ◌∷◌, ◌≡◌, ◌≤◌}
+use Rattle.std.proofs.Common.{All, Bool, List, None, Some, [], ap, arith, cond, false, find, get_or, inl, inr, nat_lt, is_some, length, map, not, option_map, refl, subst, sym, take, true, ℕ, ◌&&◌, ◌++◌, ◌<◌, ◌==◌, ◌||◌, ◌∙◌, ◌∷◌, ◌≡◌, ◌≤◌}
 use Rattle.std.proofs.lemmas.Bool.{and_from, and_parts, eqb-true, or_cases, true≢false}
 use Rattle.std.proofs.lemmas.List.{get_or-map, get_or-take, length-map, length-take}
-use Rattle.std.proofs.lemmas.List.Elements.{All-append, All-contains, All-filter, All-map, All-nil, All-push, All-weaker}
+use Rattle.std.proofs.lemmas.List.Elements.{All-append, All-contains, All-map, All-nil, All-push, All-weaker}
 use Rattle.std.proofs.lemmas.List.Folds.{list_any-append}
 use Rattle.std.proofs.lemmas.List.Quantifiers.{all_pairs_push}
 use Rattle.std.specs.List.{list_any}
@@ -15,9 +15,10 @@ use Rattle.agent_events.specs.declared.request.ClassForm.{ClassForm}
 use Rattle.agent_events.specs.declared.request.FixPriceForm.{FixPriceForm}
 use Rattle.agent_events.specs.declared.request.Request.{Request}
 use Rattle.agent_events.specs.declared.verdict.Caller.{Caller}
+use Rattle.forward_price.proofs.OrderFacts.{closed_pairs, one_more}
 use Rattle.forward_price.proofs.OrderlyFacts.{found_in}
 use Rattle.forward_price.proofs.PricingFacts.{lt_fact}
-use Rattle.forward_price.proofs.TurnFacts.{All-left, All-right, All-unmap, Tells, awaited_before, expected_best, never, told}
+use Rattle.forward_price.proofs.TurnFacts.{Tells, awaited_before, expected_best, never, told}
 use Rattle.forward_price.specs.Choices.{IsBest}
 use Rattle.forward_price.specs.PriceTables.{Table, calendar_numbered, closed_in, is_sheet_at, sheet_published, with_calendar, with_class, with_published, without_day_of}
 use Rattle.forward_price.specs.Turns.{expected_of, is_awaited, is_offered_at, is_sooner, pairs_of, pricing_pair, pricing_pairs, wrong_class}
@@ -51,22 +52,7 @@ pub record Climbs (t : Table) : Type 0 where
   pub climbs : AllPairs (λ (a b : Sheet). a.moment ≤ b.moment) t.sheets
   pub known : All (λ (x : Opening). is_some (calendar_numbered t.calendars x.calendar) ≡ true) t.classes
 
--- ---- pairs of calendars
-
-one-more-pairs : (cs : List Listing) (c : Listing) → pricing_pairs (cs ++ c ∷ []) ≡ pricing_pairs cs ++ pairs_of c
-one-more-pairs [] c = append-nil (pairs_of c)
-one-more-pairs (x ∷ xs) c =
-    ap (λ rest. pairs_of x ++ rest) (one-more-pairs xs c) ∙ sym (append_assoc (pairs_of x) (pricing_pairs xs) (pairs_of c))
-
-fewer-pairs : (P : ℕ × ℕ → Type 0) (calendar day : ℕ) (calendars : List Listing) → All P (pricing_pairs calendars) → All P (pricing_pairs (map (closed_in calendar day) calendars))
-fewer-pairs P calendar day [] all = all
-fewer-pairs P calendar day (c ∷ cs) all =
-    All-append P (pairs_of (closed_in calendar day c)) (pricing_pairs (map (closed_in calendar day) cs)) (one (c.number == calendar) (All-left P (pairs_of c) (pricing_pairs cs) all)) (fewer-pairs P calendar day cs (All-right P (pairs_of c) (pricing_pairs cs) all))
-  where
-    one : (b : Bool) → All P (pairs_of c) → All P (pairs_of (cond b (without_day c day) c))
-    one true here =
-        All-map P (pricing_pair c.number) (filter (λ e. not (e.day == day)) c.days) (All-filter (λ e. not (e.day == day)) (λ e. P (pricing_pair c.number e)) c.days (All-unmap P (pricing_pair c.number) c.days here))
-    one false here = here
+-- ---- numbers of calendars
 
 numbers-kept : (calendar day n : ℕ) (cs : List Listing) → is_some (calendar_numbered (map (closed_in calendar day) cs) n) ≡ is_some (calendar_numbered cs n)
 numbers-kept calendar day n cs =
@@ -91,7 +77,7 @@ climbs-calendar : (t : Table) (c : Listing) → calendar_numbered t.calendars c.
 climbs-calendar t c new is = record {
   ahead = λ k d short.
       let P = λ (pair : ℕ × ℕ). is_awaited t.classes t.sheets pair ≡ true → (get_or t.sheets k d).moment ≤ pair.0 in
-      subst (All P) (sym (one-more-pairs t.calendars c))
+      subst (All P) (sym (one_more t.calendars c))
       (All-append P (pricing_pairs t.calendars) (pairs_of c) (is.ahead k d short)
       (All-map P (pricing_pair c.number) c.days (λ i e within now. absurd (none (list_any (is_offered_at c.number (pricing_pair c.number (get_or c.days i e)).0) t.classes) (not (list_any (is_sheet_at c.number (pricing_pair c.number (get_or c.days i e)).0) t.sheets)) now (offered (pricing_pair c.number (get_or c.days i e)).0)))));
   climbs = is.climbs;
@@ -111,7 +97,7 @@ climbs-calendar t c new is = record {
 
 climbs-closure : (t : Table) (calendar day : ℕ) → Climbs t → Climbs (without_day_of t calendar day)
 climbs-closure t calendar day is = record {
-  ahead = λ k d short. fewer-pairs (λ (pair : ℕ × ℕ). is_awaited t.classes t.sheets pair ≡ true → (get_or t.sheets k d).moment ≤ pair.0) calendar day t.calendars (is.ahead k d short);
+  ahead = λ k d short. closed_pairs (λ (pair : ℕ × ℕ). is_awaited t.classes t.sheets pair ≡ true → (get_or t.sheets k d).moment ≤ pair.0) calendar day t.calendars (is.ahead k d short);
   climbs = is.climbs;
   known = All-weaker (λ (x : Opening). is_some (calendar_numbered t.calendars x.calendar) ≡ true) (λ (x : Opening). is_some (calendar_numbered (map (closed_in calendar day) t.calendars) x.calendar) ≡ true) (λ x e. numbers-kept calendar day x.calendar t.calendars ∙ e) t.classes is.known;
 }

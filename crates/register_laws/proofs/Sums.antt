@@ -2,24 +2,8 @@
 use Rattle.std.proofs.Common.{All, Bool, List, Some, [], arith, cond, count_by, false, filter, find, map, refl, sum_by, sym, true, unwrap_or, ℕ, ◌*◌, ◌+◌, ◌∷◌, ◌≡◌, ◌≤◌}
 use Rattle.std.proofs.lemmas.List.Elements.{All-head, All-tail}
 use Rattle.std.proofs.lemmas.List.Sums.{sum_by-cons}
-
--- sums over lists
-pub zeros : {X : Type 0} (xs : List X) → sum_by (λ x. 0) xs ≡ 0
-zeros [] = refl
-zeros (x ∷ xs) = omega (arith, sum_by-cons (λ y. 0) x xs, zeros xs)
-
-pub sum-plus : {X : Type 0} (f g h : X → ℕ) → ((x : X) → h x ≡ f x + g x) → (xs : List X) → sum_by h xs ≡ sum_by f xs + sum_by g xs
-sum-plus f g h same [] = refl
-sum-plus f g h same (x ∷ xs) =
-    omega (arith, sum_by-cons f x xs, sum_by-cons g x xs, sum_by-cons h x xs, same x, sum-plus f g h same xs)
-
-pub sums-exchange : {X Y : Type 0} (f : X → Y → ℕ) (xs : List X) (ys : List Y) → sum_by (λ x. sum_by (f x) ys) xs ≡ sum_by (λ y. sum_by (λ x. f x y) xs) ys
-sums-exchange f xs [] = zeros xs
-sums-exchange f xs (y ∷ ys) =
-    let first = sum-plus (λ x. f x y) (λ x. sum_by (f x) ys) (λ x. sum_by (f x) (y ∷ ys)) (λ x. sum_by-cons (f x) y ys) xs in
-    let rest = sums-exchange f xs ys in
-    let both = sum_by-cons (λ z. sum_by (λ x. f x z) xs) y ys in
-    omega (arith, first, rest, both)
+pub use Rattle.register_machine.proofs.ListItems.{found-is}
+pub use Rattle.register_machine.proofs.SumFacts.{sum-plus, sum-same, sums-exchange, zeros}
 
 -- a number for each that passes
 pub passing : {X : Type 0} (p : X → Bool) (c : ℕ) (xs : List X) → sum_by (λ x. cond (p x) c 0) xs ≡ c * count_by p xs
@@ -39,10 +23,6 @@ sum-filtered f p (x ∷ xs) =
       | true ↦ rw (sum_by-cons f x (filter p xs)) (omega (arith, sum-filtered f p xs))
       | false ↦ omega (arith, sum-filtered f p xs)
     ])
-
-pub sum-same : {X : Type 0} (f g : X → ℕ) → ((x : X) → f x ≡ g x) → (xs : List X) → sum_by f xs ≡ sum_by g xs
-sum-same f g same [] = refl
-sum-same f g same (x ∷ xs) = omega (arith, sum_by-cons f x xs, sum_by-cons g x xs, same x, sum-same f g same xs)
 
 pub sum-three : {X : Type 0} (f g h k : X → ℕ) → ((x : X) → f x + (g x + h x) ≡ k x) → (xs : List X) → sum_by f xs + (sum_by g xs + sum_by h xs) ≡ sum_by k xs
 sum-three f g h k same [] = refl
@@ -80,14 +60,6 @@ sum-found f p d void (x ∷ xs) few =
       | true ↦ λ h c. omega (arith, h, sum-none f p xs (omega (arith, c, few)))
       | false ↦ λ h c. omega (arith, h, sum-found f p d void xs (omega (arith, c, few)))
     ] here counted
-
-pub found-is : {X : Type 0} (P : X → Type 0) (p : X → Bool) (d : X) → ((x : X) → p x ≡ true → P x) → P d → (xs : List X) → P (unwrap_or (find p xs) d)
-found-is P p d holds base [] = base
-found-is P p d holds base (x ∷ xs) =
-    elim (p x) as (λ b. p x ≡ b → P (unwrap_or (cond b (Some x) (find p xs)) d)) [
-      | true ↦ λ e. holds x e
-      | false ↦ λ e. found-is P p d holds base xs
-    ] refl
 
 pub found-of : {X : Type 0} (P : X → Type 0) (p : X → Bool) (d : X) → P d → (xs : List X) → All P xs → P (unwrap_or (find p xs) d)
 found-of P p d base [] all = base

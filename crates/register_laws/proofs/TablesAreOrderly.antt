@@ -19,7 +19,7 @@ use Rattle.agent_events.specs.declared.request.CloseForm.{CloseForm}
 use Rattle.agent_events.specs.declared.request.FixPriceForm.{FixPriceForm}
 use Rattle.agent_events.specs.declared.request.Request.{Request}
 use Rattle.forward_price.proofs.NumberFacts.{none_numbered}
-use Rattle.forward_price.proofs.OrderFacts.{orderly_at_first, orderly_calendar, orderly_class, orderly_closure, orderly_sheet}
+use Rattle.forward_price.proofs.OrderFacts.{closed_number, orderly_at_first, orderly_calendar, orderly_class, orderly_closure, orderly_sheet}
 use Rattle.forward_price.proofs.OrderlyFacts.{any_from, calendar_pair, differ_rest, pair_calendar, priced_when_due}
 use Rattle.forward_price.proofs.PricingFacts.{ge_fact}
 use Rattle.forward_price.specs.Choices.{best_so_far, found_or_better}
@@ -39,7 +39,7 @@ use Rattle.register_laws.proofs.Choosing.{not_when}
 use Rattle.register_laws.proofs.LawfulJournals.{lawful-keeps}
 use Rattle.register_laws.proofs.MomentsNeverFall.{last-more}
 use Rattle.register_laws.proofs.NoIdentityTwice.{day_free, number_free}
-use Rattle.register_laws.proofs.NoPricingTwice.{any-more, closed-number, corrected-sheets, listing-number, table-sees}
+use Rattle.register_laws.proofs.NoPricingTwice.{any-more, corrected-sheets, listing-number, table-sees}
 use Rattle.register_laws.proofs.OrderlyBooks.{events-numbered, sheets_are_numbered}
 use Rattle.register_laws.proofs.RulesByName.{not_broken}
 use Rattle.register_laws.proofs.Runs.{table-one}
@@ -226,7 +226,7 @@ kept-moment (x ∷ days) day m (suc k, l, is) apart =
 numbered-closed : (calendar day number : ℕ) (calendars : List Listing) → calendar_numbered (map (closed_in calendar day) calendars) number ≡ option_map (closed_in calendar day) (calendar_numbered calendars number)
 numbered-closed calendar day number [] = refl
 numbered-closed calendar day number (c ∷ calendars) =
-    ap (λ n. cond (n == number) (Some (closed_in calendar day c)) (calendar_numbered (map (closed_in calendar day) calendars) number)) (closed-number calendar day c)
+    ap (λ n. cond (n == number) (Some (closed_in calendar day c)) (calendar_numbered (map (closed_in calendar day) calendars) number)) (closed_number calendar day c)
     ∙ by_first (c.number == number) (numbered-closed calendar day number calendars)
   where
     by_first : (b : Bool) → calendar_numbered (map (closed_in calendar day) calendars) number ≡ option_map (closed_in calendar day) (calendar_numbered calendars number) → cond b (Some (closed_in calendar day c)) (calendar_numbered (map (closed_in calendar day) calendars) number) ≡ option_map (closed_in calendar day) (cond b (Some c) (calendar_numbered calendars number))

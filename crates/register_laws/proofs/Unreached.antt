@@ -6,7 +6,7 @@ use Rattle.std.specs.Option.{option_map_or}
 use Rattle.agent_events.specs.declared.order.Order.{Order}
 use Rattle.agent_events.specs.declared.order.OrderRow.{OrderRow}
 use Rattle.agent_events.specs.declared.trade.Trade.{Trade}
-use Rattle.forward_price.proofs.TurnFacts.{All-unmap}
+use Rattle.fund_calendar.proofs.ListFacts.{All-unmap}
 use Rattle.register_laws.proofs.BrokenByParts.{found-own}
 use Rattle.register_laws.proofs.ExecutedInTurn.{unfilled_are_orders}
 use Rattle.register_laws.proofs.ListParts.{found-within}

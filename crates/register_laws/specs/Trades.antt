@@ -1,6 +1,6 @@
 -- What the laws of trades say: proceeds and charge make the gross of a purchase, and shares come and go by trades alone.
 use Rattle.std.specs.Option.{option_map_or}
-use Rattle.std.specs.Prelude.{All, Bool, Contains, Some, count_by, false, filter, if◌then◌else◌, sum_by, true, ℕ, ◌+◌, ◌==◌, ◌≡◌, ◌≤◌}
+use Rattle.std.specs.Prelude.{All, Bool, Contains, Some, count_by, false, filter, sum_by, true, ℕ, ◌+◌, ◌==◌, ◌≡◌, ◌≤◌}
 use Rattle.agent_events.specs.declared.order.Body.{Body}
 use Rattle.agent_events.specs.declared.order.OrderRow.{OrderRow}
 use Rattle.forward_price.specs.PriceTables.{AreNumbered}
@@ -13,6 +13,7 @@ use Rattle.register_machine.specs.corrections.Cash.{outstanding}
 use Rattle.register_machine.specs.pricing.CorrectedBook.{Book, front_of}
 use Rattle.register_machine.specs.pricing.CorrectedOrders.{stands}
 use Rattle.register_machine.specs.pricing.OrderClasses.{class_of, target_of}
+use Rattle.register_machine.specs.replay.Movements.{mils_brought, mils_taken}
 use Rattle.register_machine.specs.replay.Replay.{priced_in, replay}
 use Rattle.agent_events.specs.declared.trade.Outcome.{Outcome}
 use Rattle.agent_events.specs.declared.trade.Trade.{Trade}
@@ -70,36 +71,10 @@ GrossIsWhole book trade = is_purchase trade.kind ≡ true → IsPurchase book tr
 
 -- ---- Shares.
 
--- The mils that a filled trade brings a class and those that it takes from it; an unfilled order does neither.
-abbrev pub if_of : ℕ → ℕ → ℕ → ℕ
-if_of class other mils = if other == class then mils else 0
-
-abbrev pub mils_in_by : TradeKind → ℕ → Trade → ℕ
-mils_in_by TradeKind.Buy class trade = if_of class trade.class trade.mils
-mils_in_by TradeKind.Exchange class trade = if_of class trade.to_class trade.to_mils
-mils_in_by TradeKind.DividendShares class trade = if_of class trade.class trade.mils
-mils_in_by _ class trade = 0
-
-abbrev pub mils_out_by : TradeKind → ℕ → Trade → ℕ
-mils_out_by TradeKind.Sell class trade = if_of class trade.class trade.mils
-mils_out_by TradeKind.Exchange class trade = if_of class trade.class trade.mils
-mils_out_by TradeKind.LetterEnded class trade = if_of class trade.class trade.mils
-mils_out_by _ class trade = 0
-
-abbrev pub if_filled : Outcome → ℕ → ℕ
-if_filled Outcome.Filled mils = mils
-if_filled (Outcome.Unfilled why) mils = 0
-
-abbrev pub mils_in : ℕ → Trade → ℕ
-mils_in class trade = if_filled trade.outcome (mils_in_by trade.kind class trade)
-
-abbrev pub mils_out : ℕ → Trade → ℕ
-mils_out class trade = if_filled trade.outcome (mils_out_by trade.kind class trade)
-
 -- The outstanding mils of a class are those that trades brought it less those that they took from it.
 abbrev pub IsOutstandingByTrades : ℕ → Day → Type 0
 IsOutstandingByTrades class day =
-    outstanding day.register class + sum_by (mils_out class) day.trades ≡ sum_by (mils_in class) day.trades
+    outstanding day.register class + sum_by (mils_taken class) day.trades ≡ sum_by (mils_brought class) day.trades
 
 -- an exchange of a class into itself
 abbrev pub stays_in_class : Body → Bool

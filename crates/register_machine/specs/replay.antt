@@ -3,6 +3,8 @@
 pub mod Positions
 -- a trade and its outcome, and the day that goes on
 pub mod Trades
+-- the shares that a trade brings a class, and those that it takes
+pub mod Movements
 -- a purchase: its rate, its split, its lot, and what a letter holds of it
 pub mod Purchase
 -- a redemption, with its deferred charge

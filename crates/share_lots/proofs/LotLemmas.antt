@@ -2,14 +2,15 @@
 use Rattle.std.proofs.Common.{◌≡◌, ◌≢◌, ℕ, zero, suc, ◌+◌, ◌-◌, ◌*◌, ◌<◌, ◌≤◌, Bool, true, false, cond, not, min, List, [], ◌∷◌, ◌++◌, length, get_or, map, filter, take, drop, set, sum_by, refl, sym, ap, ◌∙◌, inl, inr, arith, append_assoc, append-nil, find, Option, Some, None, option_map}
 use Rattle.std.proofs.Math.Nat.{mul-le-mul_left}
 use Rattle.std.proofs.lemmas.List.{at_drop_more, at_drop_all, take-append-drop, take_more_set, take_all, drop_all, drop-set-lt}
-use Rattle.std.proofs.lemmas.List.Edits.{map_over_more}
 use Rattle.std.specs.Prelude.{All, AllPairs}
 use Rattle.std.specs.List.Sorted.{IsPartitionPoint, IsPartitionedBy}
 use Rattle.std.proofs.lemmas.Bool.{cases_lt}
 use Rattle.std.proofs.lemmas.Bool.Decides.{leb_tells, eqb_tells}
 use Rattle.std.proofs.lemmas.List.Elements.{All-cons, All-filter, All-map}
+pub use Rattle.std.proofs.lemmas.List.Elements.{All-head, All-tail}
 use Rattle.std.proofs.lemmas.List.Kept.{AllPairs-cons, AllPairs-filter}
 use Rattle.std.proofs.lemmas.List.Sums.{sum_by-cons, sum_by-append, get_or-le-sum_by}
+pub use Rattle.fund_calendar.proofs.ListFacts.{AllPairs-head, AllPairs-tail}
 use Rattle.money_units.specs.Rounding.{half}
 use Rattle.money_units.proofs.RoundingFacts.{half-mul, half-rises}
 use Rattle.share_lots.specs.declared.lot.Lot.{Lot}
@@ -17,18 +18,6 @@ use Rattle.share_lots.specs.declared.lot.Piece.{Piece}
 use Rattle.share_lots.specs.Lots.{Holding, IsHolding, IsLot, mils, AreRanked, ranks_before, most_mils, most_cost, HasLoose, hold_in, release_lot, join_free, lots_with, with_lot, lot_joined}
 use Rattle.share_lots.specs.Taking.{lot_less, piece_cost, pieces_of, pieces, lots_less, has_mils}
 use Rattle.share_lots.proofs.OrderLemmas.{ranks-owned, ranks-next, ranks-either}
-
-pub All-tail : {X : Type 0} (P : X → Type 0) (x : X) (xs : List X) → All P (x ∷ xs) → All P xs
-All-tail P x xs h k d short = h (suc k) d (omega arith)
-
-pub All-head : {X : Type 0} (P : X → Type 0) (x : X) (xs : List X) → All P (x ∷ xs) → P x
-All-head P x xs h = h 0 x (omega arith)
-
-pub AllPairs-tail : {X : Type 0} (R : X → X → Type 0) (x : X) (xs : List X) → AllPairs R (x ∷ xs) → AllPairs R xs
-AllPairs-tail R x xs h i j d lt short = h (suc i) (suc j) d (omega arith) (omega arith)
-
-pub AllPairs-head : {X : Type 0} (R : X → X → Type 0) (x : X) (xs : List X) → AllPairs R (x ∷ xs) → All (R x) xs
-AllPairs-head R x xs h k d short = h 0 (suc k) d (omega arith) (omega arith)
 
 -- loose and held mils make all mils
 pub sum-mils : (lots : List Lot) → sum_by (λ lot. lot.loose) lots + sum_by (λ lot. lot.held) lots ≡ sum_by mils lots
@@ -219,23 +208,6 @@ reduced-up lots init i left asked none some done =
     sym (ap (λ n. take i lots ++ lots_less n (drop i lots)) none
     ∙ ap (λ ls. take i lots ++ ls) (nothing-lessened (drop i lots) some)
     ∙ take-append-drop i lots) ∙ done
-
--- lists with the same rest have the same element there
-pub same_rest : {X : Type 0} (xs ys : List X) (i : ℕ) (d : X) → i < length xs → i < length ys → drop i xs ≡ drop i ys → (get_or xs i d ≡ get_or ys i d) × (drop (i + 1) xs ≡ drop (i + 1) ys)
-same_rest xs ys i d short long e =
-    let left = at_drop_more (λ zs. zs) xs i d short in
-    let right = at_drop_more (λ zs. zs) ys i d long in
-    (cc, cc)
-
-pub rest-set : {X : Type 0} (xs ys : List X) (i : ℕ) (y d : X) → i < length xs → i < length ys → drop i xs ≡ drop i ys → drop (i + 1) (set xs i y) ≡ drop (i + 1) ys
-rest-set xs ys i y d short long e = drop-set-lt (i + 1) xs i y (omega arith) ∙ (same_rest xs ys i d short long e).1
-
--- a map over the lots in their places
-pub mapped-more : {X : Type 0} (f : X → X) (xs ys : List X) (i : ℕ) (x y : X) → i < length xs → ys ≡ map f (take i xs) ++ drop i xs → x ≡ get_or ys i x → y ≡ f x → set ys i y ≡ map f (take (i + 1) xs) ++ drop (i + 1) xs
-mapped-more f xs ys i x y h done is new = rw new (map_over_more f xs ys i x h done is)
-
-pub mapped-all : {X : Type 0} (f : X → X) (xs ys : List X) (i : ℕ) → length xs ≤ i → ys ≡ map f (take i xs) ++ drop i xs → ys ≡ map f xs
-mapped-all f xs ys i h done = rw (take_all i xs h, drop_all i xs h, append-nil) at done
 
 -- the lots with mils held back, or all of them loose
 Stays-hold_in : (number quantity : ℕ) (lot : Lot) → (lot.number ≡ number → quantity ≤ lot.loose) → Stays lot (hold_in number quantity lot)

@@ -5,9 +5,10 @@ use Rattle.std.specs.List.{list_any, slice_get}
 use Rattle.std.proofs.lemmas.Bool.{cases_lt}
 use Rattle.std.proofs.lemmas.List.{map-append}
 use Rattle.std.proofs.lemmas.Option.{get_or_from_slice_get}
-use Rattle.std.proofs.lemmas.List.Elements.{All-cons, filter-append}
+use Rattle.std.proofs.lemmas.List.Elements.{filter-append}
 use Rattle.std.proofs.lemmas.List.Kept.{AllPairs-cons}
 use Rattle.std.proofs.lemmas.List.Sums.{sum_by-cons, sum_by-append}
+use Rattle.fund_calendar.proofs.ListFacts.{All-left, All-right}
 use Rattle.share_lots.specs.declared.lot.Lot.{Lot}
 use Rattle.share_lots.specs.Lots.{mils, AreRanked, ranks_before, before_by_date, hold_in, release_lot, join_free, lots_with, free_number}
 use Rattle.share_lots.specs.Taking.{lot_less, pieces_of, pieces, lots_less, has_mils}
@@ -15,15 +16,6 @@ use Rattle.share_lots.proofs.OrderLemmas.{ranks-next}
 use Rattle.share_lots.proofs.LotLemmas.{All-head, All-tail, AllPairs-head, AllPairs-tail, nothing-taken, nothing-lessened, owned_behind, map-join_none, none_before, placed-behind}
 use Rattle.share_lots.proofs.KeptLemmas.{sum-has_mils}
 use Rattle.share_lots.proofs.AddedLemmas.{none_found}
-
--- what holds of all holds of the first ones and of the last
-pub All-left : {X : Type 0} (P : X → Type 0) (xs ys : List X) → All P (xs ++ ys) → All P xs
-All-left P [] ys all = λ k d short. absurd (omega arith)
-All-left P (x ∷ xs) ys all = All-cons P x xs (All-head P x (xs ++ ys) all) (All-left P xs ys (All-tail P x (xs ++ ys) all))
-
-pub All-right : {X : Type 0} (P : X → Type 0) (xs ys : List X) → All P (xs ++ ys) → All P ys
-All-right P [] ys all = all
-All-right P (x ∷ xs) ys all = All-right P xs ys (All-tail P x (xs ++ ys) all)
 
 pub AllPairs-left : {X : Type 0} (R : X → X → Type 0) (xs ys : List X) → AllPairs R (xs ++ ys) → AllPairs R xs
 AllPairs-left R [] ys pairs = λ i j d lt short. absurd (omega arith)

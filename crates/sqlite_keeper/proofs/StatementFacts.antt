@@ -58,15 +58,23 @@ module _ {C : Type 0} (shows : C → State) where
       ((back.undone is_open).0 ∙ same ∙ sym first, (back.undone is_open).1 ∙ same)
   neither-end changes begun last end settled ran inside kept e (inr late) is_open = absurd (both_ways _ late.1 (runs-inside changes begun last ran inside))
 
-  pub crash-end : (changes : List Change) (begun last end : C) → (HasCleanDisk (shows last) → RunsAll shows changes begun last) → Survives (shows begun) (shows last) (λ _. ⊥)
+  crash-end : (changes : List Change) (begun last end : C) → (HasCleanDisk (shows last) → RunsAll shows changes begun last) → Survives (shows begun) (shows last) (λ _. ⊥)
       → Survives (shows last) (shows end) (λ trees. trees ≡ (shows last).now.trees) → Survives (shows begun) (shows end) (λ trees. (db : Database) × MakesAll shows changes begun db × (trees ≡ db.trees))
   crash-end changes begun last end ran one two =
       survives_then (shows begun) (shows last) (shows end) _ _ _ (λ _ trees none. absurd none)
       (λ clean trees is. ((shows last).now, record { last = last; ran = ran (omega (arith, two.clean)); is = refl }, is)) one two
 
-  pub crash-moved : (old : State) (changes : List Change) (begun end other : C) → end ≡ other → Survives old (shows end) (λ trees. (db : Database) × MakesAll shows changes begun db × (trees ≡ db.trees))
+  crash-moved : (old : State) (changes : List Change) (begun end other : C) → end ≡ other → Survives old (shows end) (λ trees. (db : Database) × MakesAll shows changes begun db × (trees ≡ db.trees))
       → Survives old (shows other) (λ trees. (db : Database) × MakesAll shows changes begun db × (trees ≡ db.trees))
   crash-moved old changes begun end other same h = subst (λ x. Survives old (shows x) (λ trees. (db : Database) × MakesAll shows changes begun db × (trees ≡ db.trees))) same h
+
+  -- what a power cut leaves of a transaction, from before it was begun up to its commit
+  pub crash-begun : (old : State) (changes : List Change) (begun last end other : C) → end ≡ other
+      → (Survives (shows begun) (shows end) (λ trees. (db : Database) × MakesAll shows changes begun db × (trees ≡ db.trees)) → Survives old (shows end) (λ trees. (db : Database) × MakesAll shows changes begun db × (trees ≡ db.trees)))
+      → (HasCleanDisk (shows last) → RunsAll shows changes begun last) → Survives (shows begun) (shows last) (λ _. ⊥) → Survives (shows last) (shows end) (λ trees. trees ≡ (shows last).now.trees)
+      → Survives old (shows other) (λ trees. (db : Database) × MakesAll shows changes begun db × (trees ≡ db.trees))
+  crash-begun old changes begun last end other same from_before ran one two =
+      crash-moved old changes begun end other same (from_before (crash-end changes begun last end ran one two))
 
 module _ {A E F : Type 0} where
   pub when-ok : (r : Result A E) (s : Result A F) (x : A) (P : Type 0) → is_ok s ≡ is_ok r → s ≡ Ok x → OnOk r P → P

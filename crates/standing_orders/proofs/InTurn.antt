@@ -2,12 +2,11 @@
 use Rattle.std.proofs.Common.{Bool, List, [], ap, append-nil, append_assoc, arith, cond, false, filter, fold, get_or, inl, inr, length, nat_le, nat_lt, refl, subst, suc, sym, true, ℕ, ◌++◌, ◌<◌, ◌==◌, ◌∙◌, ◌∷◌, ◌≡◌, ◌≤◌, ◌⊎◌}
 use Rattle.std.proofs.lemmas.Bool.{cases_lt, eqb-true, le-leb, lt-leb, true≢false}
 use Rattle.std.proofs.lemmas.List.Elements.{filter-append}
-use Rattle.std.proofs.lemmas.List.Kept.{AllPairs-filter}
 use Rattle.std.specs.List.Sorted.{IsNonDecreasingBy}
 use Rattle.std.specs.Prelude.{AllPairs}
 use Rattle.agent_events.specs.declared.order.OrderRow.{OrderRow}
 use Rattle.register_laws.proofs.Comparisons.{eq-no, eq-yes, lt-no, lt-yes}
-use Rattle.register_laws.proofs.ListParts.{filter-swap, filter-within}
+use Rattle.register_laws.proofs.ListParts.{filter-within}
 use Rattle.register_laws.proofs.ReplayedAlone.{turn-sorted}
 use Rattle.register_machine.specs.replay.Replay.{all_in_turn, in_turn}
 
@@ -38,7 +37,7 @@ sorted-rest n x xs sorted i j d le short = sorted (suc i) (suc j) d (omega (arit
 sorted-first : {X : Type 0} (n : X → ℕ) (x : X) (xs : List X) → IsNonDecreasingBy n (x ∷ xs) → (k : ℕ) (d : X) → k < length (x ∷ xs) → n x ≤ n (get_or (x ∷ xs) k d)
 sorted-first n x xs sorted k d short = sorted 0 k d (omega arith) short
 
-no-cons : {X : Type 0} {x : X} {xs : List X} → x ∷ xs ≡ [] → ⊥
+pub no-cons : {X : Type 0} {x : X} {xs : List X} → x ∷ xs ≡ [] → ⊥
 no-cons e = cc
 
 pub head-same : {X : Type 0} {x y : X} {xs ys : List X} → x ∷ xs ≡ y ∷ ys → x ≡ y
@@ -164,12 +163,3 @@ pub are-in-turn : (rows sorted : List OrderRow) → IsNonDecreasingBy (λ (row :
 are-in-turn rows sorted rises same =
     sorted-same (λ (row : OrderRow). row.receipt) sorted (all_in_turn rows) rises (never-falls (all_in_turn rows) (all-sorted rows))
     (λ z. same z ∙ sym (turns-at z.receipt [] rows))
-
--- what passes of the rows in turn is what passes, in turn
-pub turns-filter : (test : OrderRow → Bool) (rows : List OrderRow) → filter test (all_in_turn rows) ≡ all_in_turn (filter test rows)
-turns-filter test rows =
-    are-in-turn (filter test rows) (filter test (all_in_turn rows))
-    (never-falls (filter test (all_in_turn rows)) (AllPairs-filter (λ (row other : OrderRow). row.receipt ≤ other.receipt) test (all_in_turn rows) (all-sorted rows)))
-    (λ z. filter-swap (received_at z.receipt) test (all_in_turn rows)
-    ∙ (ap (filter test) (turns-at z.receipt [] rows)
-    ∙ filter-swap test (received_at z.receipt) rows))

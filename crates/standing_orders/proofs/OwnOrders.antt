@@ -18,6 +18,8 @@ use Rattle.order_book.proofs.Places.{got-behind}
 use Rattle.order_book.proofs.TrialRows.{standing-by-row}
 use Rattle.order_book.specs.Trials.{TrialFits, row_after, row_begun, row_on_trial}
 use Rattle.register_laws.proofs.ListParts.{filter-known, filter-map, filter-swap, filter-within}
+use Rattle.register_laws.proofs.OrdersStanding.{orders-standing}
+use Rattle.register_laws.proofs.TurnsFiltered.{turns-filter}
 use Rattle.register_laws.specs.Households.{is_of_household, is_own_row}
 use Rattle.register_laws.specs.OneEventMore.{replaced_by, struck_by}
 use Rattle.register_machine.specs.journal.Choices.{when}
@@ -25,8 +27,8 @@ use Rattle.register_machine.specs.journal.Journals.{Journal}
 use Rattle.register_machine.specs.journal.Kinds.{accounts_of, household_of}
 use Rattle.register_machine.specs.pricing.CorrectedOrders.{is_named, orders_of, replaces, stands}
 use Rattle.register_machine.specs.replay.Replay.{all_in_turn, is_priced_on, orders_on, priced_in, priced_orders}
-use Rattle.standing_orders.proofs.InTurn.{turns-filter}
-use Rattle.standing_orders.proofs.PricedOrders.{filter-both, found-all, mapped-found, orders-standing, under-number}
+use Rattle.standing_orders.proofs.InTurn.{head-same, no-cons, tail-same}
+use Rattle.standing_orders.proofs.PricedOrders.{filter-both, found-all, mapped-found, under-number}
 use Rattle.standing_orders.specs.Entries.{is_under, numbered_at, numbered_begun, numbered_on, order_of, row_of, rows_of}
 use Rattle.household_replay.specs.Replays.{NumberedOrder}
 use Rattle.standing_orders.proofs.LateOrders.{late-gathered}
@@ -37,35 +39,23 @@ use Rattle.standing_orders.specs.declared.entries.NumberedRow.{NumberedRow}
 
 -- ---- the rows at the places of a household are its own
 
-own-by-owner : (accounts : List AccountForm) (household : ℕ) (row : OrderRow) (owner : ℕ) → household_of accounts row.order.account ≡ Some owner → is_own_row (is_of_household accounts household) row ≡ is_owner household owner
+pub own-by-owner : (accounts : List AccountForm) (household : ℕ) (row : OrderRow) (owner : ℕ) → household_of accounts row.order.account ≡ Some owner → is_own_row (is_of_household accounts household) row ≡ is_owner household owner
 own-by-owner accounts household row owner is = ap (λ (found : Option ℕ). option_map_or (λ (o : ℕ). o == household) found false) is
 
 found-own : {Y : Type 0} (accounts : List AccountForm) (household : ℕ) (f : OrderRow → Option Y) (before rows : List OrderRow) (owners : List ℕ) → AreOwners accounts rows owners
     → filter_map (λ place. option_and_then f (slice_get (before ++ rows) place)) (places_from (length before) (is_owner household) owners) ≡ filter_map f (filter (is_own_row (is_of_household accounts household)) rows)
 found-own accounts household f before [] [] are = refl
-found-own accounts household f before [] (owner ∷ owners) are = absurd (too-many are)
-  where
-    too-many : [] ≡ Some owner ∷ map Some owners → ⊥
-    too-many h = cc
-found-own accounts household f before (row ∷ rows) [] are = absurd (too-few are)
-  where
-    too-few : household_of accounts row.order.account ∷ map (λ (r : OrderRow). household_of accounts r.order.account) rows ≡ [] → ⊥
-    too-few h = cc
+found-own accounts household f before [] (owner ∷ owners) are = absurd (no-cons (sym are))
+found-own accounts household f before (row ∷ rows) [] are = absurd (no-cons are)
 found-own {Y} accounts household f before (row ∷ rows) (owner ∷ owners) are =
-    by_owner (is_owner household owner) (rest (found-own accounts household f (before ++ row ∷ []) rows owners (tails are)))
-    ∙ ap (λ is. filter_map f (cond is (row ∷ filter own rows) (filter own rows))) (sym (own-by-owner accounts household row owner (heads are)))
+    by_owner (is_owner household owner) (rest (found-own accounts household f (before ++ row ∷ []) rows owners (tail-same are)))
+    ∙ ap (λ is. filter_map f (cond is (row ∷ filter own rows) (filter own rows))) (sym (own-by-owner accounts household row owner (head-same are)))
   where
     own : OrderRow → Bool
     own = is_own_row (is_of_household accounts household)
 
     at : ℕ → Option Y
     at place = option_and_then f (slice_get (before ++ row ∷ rows) place)
-
-    heads : household_of accounts row.order.account ∷ map (λ (r : OrderRow). household_of accounts r.order.account) rows ≡ Some owner ∷ map Some owners → household_of accounts row.order.account ≡ Some owner
-    heads h = cc
-
-    tails : household_of accounts row.order.account ∷ map (λ (r : OrderRow). household_of accounts r.order.account) rows ≡ Some owner ∷ map Some owners → map (λ (r : OrderRow). household_of accounts r.order.account) rows ≡ map Some owners
-    tails h = cc
 
     one-more : length (before ++ row ∷ []) ≡ length before + 1
     one-more = omega (arith, length-append before (row ∷ []))

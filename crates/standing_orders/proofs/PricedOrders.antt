@@ -11,12 +11,13 @@ use Rattle.agent_events.specs.declared.request.AccountForm.{AccountForm}
 use Rattle.forward_price.specs.declared.price_sheet.Sheet.{Sheet}
 use Rattle.register_laws.proofs.Comparisons.{eq-yes}
 use Rattle.register_laws.proofs.ListParts.{filter-known, filter-map}
+use Rattle.register_laws.proofs.OrdersStanding.{orders-standing}
 use Rattle.register_laws.specs.Households.{is_of_household, is_own_row}
 use Rattle.register_machine.specs.journal.Choices.{when}
 use Rattle.register_machine.specs.journal.Kinds.{household_of}
 use Rattle.register_machine.specs.pricing.CorrectedBook.{Book}
 use Rattle.register_machine.specs.pricing.CorrectedOrders.{stands}
-use Rattle.register_machine.specs.replay.Replay.{Priced, all_in_turn, is_priced_on, orders_on, priced_in, priced_orders}
+use Rattle.register_machine.specs.replay.Replay.{all_in_turn, is_priced_on, orders_on, priced_in, priced_orders}
 use Rattle.standing_orders.proofs.PickedRows.{chosen_at, picked-all}
 use Rattle.standing_orders.specs.Entries.{is_priced, is_under, order_of, owned_at, row_of, rows_of}
 use Rattle.household_replay.specs.Replays.{NumberedOrder, orders_under}
@@ -137,16 +138,6 @@ module _ (accounts : List AccountForm) (test : OrderRow → Bool) (rows : List O
           (sym (ap (λ (owner : Option ℕ). option_and_then (λ (o : ℕ). let e : NumberedRow = record { number = o; row = row } in when (test row) e) owner) owned.there) ∙ h)
 
 -- ---- the orders that a sheet of the corrected book prices
-
-rows-back : (sheets : List Sheet) (rows : List OrderRow) → map (λ (order : Priced). order.row) (map (priced_in sheets) rows) ≡ rows
-rows-back sheets [] = refl
-rows-back sheets (row ∷ rows) = ap (λ later. row ∷ later) (rows-back sheets rows)
-
-pub orders-standing : (book : Book) (sheet : Sheet) → orders_on (priced_orders book) sheet ≡ all_in_turn (filter (λ row. is_priced_on sheet.number (priced_in book.table.sheets row)) (filter stands book.orders))
-orders-standing book sheet =
-    let there = λ (row : OrderRow). is_priced_on sheet.number (priced_in book.table.sheets row) in
-    ap (λ priced. all_in_turn (map (λ (order : Priced). order.row) priced)) (filter-map (is_priced_on sheet.number) (priced_in book.table.sheets) (filter stands book.orders))
-    ∙ ap all_in_turn (rows-back book.table.sheets (filter there (filter stands book.orders)))
 
 pub orders-listed : (book : Book) (sheet : Sheet) → orders_on (priced_orders book) sheet ≡ all_in_turn (filter (is_priced sheet.number book.table.sheets) book.orders)
 orders-listed book sheet =

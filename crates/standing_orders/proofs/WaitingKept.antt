@@ -8,7 +8,7 @@ use Rattle.agent_events.specs.declared.order.OrderRow.{OrderRow}
 use Rattle.agent_events.specs.declared.request.AccountForm.{AccountForm}
 use Rattle.register_laws.proofs.Comparisons.{eq-no, eq-yes}
 use Rattle.register_machine.specs.journal.Kinds.{account_numbered, household_of}
-use Rattle.standing_orders.proofs.InTurn.{head-same, tail-same}
+use Rattle.standing_orders.proofs.InTurn.{head-same, no-cons, tail-same}
 use Rattle.standing_orders.proofs.PricedOrders.{or-first, or-second}
 use Rattle.standing_orders.specs.Places.{is_among, is_other_or_passes, passes_at, with_place}
 use Rattle.standing_orders.specs.WaitingLaws.{AnotherWaits, OneIsSettled, OneMoreOwned, OneMoreWaits, OthersLeave, OwnedWhenChanged, OwnedWithAccount, StillWaits}
@@ -45,10 +45,7 @@ household-still accounts form number household is = by_found (account_numbered a
 
 pub owned_with_account : (accounts : List AccountForm) (rows : List OrderRow) (owners : List ℕ) (form : AccountForm) → OwnedWithAccount accounts rows owners form
 owned_with_account accounts [] owners form are = are
-owned_with_account accounts (row ∷ rows) [] form are = absurd (too-few are)
-  where
-    too-few : household_of accounts row.order.account ∷ map (λ (r : OrderRow). household_of accounts r.order.account) rows ≡ [] → ⊥
-    too-few h = cc
+owned_with_account accounts (row ∷ rows) [] form are = absurd (no-cons are)
 owned_with_account accounts (row ∷ rows) (owner ∷ owners) form are =
     ap (λ (one : Option ℕ). one ∷ map (λ (r : OrderRow). household_of (accounts ++ form ∷ []) r.order.account) rows) (household-still accounts form row.order.account owner (head-same are))
     ∙ ap (λ later. Some owner ∷ later) (owned_with_account accounts rows owners form (tail-same are))

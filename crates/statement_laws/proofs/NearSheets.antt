@@ -10,10 +10,11 @@ use Rattle.agent_events.specs.declared.request.CalendarForm.{CalendarForm}
 use Rattle.agent_events.specs.declared.request.Request.{Request}
 use Rattle.agent_events.specs.declared.verdict.Caller.{Caller}
 use Rattle.forward_price.proofs.OrderlyFacts.{pair_calendar}
-use Rattle.forward_price.proofs.TurnFacts.{All-left, All-right, expected_best}
+use Rattle.forward_price.proofs.TurnFacts.{expected_best}
 use Rattle.forward_price.specs.Orderly.{IsOrderly}
 use Rattle.forward_price.specs.PriceTables.{Table, closed_in, sheet_published}
 use Rattle.forward_price.specs.Turns.{expected_of, wrong_class}
+use Rattle.fund_calendar.proofs.ListFacts.{All-left, All-right}
 use Rattle.fund_calendar.specs.PricingDays.{Listing, date_at}
 use Rattle.fund_calendar.specs.declared.pricing_day.PricingDay.{PricingDay}
 use Rattle.holder_statements.specs.Periods.{IsSheetNear}

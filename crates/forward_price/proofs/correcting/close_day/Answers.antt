@@ -3,10 +3,11 @@ use Rattle.std.proofs.Common.{◌≡◌, ◌<◌, ◌||◌, take, length, sym, a
 use Rattle.std.specs.List.{list_any}
 use Rattle.std.proofs.lemmas.List.{take_all}
 use Rattle.std.proofs.lemmas.List.Folds.{list_any_more}
+use Rattle.forward_price.proofs.ChoiceFacts.{or_true, or_false}
 use Rattle.forward_price.specs.PriceTables.{closed_in, is_priced, is_priced_day}
-use Rattle.forward_price.proofs.MapFacts.{mapped-more, mapped-all, same_rest, rest-set, or_true, or_false}
 use Rattle.forward_price.proofs.correcting.close_day.Goals as goal
 use Rattle.forward_price.proofs.correcting.close_day.Goals.{then-close_in, else-close_in}
+use Rattle.fund_calendar.proofs.ListFacts.{mapped-all, mapped-more, rest-set, same_rest}
 
 pub loop-calendar-preserved : goal.loop-calendar-preserved
 loop-calendar-preserved c =

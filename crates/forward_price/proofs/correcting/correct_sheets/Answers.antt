@@ -1,8 +1,8 @@
 -- That `correct_sheets` keeps its contract.
 use Rattle.std.proofs.Common.{sym, ap, ◌∙◌}
 use Rattle.forward_price.specs.PriceTables.{corrected_sheet}
-use Rattle.forward_price.proofs.MapFacts.{mapped-more, mapped-all}
 use Rattle.forward_price.proofs.correcting.correct_sheets.Goals as goal
+use Rattle.fund_calendar.proofs.ListFacts.{mapped-all, mapped-more}
 
 pub loop-sheet-preserved : goal.loop-sheet-preserved
 loop-sheet-preserved c =

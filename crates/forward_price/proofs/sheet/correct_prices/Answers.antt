@@ -1,8 +1,8 @@
 -- That `correct_prices` keeps its contract.
 use Rattle.std.proofs.Common.{sym, ap, ◌∙◌}
 use Rattle.forward_price.specs.PriceTables.{corrected_price}
-use Rattle.forward_price.proofs.MapFacts.{mapped-more, mapped-all}
 use Rattle.forward_price.proofs.sheet.correct_prices.Goals as goal
+use Rattle.fund_calendar.proofs.ListFacts.{mapped-all, mapped-more}
 
 pub loop-price-preserved : goal.loop-price-preserved
 loop-price-preserved c =

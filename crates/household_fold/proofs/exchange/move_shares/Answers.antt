@@ -1,6 +1,6 @@
 -- That `move_shares` keeps its contract.
 use Rattle.std.proofs.Common.{ap, ◌∙◌}
-use Rattle.household_positions.proofs.DayFacts.{own-account, own-class}
+use Rattle.register_machine.proofs.FoundFacts.{own-account, own-class}
 use Rattle.register_machine.specs.replay.Exchange.{position_with_pieces}
 use Rattle.register_machine.specs.replay.Positions.{Position, position_of, put}
 use Rattle.register_machine.specs.replay.Redemption.{position_less}

@@ -1,13 +1,14 @@
 -- That `sell` keeps its contract.
 use Rattle.std.proofs.Common.{ap, refl, subst, sym, ◌∙◌, ℕ}
 use Rattle.contingent_charge.specs.DeferredCharge.{charge_of_pieces}
+use Rattle.register_machine.proofs.FoundFacts.{own-class}
 use Rattle.share_lots.specs.Taking.{pieces}
 use Rattle.register_machine.specs.pricing.CorrectedBook.{schedule_of}
 use Rattle.register_machine.specs.replay.Positions.{Position, position_of}
 use Rattle.register_machine.specs.replay.Redemption.{position_less, redemption_trade}
 use Rattle.register_machine.specs.replay.Trades.{nav_of}
 use Rattle.household_fold.specs.Facts.{IsListed, book_of_facts, sheet_at_hand}
-use Rattle.household_positions.proofs.DayFacts.{closed-at, own-class}
+use Rattle.household_positions.proofs.DayFacts.{closed-at}
 use Rattle.household_fold.proofs.redemption.sell.Goals as goal
 
 pub take_charged-requires-clause-listed : goal.take_charged-requires-clause-listed

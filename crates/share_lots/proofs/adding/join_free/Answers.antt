@@ -1,8 +1,8 @@
 -- That `join_free` keeps its contract.
 use Rattle.std.proofs.Common.{◌<◌, length, ◌∙◌, ap, sym, arith}
+use Rattle.fund_calendar.proofs.ListFacts.{mapped-all, mapped-more, rest-set, same_rest}
 use Rattle.share_lots.specs.declared.lot.Lot.{Lot}
 use Rattle.share_lots.specs.Lots.{join_free}
-use Rattle.share_lots.proofs.LotLemmas.{same_rest, rest-set, mapped-more, mapped-all}
 use Rattle.share_lots.proofs.adding.join_free.Goals as goal
 
 pub joined_lot-requires-clause-lot : goal.joined_lot-requires-clause-lot

@@ -1,8 +1,8 @@
 -- That `hold_back` keeps its contract.
 use Rattle.std.proofs.Common.{◌<◌, length, ◌∙◌, ap, sym, arith}
+use Rattle.fund_calendar.proofs.ListFacts.{mapped-all, mapped-more, rest-set, same_rest}
 use Rattle.share_lots.specs.declared.lot.Lot.{Lot}
 use Rattle.share_lots.specs.Lots.{hold_in}
-use Rattle.share_lots.proofs.LotLemmas.{same_rest, rest-set, mapped-more, mapped-all}
 use Rattle.share_lots.proofs.escrow.hold_back.Goals as goal
 
 pub held_lot-requires-clause-lot : goal.held_lot-requires-clause-lot

@@ -1,8 +1,8 @@
 -- That `release_lots` keeps its contract.
 use Rattle.std.proofs.Common.{◌<◌, length, ◌∙◌, ap, sym, arith}
+use Rattle.fund_calendar.proofs.ListFacts.{mapped-all, mapped-more, rest-set, same_rest}
 use Rattle.share_lots.specs.declared.lot.Lot.{Lot}
 use Rattle.share_lots.specs.Lots.{release_lot}
-use Rattle.share_lots.proofs.LotLemmas.{same_rest, rest-set, mapped-more, mapped-all}
 use Rattle.share_lots.proofs.escrow.release_lots.Goals as goal
 
 pub released_lot-requires : goal.released_lot-requires

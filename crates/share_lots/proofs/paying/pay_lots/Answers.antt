@@ -1,8 +1,8 @@
 -- That `pay_lots` keeps its contract.
 use Rattle.std.proofs.Common.{◌≡◌, ◌<◌, ◌-◌, Option, length, min, ◌∙◌, ap, sym, arith}
+use Rattle.fund_calendar.proofs.ListFacts.{mapped-all, mapped-more, rest-set, same_rest}
 use Rattle.share_lots.specs.declared.lot.Lot.{Lot}
 use Rattle.share_lots.specs.Taking.{held_before, held_before_free, before_of, lot_paid, lot_paying, owned_held}
-use Rattle.share_lots.proofs.LotLemmas.{same_rest, rest-set, mapped-more, mapped-all}
 use Rattle.share_lots.proofs.PayingLemmas.{before_free-le, free_bound, passed-more, before_is}
 use Rattle.share_lots.proofs.paying.pay_lots.Goals as goal
 

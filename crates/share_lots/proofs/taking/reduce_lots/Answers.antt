@@ -2,10 +2,11 @@
 use Rattle.std.proofs.Common.{◌≡◌, ◌<◌, ◌≤◌, All, List, length, ◌∙◌, ap, subst, sym, min, arith}
 use Rattle.std.proofs.lemmas.List.{set-get_or}
 use Rattle.std.proofs.lemmas.List.Elements.{All-drop, All-weaker}
+use Rattle.fund_calendar.proofs.ListFacts.{rest-set, same_rest}
 use Rattle.share_lots.specs.Lots.{IsLot, mils}
 use Rattle.share_lots.specs.declared.lot.Lot.{Lot}
 use Rattle.share_lots.specs.Taking.{lot_less}
-use Rattle.share_lots.proofs.LotLemmas.{reduced-more, reduced-all, reduced-up, same_rest, rest-set}
+use Rattle.share_lots.proofs.LotLemmas.{reduced-more, reduced-all, reduced-up}
 use Rattle.share_lots.proofs.taking.reduce_lots.Goals as goal
 
 pub lessen-requires-clause-lot : goal.lessen-requires-clause-lot

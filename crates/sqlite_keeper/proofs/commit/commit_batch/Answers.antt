@@ -4,7 +4,7 @@ use Rattle.sqlite.specs.State.{HasCleanDisk}
 use Rattle.sqlite.specs.Held.{state}
 use Rattle.sqlite.proofs.Callers.{survives_begin}
 use Rattle.sqlite_keeper.specs.Commits.{changes_of, MakesAll}
-use Rattle.sqlite_keeper.proofs.StatementFacts.{whole-end, neither-end, crash-end, crash-moved, when-ok, when-err, on-err}
+use Rattle.sqlite_keeper.proofs.StatementFacts.{whole-end, neither-end, crash-begun, when-ok, when-err, on-err}
 use Rattle.sqlite_keeper.proofs.commit.commit_batch.Goals as goal
 
 pub returns-clause-whole : goal.returns-clause-whole
@@ -26,24 +26,20 @@ returns-clause-crash g c =
     let shows = state g.S.Store in
     let old = c.args.conn.now in
     let begun = c.transaction-changes.ensures.begun in
-    let last = c.make_changes.new.changes.conn.now in
     let end = c.commit.new.self.0 in
     let same : end ≡ c.conn-2-1.given.0 = search rules in
-    crash-moved shows (shows old) _ _ end _ same
-    (survives_begin g.S.Store old (shows end) _ (crash-end shows (changes_of c.args.base c.args.batch.now) (record old { in_transaction = true }) last end
-    (λ clean. rw begun at (c.in_ok-make_changes.ensures.ran clean (rw begun refl))) (rw begun at c.make_changes.ensures.nothing.survives) c.commit.ensures.survives))
+    crash-begun shows (shows old) (changes_of c.args.base c.args.batch.now) (record old { in_transaction = true }) c.make_changes.new.changes.conn.now end _ same (survives_begin g.S.Store old (shows end) _)
+    (λ clean. rw begun at (c.in_ok-make_changes.ensures.ran clean (rw begun refl))) (rw begun at c.make_changes.ensures.nothing.survives) c.commit.ensures.survives
 
 pub returns-in_err-map_err-clause-crash : goal.returns-in_err-map_err-clause-crash
 returns-in_err-map_err-clause-crash g c =
     let shows = state g.S.Store in
     let old = c.args.conn.now in
     let begun = c.transaction-changes.ensures.begun in
-    let last = c.make_changes.new.changes.conn.now in
     let end = c.commit.new.self.0 in
     let same : end ≡ c.conn-2-1.given.0 = search rules in
-    crash-moved shows (shows old) _ _ end _ same
-    (survives_begin g.S.Store old (shows end) _ (crash-end shows (changes_of c.args.base c.args.batch.now) (record old { in_transaction = true }) last end
-    (λ clean. rw begun at (c.in_ok-make_changes.ensures.ran clean (rw begun refl))) (rw begun at c.make_changes.ensures.nothing.survives) c.commit.ensures.survives))
+    crash-begun shows (shows old) (changes_of c.args.base c.args.batch.now) (record old { in_transaction = true }) c.make_changes.new.changes.conn.now end _ same (survives_begin g.S.Store old (shows end) _)
+    (λ clean. rw begun at (c.in_ok-make_changes.ensures.ran clean (rw begun refl))) (rw begun at c.make_changes.ensures.nothing.survives) c.commit.ensures.survives
 
 pub returns-in_err-map_err-clause-neither : goal.returns-in_err-map_err-clause-neither
 returns-in_err-map_err-clause-neither g c clean is_open =

@@ -4,7 +4,7 @@ use Rattle.std.specs.HashMap.{get}
 use Rattle.order_book.proofs.TakenIn.{taken-in}
 use Rattle.order_book.specs.Brought.{same_identity}
 use Rattle.order_book.proofs.identities.Identities.take.Goals as goal
-use Rattle.register_laws.proofs.PositionsInOrder.{option_or-none}
+use Rattle.register_machine.proofs.FoundFacts.{option_or-none}
 
 pub returns-in-Some-clause-kept : goal.returns-in-Some-clause-kept
 returns-in-Some-clause-kept c = λ journal moment at kept. record {

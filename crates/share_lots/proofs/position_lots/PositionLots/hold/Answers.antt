@@ -2,10 +2,11 @@
 use Rattle.std.proofs.Common.{◌≡◌, ◌++◌, ◌∙◌, ◌≤◌, List, length, map, take, drop, sym, subst, ap, arith}
 use Rattle.std.proofs.lemmas.Grind.{common_steps}
 use Rattle.std.specs.Prelude.{All}
+use Rattle.fund_calendar.proofs.ListFacts.{All-right}
 use Rattle.share_lots.specs.declared.lot.Lot.{Lot}
 use Rattle.share_lots.specs.Rows.{rest_of}
 use Rattle.share_lots.specs.Lots.{IsLot, hold_in}
-use Rattle.share_lots.proofs.RowLemmas.{All-right, held-around}
+use Rattle.share_lots.proofs.RowLemmas.{held-around}
 use Rattle.share_lots.proofs.position_lots.PositionLots.hold.Goals as goal
 
 pub hold_back-requires-2-clause-lots : goal.hold_back-requires-2-clause-lots

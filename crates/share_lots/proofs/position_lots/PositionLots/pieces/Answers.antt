@@ -1,12 +1,13 @@
 -- That `PositionLots::pieces` keeps its contract.
 use Rattle.std.proofs.Common.{◌≡◌, ◌++◌, ◌-◌, ◌∙◌, [], sum_by, sym, subst, ap, arith}
 use Rattle.std.specs.Prelude.{All}
+use Rattle.fund_calendar.proofs.ListFacts.{All-left, All-right}
 use Rattle.share_lots.specs.declared.lot.Lot.{Lot}
 use Rattle.share_lots.specs.Rows.{rest_of}
 use Rattle.share_lots.specs.Lots.{IsLot, mils}
 use Rattle.share_lots.specs.Taking.{pieces}
 use Rattle.share_lots.proofs.LotLemmas.{sum-mils}
-use Rattle.share_lots.proofs.RowLemmas.{All-left, All-right, sum-three, pieces-three}
+use Rattle.share_lots.proofs.RowLemmas.{sum-three, pieces-three}
 use Rattle.share_lots.proofs.position_lots.PositionLots.pieces.Goals as goal
 
 pub loose_total-requires : goal.loose_total-requires
