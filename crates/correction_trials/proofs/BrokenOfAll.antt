@@ -28,7 +28,7 @@ use Rattle.desk_books.specs.declared.books.DeskBooks.{DeskBooks}
 use Rattle.fund_calendar.proofs.LookUpLemmas.{find_passes}
 use Rattle.household_fold.specs.Facts.{Known}
 use Rattle.checkpoint_replay.specs.declared.change.HouseholdMove.{HouseholdMove}
-use Rattle.desk_books.proofs.ledger_of_journals.LedgerTotals.{is_of_households}
+use Rattle.desk_books.proofs.ledger_of_journals.HouseholdBooks.{is_of_households}
 use Rattle.register_laws.proofs.BrokenByParts.{breaks_by_parts}
 use Rattle.register_laws.proofs.KnownAccounts.{known-replay}
 use Rattle.register_laws.proofs.Unreached.{unreached_is_unbroken}

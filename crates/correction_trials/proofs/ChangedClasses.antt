@@ -21,7 +21,7 @@ use Rattle.event_laws.specs.EventReplays.{is_correction}
 use Rattle.gain_loss_book.specs.Booked.{AreDifferences}
 use Rattle.gain_loss_book.specs.ClassGains.{HasChanged, changes_class, class_flows, mils_change}
 use Rattle.gain_loss_book.specs.Posted.{cash_change}
-use Rattle.desk_books.proofs.ledger_of_journals.LedgerTotals.{is_of_households}
+use Rattle.desk_books.proofs.ledger_of_journals.HouseholdBooks.{is_of_households}
 use Rattle.register_laws.proofs.KnownAccounts.{known-replay}
 use Rattle.register_laws.proofs.NamesStand.{names_stand}
 use Rattle.register_laws.proofs.NoIdentityTwice.{no_account_twice}

@@ -14,7 +14,7 @@ use Rattle.correction_trials.specs.Fresh.{FreshIsOnTrial, KnowsItsAccount}
 use Rattle.event_laws.proofs.TriedCorrections.{tried_has_a_book}
 use Rattle.event_laws.specs.EventReplays.{is_correction}
 use Rattle.desk_books.proofs.ledger_laws.TrialBooks.{trial_is_sound}
-use Rattle.desk_books.proofs.ledger_of_journals.LedgerTotals.{owner-there}
+use Rattle.desk_books.proofs.ledger_of_journals.HouseholdBooks.{owner-there}
 use Rattle.order_book.proofs.BroughtFits.{fresh_fits}
 use Rattle.order_book.specs.Books.{Fits, begins_new_name}
 use Rattle.register_laws.proofs.AnswersByCases.{asks}

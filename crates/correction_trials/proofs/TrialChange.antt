@@ -28,7 +28,7 @@ use Rattle.gain_loss_book.specs.ClassGains.{gains_in}
 use Rattle.gain_loss_book.specs.declared.posting.Correction.{Correction}
 use Rattle.household_fold.specs.Facts.{Known, sheets_known}
 use Rattle.desk_books.proofs.ledger_of_journals.CorrectedParts.{keeps_accounts, reopens}
-use Rattle.desk_books.proofs.ledger_of_journals.LedgerTotals.{is_of_households}
+use Rattle.desk_books.proofs.ledger_of_journals.HouseholdBooks.{is_of_households}
 use Rattle.desk_books.proofs.ledger_of_journals.Reopenings.{reopenings_correct, unmoved}
 use Rattle.desk_books.specs.ledger_of_journals.CorrectedLedgers.{LeavesUnmoved, is_moved}
 use Rattle.register_laws.proofs.OneEventMore.{table_goes_on}

@@ -9,7 +9,8 @@ use Rattle.desk_looks.specs.KeptBooks.{KeepsCash, KeepsShares}
 use Rattle.desk_looks.specs.declared.kept_books.ClassShares.{ClassShares}
 use Rattle.desk_replies.proofs.OtherHolders.{are_holders}
 use Rattle.desk_replies.specs.GatheredNumbers.{shares_in}
-use Rattle.desk_books.proofs.ledger_of_journals.LedgerTotals.{has_totals, is_of_households}
+use Rattle.desk_books.proofs.ledger_of_journals.HouseholdBooks.{is_of_households}
+use Rattle.desk_books.proofs.ledger_of_journals.LedgerTotals.{has_totals}
 use Rattle.register_laws.specs.Lawful.{book_behind, own_at}
 use Rattle.register_machine.specs.corrections.Cash.{outstanding}
 use Rattle.register_machine.specs.corrections.Gains.{class_numbers_of}

@@ -224,7 +224,7 @@ all-agree journal event lawful plain other k d short =
     subst (λ b. SheetAgrees (book_behind journal) b (get_or (book_behind journal).table.sheets k d)) (sym (book_goes_on journal event lawful))
     (sheet-agrees journal event lawful event.kind refl plain other k d short)
 
-sheets-kept : (journal : Journal) (event : Event) → IsLawful (with_event journal event) → (kind : EventKind) → event.kind ≡ kind → is_correction kind ≡ false → is_sheet kind ≡ false → (book_behind (with_event journal event)).table.sheets ≡ (book_behind journal).table.sheets
+pub sheets-kept : (journal : Journal) (event : Event) → IsLawful (with_event journal event) → (kind : EventKind) → event.kind ≡ kind → is_correction kind ≡ false → is_sheet kind ≡ false → (book_behind (with_event journal event)).table.sheets ≡ (book_behind journal).table.sheets
 sheets-kept journal event lawful kind is plain other =
     ap (λ (b : Book). b.table.sheets) (book_goes_on journal event lawful ∙ ap (book_after (length journal) (book_behind journal) event.moment) is) ∙ by kind plain other
   where

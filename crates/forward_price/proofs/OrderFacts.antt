@@ -43,7 +43,7 @@ pairs_map R f xs all i j d lt l =
     rw (map_get f xs i d short, map_get f xs j d long) (all i j d lt long)
 
 -- where none is found
-none_parts : {X : Type 0} (p : X → Bool) (x : X) (xs : List X) → find p (x ∷ xs) ≡ None → (p x ≡ false) × (find p xs ≡ None)
+pub none_parts : {X : Type 0} (p : X → Bool) (x : X) (xs : List X) → find p (x ∷ xs) ≡ None → (p x ≡ false) × (find p xs ≡ None)
 none_parts p x xs e = elim (tested (p x)) [
   | inl here ↦ (let f = rw here at e in cc)
   | inr apart ↦ (apart, rw apart at e)

@@ -1,7 +1,6 @@
 -- What is booked behind an event is what was booked before it, and what is posted of it.
-use Rattle.std.proofs.Common.{List, None, Option, Some, [], ap, arith, fold, refl, sym, ℕ, ℤ, ◌++◌, ◌+ℤ◌, ◌-ℤ◌, ◌∙◌, ◌∷◌, ◌≡◌}
+use Rattle.std.proofs.Common.{List, None, Option, Some, [], ap, arith, refl, sym, ℕ, ℤ, ◌++◌, ◌+ℤ◌, ◌-ℤ◌, ◌∙◌, ◌∷◌, ◌≡◌}
 use Rattle.std.proofs.lemmas.Int.{ints}
-use Rattle.std.proofs.lemmas.List.{append-nil, append_assoc}
 use Rattle.std.proofs.lemmas.List.Sums.{sum_by-append}
 use Rattle.std.specs.List.{cons_option, filter_map}
 use Rattle.agent_events.specs.Events.{Event}
@@ -9,13 +8,13 @@ use Rattle.agent_events.specs.declared.order.Bearer.{Bearer}
 use Rattle.agent_events.specs.declared.order.Party.{Party}
 use Rattle.agent_events.specs.declared.reply_lists.ClassGain.{ClassGain}
 use Rattle.agent_events.specs.declared.totals.Changes.{Changes}
-use Rattle.forward_price.specs.PriceTables.{Table}
 use Rattle.forward_price.specs.declared.price_sheet.Sheet.{Sheet}
+use Rattle.register_machine.proofs.PaymentsMore.{payments-on}
 use Rattle.register_machine.specs.corrections.Cash.{Movement, balance, cash_of, cents_paid_in, cents_received_in, movements_of}
 use Rattle.register_machine.specs.corrections.Gains.{gain_of, gain_unless_same, gains_between, latest_nav}
-use Rattle.register_machine.specs.corrections.Payments.{bearer_in, payments_for, payments_from, payments_of}
+use Rattle.register_machine.specs.corrections.Payments.{bearer_in, payments_for, payments_of}
 use Rattle.register_machine.specs.journal.Journals.{Journal, with_event}
-use Rattle.register_machine.specs.pricing.PublishedTable.{empty_table, table_after}
+use Rattle.register_machine.specs.pricing.PublishedTable.{empty_table}
 use Rattle.register_machine.specs.replay.Trades.{Day}
 use Rattle.gain_loss_book.specs.Booked.{AreDifferences, BalancesAfter, correction_at, correction_by, table_behind}
 use Rattle.gain_loss_book.specs.ClassGains.{class_flows, gain_of_flows, gains_in, mils_change}
@@ -38,17 +37,6 @@ gains_between_are classes before after sheets changes are =
     gains-alike (λ class. gain_of_flows class (class_flows changes class) sheets) (gain_of before after (movements_of before.trades) (movements_of after.trades) sheets) (gain-by_differences changes before after sheets are) classes
 
 -- ---- payments
-
--- the payments with an event more
-payments-on : (table : Table) (before later : Journal) (event : Event) → payments_from table before (later ++ event ∷ []) ≡ payments_from table before later ++ payments_for (bearer_in event.kind) (fold table_after table later) (before ++ later) event
-payments-on table before [] event =
-    append-nil (payments_for (bearer_in event.kind) table before event)
-    ∙ ap (λ (j : Journal). payments_for (bearer_in event.kind) table j event) (sym (append-nil before))
-payments-on table before (first ∷ later) event =
-    let paid = payments_for (bearer_in first.kind) table before first in
-    ap (λ (ms : List Movement). paid ++ ms) (payments-on (table_after table first) (with_event before first) later event)
-    ∙ (sym (append_assoc paid (payments_from (table_after table first) (with_event before first) later) (payments_for (bearer_in event.kind) (fold table_after (table_after table first) later) (with_event before first ++ later) event))
-    ∙ ap (λ (known : Journal). (paid ++ payments_from (table_after table first) (with_event before first) later) ++ payments_for (bearer_in event.kind) (fold table_after (table_after table first) later) known event) (append_assoc before (first ∷ []) later))
 
 -- they are those of its correction
 paid-by : (bearer : Option Bearer) (journal : Journal) (event : Event) → payments_for bearer (table_behind journal) journal event ≡ payments_by (correction_by bearer journal event)

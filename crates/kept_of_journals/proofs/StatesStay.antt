@@ -1,6 +1,5 @@
 -- Kept states are what the households came to, and which events and corrections leave them so.
 use Rattle.std.proofs.Common.{List, [], ap, arith, false, length, refl, subst, sym, take, ℕ, ◌∙◌, ◌∷◌, ◌≡◌, ◌≤◌}
-use Rattle.std.proofs.lemmas.Bool.{true≢false}
 use Rattle.std.proofs.lemmas.List.{length-append, length-map}
 use Rattle.std.proofs.lemmas.List.Elements.{All-nil, All-weaker}
 use Rattle.agent_events.specs.Events.{Event}
@@ -8,7 +7,7 @@ use Rattle.agent_events.specs.declared.event.EventKind.{EventKind}
 use Rattle.agent_events.specs.declared.order.OrderRow.{OrderRow}
 use Rattle.agent_events.specs.declared.request.FixPriceForm.{FixPriceForm}
 use Rattle.agent_events.specs.declared.request.SheetForm.{SheetForm}
-use Rattle.waiting_laws.proofs.event_laws.EventReplays.{adds_sheet, leaves_replay}
+use Rattle.waiting_laws.proofs.event_laws.EventReplays.{adds_sheet, leaves_replay, sheets-kept}
 use Rattle.waiting_laws.proofs.event_laws.PartsStay.{same_parts}
 use Rattle.waiting_laws.specs.event_laws.EventReplays.{is_correction, is_sheet, sheet_behind}
 use Rattle.kept_of_journals.specs.KeptOfBooks.{AreKeptOf, IsAsOf, LastIsAsOf, LawfulLeavesKept, LeavesSettled, LeftIsAsOf, PriceLeavesKept, part_to}
@@ -19,7 +18,7 @@ use Rattle.register_laws.proofs.NothingBefore.{last-brought}
 use Rattle.register_laws.proofs.RegistersKept.{at-last}
 use Rattle.register_laws.specs.Households.{part_of}
 use Rattle.register_laws.specs.Lawful.{book_behind}
-use Rattle.register_laws.specs.OneEventMore.{book_after, orders_after, replaced_by, struck_by}
+use Rattle.register_laws.specs.OneEventMore.{orders_after, replaced_by, struck_by}
 use Rattle.register_machine.specs.journal.Journals.{Journal, with_event}
 use Rattle.register_machine.specs.journal.Kinds.{accounts_of}
 use Rattle.register_machine.specs.journal.Lawful.{IsLawful}
@@ -82,18 +81,6 @@ no_fewer place rows _ = omega arith
 
 -- ---- What an event that is no correction leaves.
 
--- one that is no sheet leaves the published sheets
-sheets-stay : (journal : Journal) (event : Event) → IsLawful (with_event journal event) → is_correction event.kind ≡ false → is_sheet event.kind ≡ false → (book_behind (with_event journal event)).table.sheets ≡ (book_behind journal).table.sheets
-sheets-stay journal event lawful plain other = ap (λ (book : Book). book.table.sheets) (book_goes_on journal event lawful) ∙ by event.kind plain other
-  where
-    by : (kind : EventKind) → is_correction kind ≡ false → is_sheet kind ≡ false → (book_after (length journal) (book_behind journal) event.moment kind).table.sheets ≡ (book_behind journal).table.sheets
-    by (EventKind.Sheet form) plain other = absurd (true≢false other)
-    by (EventKind.FixPrice form) plain other = absurd (true≢false plain)
-    by (EventKind.Calendar form) plain other = refl
-    by (EventKind.Close form) plain other = refl
-    by (EventKind.Class form) plain other = refl
-    by _ plain other = refl
-
 module _ (journal : Journal) (event : Event) (lawful : IsLawful (with_event journal event)) (plain : is_correction event.kind ≡ false) (household : ℕ) (kept : KeptState) (is : IsAsOf (book_behind journal) household kept) where
   -- no order goes
   more-orders : length (book_behind journal).orders ≤ length (book_behind (with_event journal event)).orders
@@ -115,7 +102,7 @@ module _ (journal : Journal) (event : Event) (lawful : IsLawful (with_event jour
 
   behind-other : is_sheet event.kind ≡ false → IsAsOf (book_behind (with_event journal event)) household kept
   behind-other other =
-      let many = ap length (sheets-stay journal event lawful plain other) in
+      let many = ap length (sheets-kept journal event lawful event.kind refl plain other) in
       stays (omega (arith, many, is.published)) (sym ((leaves_replay journal event lawful plain other).0.up_to kept.sheet))
 
   behind-event : IsAsOf (book_behind (with_event journal event)) household kept

@@ -8,10 +8,12 @@ pub mod CorrectedParts
 pub mod SumsOfMoves
 -- the trades of a ledger, household by household
 pub mod SumsOverLedgers
--- the totals of a ledger, and by how much they differ between two
-pub mod LedgerTotals
+-- books of households, and the owners of their trades
+pub mod HouseholdBooks
 -- by how much moves change the totals, told by the days that they leave
 pub mod MovedDays
+-- the totals of a ledger, and by how much they differ between two
+pub mod LedgerTotals
 -- the facts that serve the books of journals
 pub mod ServedBooks
 -- the moves that reopen households

@@ -1,5 +1,6 @@
 -- By how much moves change the totals, told by the days that they leave: those of the households in another book.
-use Rattle.std.proofs.Common.{List, [], ap, false, filter, fold, nat_eq, pos, sym, ℕ, ℤ, ◌+ℤ◌, ◌==◌, ◌∙◌, ◌≡◌}
+use Rattle.std.proofs.Common.{List, [], ap, arith, false, filter, fold, nat_eq, pos, sym, ℕ, ℤ, ◌+ℤ◌, ◌==◌, ◌∙◌, ◌≡◌}
+use Rattle.std.proofs.lemmas.Int.{ints}
 use Rattle.std.specs.List.{IsDistinct, list_any}
 use Rattle.std.specs.Option.{option_map_or}
 use Rattle.std.specs.Prelude.{◌-ℤ◌}
@@ -18,7 +19,7 @@ use Rattle.gain_loss_book.specs.Flows.{net, no_flow}
 use Rattle.gain_loss_book.specs.Movements.{trades_mils}
 use Rattle.gain_loss_book.specs.declared.flows.Flow.{Flow}
 use Rattle.ledger_laws.proofs.ClassTotals.{totals_by_differences}
-use Rattle.ledger_of_journals.proofs.LedgerTotals.{difference, trades-owned}
+use Rattle.ledger_of_journals.proofs.HouseholdBooks.{trades-owned}
 use Rattle.ledger_of_journals.proofs.SumsOfMoves.{CoversMoves, moves-sum}
 use Rattle.ledger_of_journals.proofs.SumsOverLedgers.{all-brought, joined, joined-distinct, not-joined, owners, owners-cover, owners-distinct}
 use Rattle.ledger_of_journals.specs.LedgerTotals.{IsOfHouseholds}
@@ -73,6 +74,9 @@ moved-by flow additive before after parts moves of other is =
     let last = sum-of-days flow additive after gone other is.to all distinct (λ household missing. (missed household missing).0) in
     let moved = moves-sum flow additive parts all distinct moves is.apart covers (part_in parts) (all-still parts moves) in
     last ∙ (moved ∙ ap (λ (z : ℤ). z +ℤ net (fold (with_move flow parts) no_flow moves)) (sym first))
+
+difference : (before after change : ℤ) → after ≡ before +ℤ change → change ≡ after -ℤ before
+difference before after change sum = omega (arith, ints, sum)
 
 pub differences-by-days : (changes : Changes) (before after : Book) (parts : List (ℕ × HouseholdPart)) (moves : List HouseholdMove) → IsOfHouseholds before → IsOfHouseholds after → LeadToDays before after parts moves → AreChangesOf changes parts moves → AreDifferences changes (replay before) (replay after)
 differences-by-days changes before after parts moves of other is are = record {

@@ -21,6 +21,7 @@ use Rattle.money_units.specs.Rounding.{half}
 use Rattle.offering_price.specs.Purchase.{split_at_price, mils_bought, offering_price, split_of}
 use Rattle.offering_price.specs.declared.purchase.Split.{Split}
 use Rattle.register_laws.proofs.Comparisons.{eq-yes, not-zero}
+use Rattle.register_laws.specs.Priced.{kind_of}
 use Rattle.register_laws.specs.Trades.{stays_in_class}
 use Rattle.register_machine.proofs.PutAgain.{put-over}
 use Rattle.register_machine.specs.journal.Choices.{first_some, when}
@@ -53,16 +54,6 @@ pub record HasRoom (x : Position) (mils cents : ℕ) : Type 0 where
   pub some : 1 ≤ mils
   pub mils_fit : mils_of x.holding + mils ≤ most_mils
   pub cost_fits : cost_total x.holding + cents ≤ most_cost
-
-abbrev pub kind_of : Body → TradeKind
-kind_of (Body.Buy class gross) = TradeKind.Buy
-kind_of (Body.Sell class mils) = TradeKind.Sell
-kind_of (Body.SellCash class amount) = TradeKind.Sell
-kind_of (Body.SellAll class) = TradeKind.Sell
-kind_of (Body.Exchange class to mils) = TradeKind.Exchange
-kind_of (Body.ExchangeAll class to) = TradeKind.Exchange
-kind_of (Body.Letter class amount) = TradeKind.Letter
-kind_of (Body.Elect class in_cash) = if in_cash then TradeKind.ElectCash else TradeKind.ElectShares
 
 pub record IsBought (book : Book) (sheet : Sheet) (register : Register) (row : OrderRow) (gross : ℕ) (split : Split) : Type 0 where
   pub body : row.order.body ≡ Body.Buy (class_of row.order.body) gross

@@ -65,8 +65,8 @@ pub mod OrdersStanding
 pub mod PartPlaces
 pub mod AlikeDays
 pub mod StepsAlike
-pub mod ReplayedAlone
 pub mod TurnsFiltered
+pub mod ReplayedAlone
 pub mod PlacesLeftOut
 pub mod ViewBooks
 pub mod HouseholdSheets

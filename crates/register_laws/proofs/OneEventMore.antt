@@ -1,19 +1,18 @@
 -- What one event more does to what a journal says.
-use Rattle.std.proofs.Common.{List, None, Option, Some, [], ap, append-nil, append_assoc, fold, option_to_list, refl, sym, ◌++◌, ◌∙◌, ◌∷◌, ◌≡◌}
+use Rattle.std.proofs.Common.{List, None, Option, Some, [], ap, append-nil, option_to_list, refl, ◌++◌, ◌∙◌, ◌∷◌, ◌≡◌}
 use Rattle.std.proofs.lemmas.List.Elements.{filter_map-append}
 use Rattle.std.specs.List.{cons_option}
 use Rattle.agent_events.specs.Events.{Event}
 use Rattle.agent_events.specs.declared.event.EventKind.{EventKind}
 use Rattle.agent_events.specs.declared.request.DividendForm.{DividendForm}
 use Rattle.agent_events.specs.declared.request.FixRateForm.{FixRateForm}
-use Rattle.forward_price.specs.PriceTables.{Table}
 use Rattle.register_laws.proofs.Runs.{table-one}
 use Rattle.register_laws.specs.OneEventMore.{PaymentsGoOn, RatesGoOn, TableGoesOn, rates_after}
-use Rattle.register_machine.specs.corrections.Payments.{bearer_in, payments_for, payments_from}
+use Rattle.register_machine.proofs.PaymentsMore.{payments-on}
 use Rattle.register_machine.specs.journal.Journals.{Journal, with_event}
 use Rattle.register_machine.specs.journal.Kinds.{dividend_in, each_in, rate_fix_in}
 use Rattle.register_machine.specs.pricing.DividendRates.{Rates, rates_of}
-use Rattle.register_machine.specs.pricing.PublishedTable.{empty_table, table_after, table_behind}
+use Rattle.register_machine.specs.pricing.PublishedTable.{empty_table, table_behind}
 
 -- ---- kinds
 
@@ -43,17 +42,8 @@ rates_go_on journal event =
 
 -- ---- payments
 
-payments-on : (table : Table) (before later : Journal) (event : Event) → payments_from table before (later ++ event ∷ []) ≡ payments_from table before later ++ payments_for (bearer_in event.kind) (table_behind table later) (before ++ later) event
-unfolding table_behind
-payments-on table before [] event =
-    append-nil (payments_for (bearer_in event.kind) table before event)
-    ∙ ap (λ known. payments_for (bearer_in event.kind) table known event) (sym (append-nil before))
-payments-on table before (first ∷ later) event =
-    ap (λ more. payments_for (bearer_in first.kind) table before first ++ more) (payments-on (table_after table first) (with_event before first) later event)
-    ∙ (sym (append_assoc (payments_for (bearer_in first.kind) table before first) (payments_from (table_after table first) (with_event before first) later) (payments_for (bearer_in event.kind) (fold table_after (table_after table first) later) (with_event before first ++ later) event))
-    ∙ ap (λ known. (payments_for (bearer_in first.kind) table before first ++ payments_from (table_after table first) (with_event before first) later) ++ payments_for (bearer_in event.kind) (fold table_after (table_after table first) later) known event) (append_assoc before (first ∷ []) later))
-
 pub payments_go_on : (journal : Journal) (event : Event) → PaymentsGoOn journal event
+unfolding table_behind
 payments_go_on journal event = payments-on empty_table [] journal event
 
 pub table_goes_on : (journal : Journal) (event : Event) → TableGoesOn journal event

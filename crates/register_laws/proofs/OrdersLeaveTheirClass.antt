@@ -1,5 +1,5 @@
 -- No order of a lawful journal exchanges a class into itself.
-use Rattle.std.proofs.Common.{All, Bool, List, None, Option, Some, cond, drop, false, filter, find, get_or, inl, inr, is_some, length, not, option_and_then, option_map, refl, subst, sym, true, ℕ, ◌&&◌, ◌==◌, ◌∙◌, ◌∷◌, ◌≡◌}
+use Rattle.std.proofs.Common.{All, Bool, None, Option, Some, drop, false, filter, find, get_or, inl, inr, is_some, length, not, option_and_then, option_map, refl, subst, sym, true, ℕ, ◌&&◌, ◌==◌, ◌∙◌, ◌∷◌, ◌≡◌}
 use Rattle.std.proofs.lemmas.Bool.{and_parts, true≢false}
 use Rattle.std.proofs.lemmas.Bool.Decides.{eqb_tells}
 use Rattle.std.proofs.lemmas.List.Elements.{All-filter, All-nil, All-push}
@@ -13,6 +13,7 @@ use Rattle.agent_events.specs.declared.order.OrderRow.{OrderRow}
 use Rattle.agent_events.specs.declared.reply.Refusal.{Refusal}
 use Rattle.agent_events.specs.declared.request.EntryForm.{EntryForm}
 use Rattle.agent_events.specs.declared.request.Request.{Request}
+use Rattle.forward_price.proofs.OrderFacts.{none_parts}
 use Rattle.share_lots.specs.Lots.{lots_with}
 use Rattle.register_laws.proofs.BookOrders.{SaidAs, SaysAs, order_said, orders-as}
 use Rattle.register_laws.proofs.Choosing.{not_mapped, not_when}
@@ -74,16 +75,6 @@ row-leaves book row clear =
 
 -- ---- what a request brings
 
-all-there : {X : Type 0} (p : X → Bool) (x : X) (xs : List X) → find p (x ∷ xs) ≡ None → (p x ≡ false) × (find p xs ≡ None)
-all-there p x xs e =
-    elim (p x) as (λ b. p x ≡ b → cond b (Some x) (find p xs) ≡ None → (p x ≡ false) × (find p xs ≡ None)) [
-      | true ↦ λ t h. absurd (some_none h)
-      | false ↦ λ t h. (t, h)
-    ] refl e
-  where
-    some_none : (Some x ≡ None) → ⊥
-    some_none h = cc
-
 replaced-leaves : (situation : Situation) (form : EntryForm) (found : Option OrderRow) → is_some found ≡ true → option_and_then (not_offered situation.book) (option_map (λ row. row_as_sent row.place form.receipt form.order) found) ≡ None → stays_in_class form.order.body ≡ false
 replaced-leaves situation form None there clear = absurd (true≢false (sym there))
 replaced-leaves situation form (Some row) there clear = row-leaves situation.book (row_as_sent row.place form.receipt form.order) clear
@@ -97,9 +88,9 @@ brings-leaving situation (Request.Enter form) now due known clear =
     row-leaves situation.book (row_as_sent (length situation.journal) form.receipt form.order) clear
 brings-leaving situation (Request.Replace form) now due known clear =
     let none = not_mapped (λ (field : ℕ × Bool). Refusal.NoSuch field.0) (find (λ (field : ℕ × Bool). not field.1) (things_named situation (Request.Replace form))) known in
-    let first = all-there (λ (field : ℕ × Bool). not field.1) (2, has_bearer situation form.bearer) (named_in_replacement situation form) none in
-    let second = all-there (λ (field : ℕ × Bool). not field.1) (5, has_account situation form.order.account) ((6, has_order situation form.order.account form.order.ref_no) ∷ drop 1 (named_in_order situation 5 form.order)) first.1 in
-    let third = all-there (λ (field : ℕ × Bool). not field.1) (6, has_order situation form.order.account form.order.ref_no) (drop 1 (named_in_order situation 5 form.order)) second.1 in
+    let first = none_parts (λ (field : ℕ × Bool). not field.1) (2, has_bearer situation form.bearer) (named_in_replacement situation form) none in
+    let second = none_parts (λ (field : ℕ × Bool). not field.1) (5, has_account situation form.order.account) ((6, has_order situation form.order.account form.order.ref_no) ∷ drop 1 (named_in_order situation 5 form.order)) first.1 in
+    let third = none_parts (λ (field : ℕ × Bool). not field.1) (6, has_order situation form.order.account form.order.ref_no) (drop 1 (named_in_order situation 5 form.order)) second.1 in
     replaced-leaves situation form (order_named situation.book.orders form.order.account form.order.ref_no)
     (not-false (has_order situation form.order.account form.order.ref_no) third.0) clear
 brings-leaving situation request now due known clear = refl

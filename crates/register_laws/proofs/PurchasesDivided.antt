@@ -12,9 +12,10 @@ use Rattle.money_units.specs.Rounding.{half}
 use Rattle.offering_price.specs.Accumulation.{bracket}
 use Rattle.offering_price.specs.Purchase.{split_at_price, mils_bought, offering_price, proceeds_of, split_of}
 use Rattle.offering_price.specs.declared.purchase.Split.{Split}
-use Rattle.register_laws.proofs.DayTurns.{IsBought, Turn, bought_by, elected_by, exchanged_by, kind_of, position_asked, reached_by, rows_done, settled_by, sold_by, trade_of, trades_added}
+use Rattle.register_laws.proofs.DayTurns.{IsBought, Turn, bought_by, elected_by, exchanged_by, position_asked, reached_by, rows_done, settled_by, sold_by, trade_of, trades_added}
 use Rattle.register_laws.proofs.OrdersInTurn.{rows-on}
 use Rattle.register_laws.proofs.ReplayTurns.{All-one, AnyKey, TurnsKeep, any-all, replay-kept}
+use Rattle.register_laws.specs.Priced.{kind_of}
 use Rattle.register_laws.specs.Trades.{GrossIsWhole, IsDone, IsPurchase, is_purchase}
 use Rattle.register_machine.proofs.FoundFacts.{own-class}
 use Rattle.register_machine.specs.pricing.CorrectedBook.{Book, front_of}

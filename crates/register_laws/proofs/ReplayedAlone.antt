@@ -1,17 +1,15 @@
 -- The part of a household of a replay is the replay of its own book.
-use Rattle.std.proofs.Common.{Bool, List, None, Option, Some, [], ap, append-nil, arith, cond, false, filter, find, fold, get_or, length, map, nat_le, nat_lt, option_map, refl, subst, sym, true, ℕ, ◌&&◌, ◌++◌, ◌<◌, ◌==◌, ◌∙◌, ◌∷◌, ◌≡◌, ◌≤◌}
-use Rattle.std.proofs.lemmas.Bool.{and_parts, eqb-true, le-ltb, leb-false, leb-true, lt-leb, lt-ltb, ltb-true, true≢false}
-use Rattle.std.proofs.lemmas.List.Elements.{All-cons, filter-append, filter_passes}
+use Rattle.std.proofs.Common.{Bool, List, None, Option, Some, [], ap, append-nil, arith, cond, false, filter, find, fold, map, option_map, refl, subst, sym, true, ℕ, ◌&&◌, ◌++◌, ◌==◌, ◌∙◌, ◌∷◌, ◌≡◌}
+use Rattle.std.proofs.lemmas.Bool.{and_parts, eqb-true, true≢false}
+use Rattle.std.proofs.lemmas.List.Elements.{filter-append}
 use Rattle.std.proofs.lemmas.List.Folds.{fold_along}
-use Rattle.std.proofs.lemmas.List.Kept.{AllPairs-cons, AllPairs-filter}
 use Rattle.std.specs.Option.{option_map_or}
-use Rattle.std.specs.Prelude.{AllPairs}
 use Rattle.agent_events.specs.declared.order.OrderRow.{OrderRow}
 use Rattle.agent_events.specs.declared.request.AccountForm.{AccountForm}
 use Rattle.forward_price.specs.declared.price_sheet.Sheet.{Sheet}
 use Rattle.offering_price.specs.Accumulation.{credit}
 use Rattle.register_laws.proofs.AlikeDays.{Alike, BodyCounts, dividends-alike, letter_ends-alike, orders-alike}
-use Rattle.register_laws.proofs.ListParts.{filter-map, filter-sides, filter-swap, filter-within, filters-agree, fold-part, pairs-append}
+use Rattle.register_laws.proofs.ListParts.{filter-map, filter-swap, filter-within, filters-agree, fold-part}
 use Rattle.register_laws.proofs.PartPlaces.{found-in-part, is_own_key, keys-of-part, put-other-part, put-own-part}
 use Rattle.register_laws.proofs.PositionsInOrder.{put-in_order}
 use Rattle.register_laws.specs.Households.{ReplayedAlone, accounts_of_household, is_of_household, is_own_position, is_own_row, is_own_trade, own_book, part_by}
@@ -25,7 +23,7 @@ use Rattle.register_machine.specs.replay.Dividend.{day_after_class, day_after_di
 use Rattle.register_machine.specs.replay.Letter.{day_after_letter_end, day_after_letter_ends, has_letter_over}
 use Rattle.register_machine.specs.replay.Positions.{Position, PositionKey, Register, key_of, position_of, put}
 use Rattle.register_machine.specs.replay.Purchase.{credit_of, is_counted, worth_on}
-use Rattle.register_machine.specs.replay.Replay.{Priced, all_in_turn, day_after_sheet, first_day, in_turn, is_priced_on, orders_on, priced_in, priced_orders, replay_over}
+use Rattle.register_machine.specs.replay.Replay.{Priced, all_in_turn, day_after_sheet, first_day, is_priced_on, orders_on, priced_in, priced_orders, replay_over}
 use Rattle.register_machine.specs.replay.Trades.{Day, with_position, with_trade}
 
 -- ---- the part of a day
@@ -138,58 +136,6 @@ beside own day part is = record { same = refl; part = is }
 
 -- ---- orders in turn
 
-abbrev GoesBy : OrderRow → OrderRow → Type 0
-GoesBy row other = row.receipt ≤ other.receipt
-
-pub turn-sorted : (row : OrderRow) (rows : List OrderRow) → AllPairs GoesBy rows → AllPairs GoesBy (in_turn row rows)
-turn-sorted row rows ordered =
-    let less = λ (other : OrderRow). nat_le other.receipt row.receipt in
-    let more = λ (other : OrderRow). nat_lt row.receipt other.receipt in
-    let behind = λ (k : ℕ) (d : OrderRow) (short : k < length (filter more rows)). ltb-true row.receipt (get_or (filter more rows) k d).receipt (filter_passes more rows k d short) in
-    pairs-append GoesBy (filter less rows) (row ∷ filter more rows) (AllPairs-filter GoesBy less rows ordered)
-    (AllPairs-cons GoesBy row (filter more rows) (λ k d short. omega (arith, behind k d short)) (AllPairs-filter GoesBy more rows ordered))
-    (λ k d short.
-    let early = leb-true (get_or (filter less rows) k d).receipt row.receipt (filter_passes less rows k d short) in
-    All-cons (GoesBy (get_or (filter less rows) k d)) row (filter more rows) early (λ i e within. omega (arith, early, behind i e within)))
-
-record TurnsPart (own : ℕ → Bool) (ordered part : List OrderRow) : Type 0 where
-  sorted : AllPairs GoesBy ordered
-  rows : filter (is_own_row own) ordered ≡ part
-
-own-turn : (own : ℕ → Bool) (ordered part : List OrderRow) (row : OrderRow) → is_own_row own row ≡ true → TurnsPart own ordered part → TurnsPart own (in_turn row ordered) (in_turn row part)
-own-turn own ordered part row mine is =
-    let q = is_own_row own in
-    let less = λ (other : OrderRow). nat_le other.receipt row.receipt in
-    let more = λ (other : OrderRow). nat_lt row.receipt other.receipt in
-    record {
-      sorted = turn-sorted row ordered is.sorted;
-      rows = filter-append q (filter less ordered) (row ∷ filter more ordered)
-          ∙ (ap (λ b. filter q (filter less ordered) ++ cond b (row ∷ filter q (filter more ordered)) (filter q (filter more ordered))) mine
-          ∙ (ap (λ ys. ys ++ row ∷ filter q (filter more ordered)) (filter-swap q less ordered)
-          ∙ (ap (λ ys. filter less (filter q ordered) ++ row ∷ ys) (filter-swap q more ordered)
-          ∙ ap (in_turn row) is.rows)));
-    }
-
-other-turn : (own : ℕ → Bool) (ordered part : List OrderRow) (row : OrderRow) → is_own_row own row ≡ false → TurnsPart own ordered part → TurnsPart own (in_turn row ordered) part
-other-turn own ordered part row other is =
-    let q = is_own_row own in
-    let less = λ (x : OrderRow). nat_le x.receipt row.receipt in
-    let more = λ (x : OrderRow). nat_lt row.receipt x.receipt in
-    record {
-      sorted = turn-sorted row ordered is.sorted;
-      rows = filter-append q (filter less ordered) (row ∷ filter more ordered)
-          ∙ (ap (λ b. filter q (filter less ordered) ++ cond b (row ∷ filter q (filter more ordered)) (filter q (filter more ordered))) other
-          ∙ (filter-sides q less more GoesBy (λ x mine e. le-ltb row.receipt x.receipt (leb-true x.receipt row.receipt e)) (λ x mine e. lt-ltb row.receipt x.receipt (leb-false x.receipt row.receipt e))
-          (λ x y by e. let gt = leb-false x.receipt row.receipt e in lt-leb y.receipt row.receipt (omega (arith, gt, by))) ordered is.sorted
-          ∙ is.rows));
-    }
-
-pub turns-part : (own : ℕ → Bool) (rows : List OrderRow) → filter (is_own_row own) (all_in_turn rows) ≡ all_in_turn (filter (is_own_row own) rows)
-turns-part own rows =
-    (fold-part (TurnsPart own) (is_own_row own) (λ ordered row. in_turn row ordered) (λ ordered row. in_turn row ordered)
-    (λ d e row mine is. own-turn own d e row mine is) (λ d e row other is. other-turn own d e row other is)
-    [] [] rows (record { sorted = λ i j d lt within. absurd (omega (arith, within)); rows = refl })).rows
-
 -- the orders of a sheet in the own book are the own ones among all
 pub orders-part : (book : Book) (household : ℕ) (sheet : Sheet) → orders_on (priced_orders (own_book household book)) sheet ≡ filter (is_own_row (is_of_household book.accounts household)) (orders_on (priced_orders book) sheet)
 orders-part book household sheet =
@@ -203,7 +149,7 @@ orders-part book household sheet =
     ap (λ priced. all_in_turn (map row_of (filter on priced))) listed
     ∙ (ap (λ priced. all_in_turn (map row_of priced)) (filter-swap on of_priced (priced_orders book))
     ∙ (ap all_in_turn (sym (filter-map q row_of (filter on (priced_orders book))))
-    ∙ sym (turns-part (is_of_household book.accounts household) (map row_of (filter on (priced_orders book))))))
+    ∙ sym (turns-filter q (map row_of (filter on (priced_orders book))))))
 
 -- ---- a sheet
 

@@ -7,10 +7,11 @@ use Rattle.agent_events.specs.declared.order.Order.{Order}
 use Rattle.agent_events.specs.declared.order.OrderRow.{OrderRow}
 use Rattle.agent_events.specs.declared.order.Party.{Party}
 use Rattle.forward_price.specs.declared.price_sheet.Sheet.{Sheet}
-use Rattle.register_laws.proofs.DayTurns.{Turn, bought_by, elected_by, exchanged_by, keys_done, kind_of, position_asked, positions_put, reached_by, reinvested, released, rows_done, settled_by, sold_by, trade_of, trades_added, with_letter_begun, with_letter_ended, with_lot_of, with_note_of, with_pieces_of}
+use Rattle.register_laws.proofs.DayTurns.{Turn, bought_by, elected_by, exchanged_by, keys_done, position_asked, positions_put, reached_by, reinvested, released, rows_done, settled_by, sold_by, trade_of, trades_added, with_letter_begun, with_letter_ended, with_lot_of, with_note_of, with_pieces_of}
 use Rattle.register_laws.proofs.OrdersInTurn.{rows-standing}
 use Rattle.register_laws.proofs.RegistersStand.{all_put-all}
 use Rattle.register_laws.proofs.ReplayTurns.{All-one, TurnsKeep, replay-kept}
+use Rattle.register_laws.specs.Priced.{kind_of}
 use Rattle.register_machine.proofs.FoundFacts.{own-account, own-class}
 use Rattle.register_machine.specs.corrections.Cash.{Movement, cash_movement, movements_by, movements_in, movements_of}
 use Rattle.register_machine.specs.pricing.CorrectedBook.{Book}

@@ -1,15 +1,26 @@
--- Of rows in turn those that pass are what passes, in turn.
-use Rattle.std.proofs.Common.{Bool, List, [], ap, arith, cond, false, filter, nat_le, nat_lt, refl, true, ◌++◌, ◌∙◌, ◌∷◌, ◌≡◌, ◌≤◌}
-use Rattle.std.proofs.lemmas.Bool.{le-ltb, leb-false, leb-true, lt-leb, lt-ltb}
-use Rattle.std.proofs.lemmas.List.Elements.{filter-append}
+-- Rows in turn go by their receipts, and those of them that pass are what passes, in turn.
+use Rattle.std.proofs.Common.{Bool, List, [], ap, arith, cond, false, filter, get_or, length, nat_le, nat_lt, refl, true, ℕ, ◌++◌, ◌<◌, ◌∙◌, ◌∷◌, ◌≡◌, ◌≤◌}
+use Rattle.std.proofs.lemmas.Bool.{le-ltb, leb-false, leb-true, lt-leb, lt-ltb, ltb-true}
+use Rattle.std.proofs.lemmas.List.Elements.{All-cons, filter-append, filter_passes}
+use Rattle.std.proofs.lemmas.List.Kept.{AllPairs-cons, AllPairs-filter}
 use Rattle.std.specs.Prelude.{AllPairs}
 use Rattle.agent_events.specs.declared.order.OrderRow.{OrderRow}
-use Rattle.register_laws.proofs.ListParts.{filter-sides, filter-swap, fold-part}
-use Rattle.register_laws.proofs.ReplayedAlone.{turn-sorted}
+use Rattle.register_laws.proofs.ListParts.{filter-sides, filter-swap, fold-part, pairs-append}
 use Rattle.register_machine.specs.replay.Replay.{all_in_turn, in_turn}
 
 abbrev GoesBy : OrderRow → OrderRow → Type 0
 GoesBy row other = row.receipt ≤ other.receipt
+
+pub turn-sorted : (row : OrderRow) (rows : List OrderRow) → AllPairs GoesBy rows → AllPairs GoesBy (in_turn row rows)
+turn-sorted row rows ordered =
+    let less = λ (other : OrderRow). nat_le other.receipt row.receipt in
+    let more = λ (other : OrderRow). nat_lt row.receipt other.receipt in
+    let behind = λ (k : ℕ) (d : OrderRow) (short : k < length (filter more rows)). ltb-true row.receipt (get_or (filter more rows) k d).receipt (filter_passes more rows k d short) in
+    pairs-append GoesBy (filter less rows) (row ∷ filter more rows) (AllPairs-filter GoesBy less rows ordered)
+    (AllPairs-cons GoesBy row (filter more rows) (λ k d short. omega (arith, behind k d short)) (AllPairs-filter GoesBy more rows ordered))
+    (λ k d short.
+    let early = leb-true (get_or (filter less rows) k d).receipt row.receipt (filter_passes less rows k d short) in
+    All-cons (GoesBy (get_or (filter less rows) k d)) row (filter more rows) early (λ i e within. omega (arith, early, behind i e within)))
 
 record TurnsAlike (q : OrderRow → Bool) (ordered part : List OrderRow) : Type 0 where
   sorted : AllPairs GoesBy ordered

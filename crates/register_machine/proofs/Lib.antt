@@ -5,4 +5,5 @@ pub mod KeyOrder
 pub mod FilterFacts
 pub mod FoundFacts
 pub mod PutAgain
+pub mod PaymentsMore
 pub mod OnLiterals

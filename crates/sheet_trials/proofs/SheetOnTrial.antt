@@ -29,7 +29,7 @@ use Rattle.household_fold.specs.Quiet.{is_quiet_for}
 use Rattle.household_replay.specs.Replays.{NumberedOrder, day_behind, known_on, orders_under}
 use Rattle.desk_books.proofs.ledger_laws.ReplaysAsPart.{replayed-in-order}
 use Rattle.desk_books.proofs.ledger_laws.StepsAsPart.{steps_as_part}
-use Rattle.desk_books.proofs.ledger_of_journals.LedgerTotals.{is_of_households}
+use Rattle.desk_books.proofs.ledger_of_journals.HouseholdBooks.{is_of_households}
 use Rattle.desk_books.proofs.ledger_of_journals.ServedBooks.{new_sheet_served}
 use Rattle.desk_books.proofs.ledger_of_journals.SheetAdvances.{ledger_advances}
 use Rattle.desk_books.specs.ledger_of_journals.BookFacts.{ServeLastSheet}

@@ -7,7 +7,7 @@ use Rattle.std.specs.Prelude.{AllPairs}
 use Rattle.agent_events.specs.declared.order.OrderRow.{OrderRow}
 use Rattle.register_laws.proofs.Comparisons.{eq-no, eq-yes, lt-no, lt-yes}
 use Rattle.register_laws.proofs.ListParts.{filter-within}
-use Rattle.register_laws.proofs.ReplayedAlone.{turn-sorted}
+use Rattle.register_laws.proofs.TurnsFiltered.{turn-sorted}
 use Rattle.register_machine.specs.replay.Replay.{all_in_turn, in_turn}
 
 -- ---- filters
