@@ -11,8 +11,9 @@ ghost use Rattle.register_machine.specs.run.Answers.{query_reply, repeat_answer,
 ghost use Rattle.register_machine.specs.run.Verdicts.{verdict};
 
 use crate::fresh::answer_fresh;
+use crate::ready_change::ReadyChange;
 use agent_events::{Caller, Reply, Request, Verdict};
-use correction_trials::{DeskBooks, EventChange};
+use correction_trials::DeskBooks;
 use desk_replies::{look_reply, repeat_reply};
 use household_fold::Steps;
 use money_units::{Moment, NoMemory};
@@ -24,7 +25,7 @@ use std::sync::ledger::Ledger as StepLedger;
 #[derive(Drop)]
 pub struct Answered {
     pub reply: Reply,
-    pub change: Option<EventChange>,
+    pub change: Option<ReadyChange>,
 }
 
 /// A reply, with which nothing is noted.

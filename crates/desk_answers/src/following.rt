@@ -12,8 +12,9 @@ ghost use Rattle.register_machine.specs.journal.Lawful.{IsLawful};
 
 use crate::answering::{Answered, answer_request};
 use crate::asking::{asker_of, request_of};
+use crate::ready_change::ReadyChange;
 use agent_events::{Event, EventKind};
-use correction_trials::{DeskBooks, EventChange};
+use correction_trials::DeskBooks;
 use household_fold::Steps;
 use money_units::NoMemory;
 use order_intake::Book;
@@ -40,10 +41,10 @@ fn keeps_moments(kind: &EventKind, other: &EventKind) -> bool
 }
 
 /// The change, where it is of this event.
-fn change_if_same(change: EventChange, event: &Event) -> Option<EventChange>
+fn change_if_same(change: ReadyChange, event: &Event) -> Option<ReadyChange>
     ensures { result ≡ when (keeps_moments change.event.kind event.now.kind) change }
 {
-    if keeps_moments(change.event.kind(), event.kind()) {
+    if keeps_moments(change.event().kind(), event.kind()) {
         Some(change)
     } else {
         None
@@ -51,7 +52,7 @@ fn change_if_same(change: EventChange, event: &Event) -> Option<EventChange>
 }
 
 /// The change of an answer, where it is of this event.
-fn change_to(change: Option<EventChange>, event: &Event) -> Option<EventChange>
+fn change_to(change: Option<ReadyChange>, event: &Event) -> Option<ReadyChange>
     ensures { result ≡ change_to change event.now }
 {
     match change {
@@ -100,7 +101,7 @@ pub fn follows<L: StepLedger>(
     books: &mut DeskBooks,
     event: &Event,
     steps: &mut Steps<L>,
-) -> Result<Option<EventChange>, NoMemory>
+) -> Result<Option<ReadyChange>, NoMemory>
     requires books { AreBooksOf books.old.book.journal books.old }
     ensures same { ShowTheSame books.old books.new }
     ensures journal { books.new.book.journal ≡ books.old.book.journal }

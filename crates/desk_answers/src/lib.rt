@@ -7,9 +7,11 @@ mod asking;
 mod following;
 mod fresh;
 mod noting;
+mod ready_change;
 
 pub use crate::answering::{Answered, answer_request};
 pub use crate::asking::{asker_of, request_of};
 pub use crate::following::follows;
-pub use correction_trials::{DeskBooks, EventChange};
+pub use crate::ready_change::ReadyChange;
+pub use correction_trials::DeskBooks;
 pub use desk_replies::order_state;

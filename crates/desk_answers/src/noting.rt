@@ -13,6 +13,7 @@ ghost use Rattle.register_machine.specs.journal.Journals.{with_event};
 ghost use Rattle.register_machine.specs.journal.Lawful.{IsLawful};
 
 use crate::answering::Answered;
+use crate::ready_change::ReadyChange;
 use agent_events::Event;
 use correction_trials::{DeskBooks, LedgerChange};
 use desk_replies::event_reply;
@@ -51,6 +52,7 @@ pub(crate) fn answer_event(
 {
     let reply = event_reply(alloc, books, &event, correction_in(&ledger))?;
     let change = books.prepare(alloc, event, ledger)?;
+    let change = ReadyChange::of(alloc, change)?;
     Ok(Answered {
         reply,
         change: Some(change),

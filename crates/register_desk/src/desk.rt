@@ -134,7 +134,7 @@ impl Desk {
             give_up_change(change);
             return Err(fault);
         }
-        self.books.apply(change);
+        self.books.apply(change.into_change());
         Ok(())
     }
 

@@ -14,4 +14,4 @@ pub use crate::desk::Desk;
 pub use crate::faults::{LedgerFault, StartFault};
 pub use crate::prepared::Prepared;
 pub use crate::prepared_batch::PreparedBatch;
-pub use desk_answers::EventChange;
+pub use desk_answers::ReadyChange;

@@ -6,7 +6,7 @@ ghost use Rattle.register_desk.specs.Rows.{rows_of};
 
 use agent_events::Reply;
 use agent_keeper::Batch;
-use desk_answers::{Answered, EventChange};
+use desk_answers::{Answered, ReadyChange};
 use event_rows::encode;
 use money_units::{Bytes, NoMemory};
 use std::alloc::Global;
@@ -17,7 +17,7 @@ pub struct Prepared {
     pub reply: Reply,
     pub base: u64,
     pub batch: Batch,
-    pub change: Option<EventChange>,
+    pub change: Option<ReadyChange>,
 }
 
 impl Prepared {
@@ -54,9 +54,9 @@ pub(crate) fn give_up_reply(_reply: Reply) {}
 
 pub(crate) fn give_up_batch(_batch: Batch) {}
 
-pub(crate) fn give_up_change(_change: EventChange) {}
+pub(crate) fn give_up_change(_change: ReadyChange) {}
 
-fn give_up_changes(change: Option<EventChange>) {
+fn give_up_changes(change: Option<ReadyChange>) {
     if let Some(change) = change {
         give_up_change(change);
     }
@@ -70,7 +70,7 @@ pub(crate) fn give_up_answer(answered: Answered) {
 }
 
 // The rows of the events that a change notes, as what the keeper is to append.
-pub(crate) fn batch_of(alloc: Global, change: &Option<EventChange>) -> Result<Batch, NoMemory>
+pub(crate) fn batch_of(alloc: Global, change: &Option<ReadyChange>) -> Result<Batch, NoMemory>
     ensures rows { IfOk result (λ batch. batch.rows ≡ rows_of (events_of change.now)) }
     ensures puts { IfOk result (λ batch. batch.puts ≡ []) }
     ensures removes { IfOk result (λ batch. batch.removes ≡ []) }
@@ -78,7 +78,7 @@ pub(crate) fn batch_of(alloc: Global, change: &Option<EventChange>) -> Result<Ba
 {
     let mut batch = Batch::new(alloc);
     if let Some(change) = change {
-        let row = Bytes::from_vec(encode(alloc, &change.event)?);
+        let row = Bytes::from_vec(encode(alloc, change.event())?);
         batch.rows.push(row)?;
     }
     Ok(batch)

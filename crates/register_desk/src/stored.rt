@@ -14,7 +14,7 @@ ghost use Rattle.register_desk.specs.declared.faults.StartFault.{StartFault as F
 
 use crate::faults::StartFault;
 use agent_keeper::Keeper;
-use desk_answers::{DeskBooks, EventChange, follows};
+use desk_answers::{DeskBooks, ReadyChange, follows};
 use event_rows::decode;
 use household_fold::Steps;
 use money_units::NoMemory;
@@ -27,7 +27,7 @@ fn change_of_row<L: StepLedger>(
     books: &mut DeskBooks,
     row: &[u8],
     steps: &mut Steps<L>,
-) -> Result<Option<EventChange>, NoMemory>
+) -> Result<Option<ReadyChange>, NoMemory>
     requires { AreBooksOf books.old.book.journal books.old }
     ensures same { ShowTheSame books.old books.new }
     ensures journal { books.new.book.journal ≡ books.old.book.journal }
@@ -82,7 +82,7 @@ fn open_row<K: Keeper, L: StepLedger>(
     let Some(change) = change_of_row(alloc, books, row.as_slice(), steps)? else {
         return Err(StartFault::Damaged(place));
     };
-    books.apply(change);
+    books.apply(change.into_change());
     Ok(())
 }
 

@@ -12,6 +12,7 @@ use Rattle.register_laws.proofs.AlikeDays.{Alike, BodyCounts, dividends-alike, l
 use Rattle.register_laws.proofs.ListParts.{filter-map, filter-swap, filter-within, filters-agree, fold-part}
 use Rattle.register_laws.proofs.PartPlaces.{found-in-part, is_own_key, keys-of-part, put-other-part, put-own-part}
 use Rattle.register_laws.proofs.PositionsInOrder.{put-in_order}
+use Rattle.register_laws.proofs.TurnsFiltered.{turns-filter}
 use Rattle.register_laws.specs.Households.{ReplayedAlone, accounts_of_household, is_of_household, is_own_position, is_own_row, is_own_trade, own_book, part_by}
 use Rattle.register_laws.specs.ReplayKeeps.{AreInOrder}
 use Rattle.register_machine.specs.journal.Kinds.{household_of}
