@@ -12,8 +12,8 @@ use crate::part::HouseholdPart;
 use agent_events::{Changes, Trade};
 use gain_loss_book::Tally;
 use money_units::NoMemory;
+use number_hashing::NumberMap;
 use std::alloc::Global;
-use std::collections::HashMap;
 
 /// So many trades at most are tallied for one change: 2^60, which no memory holds.
 const MAX_TRADES: u64 = 1_152_921_504_606_846_976;
@@ -21,7 +21,7 @@ const MAX_TRADES: u64 = 1_152_921_504_606_846_976;
 /// By how much moves make the cash of each party and the outstanding shares of each class differ.
 pub(crate) fn changes_of_moves(
     alloc: Global,
-    parts: &HashMap<u32, HouseholdPart>,
+    parts: &NumberMap<u32, HouseholdPart>,
     moves: &[HouseholdMove],
 ) -> Result<Changes, NoMemory>
     ensures { IfOk result (λ changes. AreChangesOf changes parts.now.entries moves.now) }
@@ -33,7 +33,7 @@ pub(crate) fn changes_of_moves(
 // What moves bring, less what they take back.
 fn tally_of_moves(
     alloc: Global,
-    parts: &HashMap<u32, HouseholdPart>,
+    parts: &NumberMap<u32, HouseholdPart>,
     moves: &[HouseholdMove],
 ) -> Result<Tally, NoMemory>
     ensures cash { IfOk result (λ tally. (party : AnyParty) → net (cash_tallied tally party)
@@ -53,7 +53,7 @@ fn tally_of_moves(
 // Tallies a move, and answers how many trades were tallied so far.
 fn tally_move(
     tally: &mut Tally,
-    parts: &HashMap<u32, HouseholdPart>,
+    parts: &NumberMap<u32, HouseholdPart>,
     change: &HouseholdMove,
     count: u64,
 ) -> Result<u64, NoMemory>
@@ -143,7 +143,10 @@ fn count_with(count: u64, brought: &[Trade], dropped: &[Trade]) -> Result<u64, N
 }
 
 // The old trades of a household that don't stay.
-fn dropped_trades<'a>(parts: &'a HashMap<u32, HouseholdPart>, change: &HouseholdMove) -> &'a [Trade]
+fn dropped_trades<'a>(
+    parts: &'a NumberMap<u32, HouseholdPart>,
+    change: &HouseholdMove,
+) -> &'a [Trade]
     ensures { result.now ≡ dropped_trades parts.now.entries change.now }
 {
     match parts.get(&change.household) {

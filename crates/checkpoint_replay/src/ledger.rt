@@ -27,15 +27,15 @@ use agent_events::{Party, Trade};
 use household_fold::{Facts, HouseholdState, Steps};
 use household_replay::NumberedOrders;
 use money_units::NoMemory;
+use number_hashing::{NumberMap, number_map};
 use std::alloc::Global;
-use std::collections::HashMap;
 use std::marker::Model;
 use std::sync::ledger::Ledger as StepLedger;
 
 /// The positions and the trades of each household as the sheets so far have left them.
 #[derive(Drop)]
 pub struct Ledger {
-    parts: HashMap<u32, HouseholdPart>,
+    parts: NumberMap<u32, HouseholdPart>,
     totals: LedgerTotals,
 }
 
@@ -64,7 +64,7 @@ impl Ledger {
         ensures tallied { IsTallied result }
     {
         Ledger {
-            parts: HashMap::new(alloc),
+            parts: number_map(alloc),
             totals: LedgerTotals::new(alloc),
         }
     }

@@ -8,10 +8,10 @@ ghost use Rattle.checkpoint_replay.specs.Parts.{AreParts, part_in};
 use crate::change::HouseholdMove;
 use crate::part::{HouseholdPart, first_part, move_part};
 use money_units::NoMemory;
-use std::collections::HashMap;
+use number_hashing::NumberMap;
 
 /// Moves a household on, within the room that there is.
-pub(crate) fn put_move(parts: &mut HashMap<u32, HouseholdPart>, change: HouseholdMove)
+pub(crate) fn put_move(parts: &mut NumberMap<u32, HouseholdPart>, change: HouseholdMove)
     requires room { 1 ≤ spare parts.old }
     requires trades { HasTradeRoom parts.old.entries change }
     ensures parts { (household : ℕ) → part_in parts.new.entries household
@@ -32,7 +32,7 @@ pub(crate) fn put_move(parts: &mut HashMap<u32, HouseholdPart>, change: Househol
 }
 
 /// Moves households on, one after another, within the room that there is.
-pub(crate) fn put_moves(parts: &mut HashMap<u32, HouseholdPart>, moves: Vec<HouseholdMove>)
+pub(crate) fn put_moves(parts: &mut NumberMap<u32, HouseholdPart>, moves: Vec<HouseholdMove>)
     requires room { length moves.items ≤ spare parts.old }
     requires trades { All (HasTradeRoom parts.old.entries) moves.items }
     requires moves { AreMoves moves.items }
@@ -47,7 +47,7 @@ pub(crate) fn put_moves(parts: &mut HashMap<u32, HouseholdPart>, moves: Vec<Hous
 
 // Makes room for the new trades of a household, where something is kept of it.
 fn reserve_trades(
-    parts: &mut HashMap<u32, HouseholdPart>,
+    parts: &mut NumberMap<u32, HouseholdPart>,
     change: &HouseholdMove,
 ) -> Result<(), NoMemory>
     ensures trades { OnOk result (HasTradeRoom parts.new.entries change.now) }
@@ -66,7 +66,7 @@ fn reserve_trades(
 
 /// Makes room for moves. After `NoMemory` all parts are as before.
 pub(crate) fn reserve_moves(
-    parts: &mut HashMap<u32, HouseholdPart>,
+    parts: &mut NumberMap<u32, HouseholdPart>,
     moves: &[HouseholdMove],
 ) -> Result<(), NoMemory>
     ensures room { OnOk result (length moves.now ≤ spare parts.new) }

@@ -13,8 +13,8 @@ use agent_events::Order;
 use household_fold::{Facts, HouseholdState, Steps};
 use household_replay::NumberedOrders;
 use money_units::NoMemory;
+use number_hashing::NumberMap;
 use std::alloc::Global;
-use std::collections::HashMap;
 use std::sync::ledger::Ledger;
 
 /// What a sheet makes of all households, by its orders under the numbers of their households: one step for each household
@@ -23,7 +23,7 @@ pub(crate) fn moves_of_sheet<L: Ledger>(
     alloc: Global,
     facts: &Facts,
     orders: &NumberedOrders,
-    parts: &HashMap<u32, HouseholdPart>,
+    parts: &NumberMap<u32, HouseholdPart>,
     steps: &mut Steps<L>,
 ) -> Result<Vec<HouseholdMove>, NoMemory>
     requires facts { FactsFit facts.now }
@@ -48,7 +48,7 @@ fn gathered_moves<L: Ledger>(
     alloc: Global,
     facts: &Facts,
     orders: &NumberedOrders,
-    parts: &HashMap<u32, HouseholdPart>,
+    parts: &NumberMap<u32, HouseholdPart>,
     steps: &mut Steps<L>,
 ) -> Result<Vec<HouseholdMove>, NoMemory>
     requires facts { FactsFit facts.now }
@@ -124,7 +124,7 @@ fn push_moves_of_parts<L: Ledger>(
     alloc: Global,
     facts: &Facts,
     orders: &NumberedOrders,
-    parts: &HashMap<u32, HouseholdPart>,
+    parts: &NumberMap<u32, HouseholdPart>,
     steps: &mut Steps<L>,
     moves: &mut Vec<HouseholdMove>,
 ) -> Result<(), NoMemory>
@@ -150,7 +150,7 @@ fn push_other<L: Ledger>(
     alloc: Global,
     facts: &Facts,
     orders: &NumberedOrders,
-    parts: &HashMap<u32, HouseholdPart>,
+    parts: &NumberMap<u32, HouseholdPart>,
     household: u32,
     steps: &mut Steps<L>,
     moves: &mut Vec<HouseholdMove>,
@@ -188,7 +188,7 @@ fn push_moves_of_others<L: Ledger>(
     alloc: Global,
     facts: &Facts,
     orders: &NumberedOrders,
-    parts: &HashMap<u32, HouseholdPart>,
+    parts: &NumberMap<u32, HouseholdPart>,
     steps: &mut Steps<L>,
     moves: &mut Vec<HouseholdMove>,
 ) -> Result<(), NoMemory>

@@ -6,8 +6,8 @@ ghost use Rattle.std.specs.Map.{keys_of};
 ghost use Rattle.gain_loss_book.specs.Flows.{no_flow, with_flow, net, flow_by, flow_at, inflows, outflows, whole_flow};
 
 use money_units::NoMemory;
+use number_hashing::{NumberMap, number_map};
 use std::alloc::Global;
-use std::collections::HashMap;
 use std::marker::Model;
 
 /// What came in and what went out, of cents or of mils.
@@ -71,7 +71,7 @@ impl Flow {
 /// room for.
 #[derive(Drop)]
 pub struct FlowRows {
-    rows: HashMap<u32, Flow>,
+    rows: NumberMap<u32, Flow>,
     whole: Flow,
 }
 
@@ -93,7 +93,7 @@ impl FlowRows {
         ensures { result.rows ≡ [] }
     {
         FlowRows {
-            rows: HashMap::new(alloc),
+            rows: number_map(alloc),
             whole: Flow::none(),
         }
     }
@@ -144,7 +144,7 @@ impl FlowRows {
 }
 
 // Adds a flow to that of a number, within the room that there is.
-fn put(rows: &mut HashMap<u32, Flow>, number: u32, flow: Flow)
+fn put(rows: &mut NumberMap<u32, Flow>, number: u32, flow: Flow)
     requires room { 1 ≤ spare rows.old }
     requires inflow { inflows rows.old.entries + flow.inflow < 2 ^ 128 }
     requires outflow { outflows rows.old.entries + flow.outflow < 2 ^ 128 }

@@ -5,8 +5,8 @@ ghost use Rattle.std.specs.Option.{option_copied};
 
 use household_fold::HouseholdState;
 use money_units::{List, NoMemory};
+use number_hashing::{NumberMap, number_map};
 use std::alloc::Global;
-use std::collections::HashMap;
 use std::marker::Model;
 use std::mem;
 
@@ -33,7 +33,7 @@ const MOST_STATES: usize = 6;
 #[derive(Drop)]
 pub struct KeptStates {
     alloc: Global,
-    rows: HashMap<u32, HouseholdStates>,
+    rows: NumberMap<u32, HouseholdStates>,
 }
 
 impl Model for KeptStates {
@@ -52,7 +52,7 @@ impl KeptStates {
     {
         KeptStates {
             alloc,
-            rows: HashMap::new(alloc),
+            rows: number_map(alloc),
         }
     }
 
@@ -134,7 +134,7 @@ fn is_far(last: &KeptState, sheet: u32) -> bool
 
 // Keeps a state more of a household, beside those that are there.
 fn keep_state(
-    rows: &mut HashMap<u32, HouseholdStates>,
+    rows: &mut NumberMap<u32, HouseholdStates>,
     alloc: Global,
     household: u32,
     state: KeptState,
@@ -154,7 +154,7 @@ fn keep_state(
 
 // Keeps the first state of a household.
 fn put_first(
-    rows: &mut HashMap<u32, HouseholdStates>,
+    rows: &mut NumberMap<u32, HouseholdStates>,
     alloc: Global,
     household: u32,
     state: KeptState,

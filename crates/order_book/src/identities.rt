@@ -11,13 +11,13 @@ ghost use Rattle.order_book.specs.declared.identity.Identity.{Identity as Named}
 use crate::identity::Identity;
 use agent_events::{EventKind, Order};
 use money_units::NoMemory;
+use number_hashing::{NumberMap, number_map};
 use std::alloc::Global;
-use std::collections::HashMap;
 
 /// The place of the first event that brings an identity.
 #[derive(Drop)]
 pub struct Identities {
-    places: HashMap<Identity, usize>,
+    places: NumberMap<Identity, usize>,
 }
 
 impl Identities {
@@ -25,7 +25,7 @@ impl Identities {
         ensures { (q : Named) → place_of result q ≡ None }
     {
         Identities {
-            places: HashMap::new(alloc),
+            places: number_map(alloc),
         }
     }
 
@@ -66,7 +66,7 @@ impl Identities {
 }
 
 // Keeps the place, unless one is kept already.
-fn put_first(places: &mut HashMap<Identity, usize>, identity: Identity, place: usize)
+fn put_first(places: &mut NumberMap<Identity, usize>, identity: Identity, place: usize)
     requires { 1 ≤ spare places.old }
     ensures places { (q : Named) → get same_identity places.new q
         ≡ option_or (get same_identity places.old q)

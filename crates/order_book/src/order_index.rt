@@ -12,8 +12,8 @@ ghost use Rattle.order_book.specs.declared.order_index.OrderName.{OrderName as N
 use crate::hash_numbers::mixed_number;
 use crate::room::push_within;
 use money_units::NoMemory;
+use number_hashing::{NumberMap, number_map};
 use std::alloc::Global;
-use std::collections::HashMap;
 use std::hash::{Hash, Hasher};
 
 /// What an account calls one of its orders.
@@ -37,8 +37,8 @@ impl Hash for OrderName {
 /// the same account before it.
 #[derive(Drop)]
 pub struct OrderIndex {
-    places: HashMap<OrderName, usize>,
-    last: HashMap<u32, usize>,
+    places: NumberMap<OrderName, usize>,
+    last: NumberMap<u32, usize>,
     earlier: Vec<Option<usize>>,
 }
 
@@ -47,8 +47,8 @@ impl OrderIndex {
         ensures { KeepsNames result [] }
     {
         OrderIndex {
-            places: HashMap::new(alloc),
-            last: HashMap::new(alloc),
+            places: number_map(alloc),
+            last: number_map(alloc),
             earlier: Vec::new(alloc),
         }
     }
@@ -101,7 +101,7 @@ impl OrderIndex {
 }
 
 // Answers the place before.
-fn put_last(last: &mut HashMap<u32, usize>, account: u32, place: usize) -> Option<usize>
+fn put_last(last: &mut NumberMap<u32, usize>, account: u32, place: usize) -> Option<usize>
     requires { 1 ≤ spare last.old }
     ensures before { result ≡ get nat_eq last.old account }
     ensures places { (q : ℕ) → get nat_eq last.new q
@@ -113,7 +113,7 @@ fn put_last(last: &mut HashMap<u32, usize>, account: u32, place: usize) -> Optio
 }
 
 // Keeps the place, unless one is kept already.
-fn put_first(places: &mut HashMap<OrderName, usize>, name: OrderName, place: usize)
+fn put_first(places: &mut NumberMap<OrderName, usize>, name: OrderName, place: usize)
     requires { 1 ≤ spare places.old }
     ensures places { (q : Name) → get same_name places.new q
         ≡ option_or (get same_name places.old q) (if same_name name q then Some place else None) }

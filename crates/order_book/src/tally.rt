@@ -4,13 +4,13 @@ ghost use Rattle.std.specs.HashMap.{get, spare};
 ghost use Rattle.order_book.specs.Indexes.{count_of, HasTallyRoom};
 
 use money_units::NoMemory;
+use number_hashing::{NumberMap, number_map};
 use std::alloc::Global;
-use std::collections::HashMap;
 
 /// Counts by a number.
 #[derive(Drop)]
 pub struct Tally {
-    counts: HashMap<u32, usize>,
+    counts: NumberMap<u32, usize>,
 }
 
 impl Tally {
@@ -18,7 +18,7 @@ impl Tally {
         ensures { (number : ℕ) → count_of result number ≡ 0 }
     {
         Tally {
-            counts: HashMap::new(alloc),
+            counts: number_map(alloc),
         }
     }
 

@@ -4,15 +4,15 @@ ghost use Rattle.std.specs.HashMap.{get, spare};
 ghost use Rattle.standing_orders.specs.Chains.{KeepsOwners, HasChainRoom};
 
 use money_units::NoMemory;
+use number_hashing::{NumberMap, number_map};
 use std::alloc::Global;
-use std::collections::HashMap;
 
 /// The household of each order, the place of the last order of a household, and for each order the place of the one of the
 /// same household before it.
 #[derive(Drop)]
 pub struct Chains {
     pub owners: Vec<u32>,
-    pub last: HashMap<u32, usize>,
+    pub last: NumberMap<u32, usize>,
     pub earlier: Vec<Option<usize>>,
 }
 
@@ -22,7 +22,7 @@ impl Chains {
     {
         Chains {
             owners: Vec::new(alloc),
-            last: HashMap::new(alloc),
+            last: number_map(alloc),
             earlier: Vec::new(alloc),
         }
     }
@@ -62,22 +62,23 @@ impl Chains {
             → KeepsOwners self.new (owners ++ household ∷ []) }
         ensures room { (n : ℕ) → HasChainRoom self.old (n + 1) → HasChainRoom self.new n }
     {
-        let before = self.last.get(&household).copied();
         let place = self.owners.as_slice().len();
+        let before = put_last(&mut self.last, household, place);
         push_within(&mut self.earlier, before);
-        put_last(&mut self.last, household, place);
         push_within(&mut self.owners, household);
     }
 }
 
-fn put_last(last: &mut HashMap<u32, usize>, household: u32, place: usize)
+// Answers the place before.
+fn put_last(last: &mut NumberMap<u32, usize>, household: u32, place: usize) -> Option<usize>
     requires { 1 ≤ spare last.old }
+    ensures before { result ≡ get nat_eq last.old household }
     ensures places { (q : ℕ) → get nat_eq last.new q
         ≡ (if nat_eq household q then Some place else get nat_eq last.old q) }
     ensures room { spare last.old ≤ spare last.new + 1 }
 {
     let put: Result<_, _> = last.insert(household, place);
-    let _before = put.unwrap();
+    put.unwrap()
 }
 
 /// Pushes an item for which there is room.

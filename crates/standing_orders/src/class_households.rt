@@ -8,14 +8,14 @@ ghost use Rattle.standing_orders.specs.ClassHouseholds.{is_listed, listed_under}
 use crate::row_sheet::{class_number, target_number};
 use agent_events::Body;
 use money_units::NoMemory;
+use number_hashing::{NumberMap, NumberSet, number_map, number_set};
 use std::alloc::Global;
-use std::collections::{HashMap, HashSet};
 use std::marker::Model;
 
 /// The households that have named one class, which contracts see as a list.
 #[derive(Drop)]
 pub struct NamingHouseholds {
-    set: HashSet<u32>,
+    set: NumberSet<u32>,
 }
 
 impl Model for NamingHouseholds {
@@ -31,7 +31,7 @@ impl NamingHouseholds {
         ensures { result ≡ [] }
     {
         NamingHouseholds {
-            set: HashSet::new(alloc),
+            set: number_set(alloc),
         }
     }
 
@@ -58,7 +58,7 @@ impl NamingHouseholds {
 /// households needn't look at the others. Contracts see each class with its households.
 #[derive(Drop)]
 pub struct ClassHouseholds {
-    by_class: HashMap<u32, NamingHouseholds>,
+    by_class: NumberMap<u32, NamingHouseholds>,
 }
 
 impl Model for ClassHouseholds {
@@ -75,7 +75,7 @@ impl ClassHouseholds {
         ensures { result ≡ [] }
     {
         ClassHouseholds {
-            by_class: HashMap::new(alloc),
+            by_class: number_map(alloc),
         }
     }
 
@@ -112,7 +112,7 @@ impl ClassHouseholds {
 // Lists a household under a class.
 fn put(
     alloc: Global,
-    by_class: &mut HashMap<u32, NamingHouseholds>,
+    by_class: &mut NumberMap<u32, NamingHouseholds>,
     class: u32,
     household: u32,
 ) -> Result<(), NoMemory>
@@ -132,7 +132,7 @@ fn put(
 }
 
 // The households of a set, in its order.
-fn listed(alloc: Global, households: &HashSet<u32>) -> Result<Vec<u32>, NoMemory>
+fn listed(alloc: Global, households: &NumberSet<u32>) -> Result<Vec<u32>, NoMemory>
     ensures { IfOk result (λ found. found.items ≡ households.now.keys) }
 {
     let mut found = Vec::with_capacity(alloc, households.len())?;

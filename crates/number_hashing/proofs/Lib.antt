@@ -1,0 +1,2 @@
+-- The lemmas of this crate, file by file.
+pub mod NumberBytes

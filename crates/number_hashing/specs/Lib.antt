@@ -1,0 +1,2 @@
+-- The definitions of this crate, file by file.
+pub mod Numbers
