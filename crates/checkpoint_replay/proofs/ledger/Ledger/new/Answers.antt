@@ -5,4 +5,4 @@ use Rattle.checkpoint_replay.proofs.ledger.Ledger.new.Goals as goal
 
 pub returns-clause-tallied : goal.returns-clause-tallied
 returns-clause-tallied c =
-    empty-tallied (record { parts = c.new.result.entries; room = spare c.new.result; totals = c.new-2.result }) c.new.ensures.empty c.new-2.ensures.cash c.new-2.ensures.mils
+    empty-tallied (record { parts = c.number_map.result.entries; room = spare c.number_map.result; totals = c.new.result }) c.number_map.ensures.empty c.new.ensures.cash c.new.ensures.mils
