@@ -9,7 +9,7 @@ ghost use Rattle.register_machine.specs.journal.Journals.{Journal};
 ghost use Rattle.register_machine.specs.pricing.CorrectedBook.{Book};
 
 /// The book of a lawful journal is orderly, and each of its standing orders is of an account of a household.
-#[tactic(auto, using(crate::proofs::LedgerTotals::is_of_households))]
+#[tactic(auto, using(crate::proofs::HouseholdBooks::is_of_households))]
 pub fn lawful_books_are_of_households()
     ensures { (journal : Journal) → LawfulIsOfHouseholds journal }
 {}
