@@ -1,6 +1,8 @@
 -- That `open_row` keeps its contract.
 use Rattle.std.proofs.Common.{List, Option, Some, ap, subst, sym, ℕ, ◌≡◌, ◌∙◌}
 use Rattle.agent_keeper.specs.Calls.{Gives, row_is}
+use Rattle.desk_answers.specs.desk_books.BooksOfJournals.{AreBooksOf}
+use Rattle.desk_answers.specs.desk_books.declared.change.EventChange.{EventChange}
 use Rattle.event_rows.specs.InForm.{InForm}
 use Rattle.event_rows.specs.Rows.{event_row}
 use Rattle.register_desk.proofs.BoundsGoOn.{grows_by}
@@ -17,6 +19,8 @@ returns-clause-opened g c =
     let fits : InForm event = rw c.in-Some.is at c.in_ok-change.ensures.in_form in
     let spelling : c.as_slice.result.now ≡ event_row event = rw c.in-Some.is at c.in_ok-change.ensures.row in
     let row : c.row.new.into.items ≡ event_row event = sym c.as_slice.ensures.value ∙ spelling in
+    let books : AreBooksOf (with_event c.change_of_row.new.books.book.journal event) c.apply.new.self =
+    subst (λ (change : EventChange). AreBooksOf (with_event c.change_of_row.new.books.book.journal change.event) c.apply.new.self) c.into_change.ensures c.apply.ensures in
     record {
       event = event;
       shown = record {
@@ -24,10 +28,10 @@ returns-clause-opened g c =
         given = subst (λ (bytes : List ℕ). Gives g.K.Keeper.moment g.K.Keeper.gave c.args.keeper.now c.row.new.self (row_is c.args.place (Some bytes))) row
             (rw c.if-not-branch.false at c.in_ok-row.ensures.given);
       };
-      noted = c.apply.ensures.noted ∙ ap (λ (journal : Journal). with_event journal event) c.in_ok-change.ensures.journal;
+      noted = books.noted ∙ ap (λ (journal : Journal). with_event journal event) c.in_ok-change.ensures.journal;
       desk = desk_more c.change_of_row.new.books c.apply.new.self event
           (desk_same c.args.books.now c.change_of_row.new.books c.requires.books c.in_ok-change.ensures.same c.in_ok-change.ensures.journal)
-          fits c.apply.ensures;
+          fits books;
     }
 
 -- The row that was read is no event's that follows.
@@ -47,8 +51,10 @@ returns-in_default-clause-damaged g c = λ at is. (
 -- The bound grows by what the event counts.
 pub returns-clause-steps : goal.returns-clause-steps
 returns-clause-steps g c =
+    let books : AreBooksOf (with_event c.change_of_row.new.books.book.journal c.in-Some.change.event) c.apply.new.self =
+    subst (λ (change : EventChange). AreBooksOf (with_event c.change_of_row.new.books.book.journal change.event) c.apply.new.self) c.into_change.ensures c.apply.ensures in
     grows_by c.args.books.now.book.journal c.apply.new.self.book.journal c.in-Some.change.event c.args.steps.now c.change_of_row.new.steps
-    (c.apply.ensures.noted ∙ ap (λ (journal : Journal). with_event journal c.in-Some.change.event) c.in_ok-change.ensures.journal)
+    (books.noted ∙ ap (λ (journal : Journal). with_event journal c.in-Some.change.event) c.in_ok-change.ensures.journal)
     (rw c.in-Some.is at c.in_ok-change.ensures.steps)
 
 -- The bad row takes what the event of it takes.
