@@ -42,7 +42,7 @@ fn tally_of_moves(
         ≡ net (mils_by_moves parts.now.entries moves.now class)) }
     ensures within { IfOk result (λ tally. IsWithin tally (2 ^ 126)) }
 {
-    let mut tally = Tally::new(alloc);
+    let mut tally = Tally::with_room(alloc, moves.len())?;
     let mut count = 0;
     for change in moves {
         count = tally_move(&mut tally, parts, change, count)?;

@@ -6,7 +6,6 @@ pub mod ClassFlowFacts
 pub mod GainFacts
 pub mod RisingClasses
 pub mod GainsOfClasses
-pub mod EntryRows
 pub mod RowFacts
 pub mod TallyFacts
 pub mod TradeFlowFacts

@@ -1,15 +1,15 @@
 -- The rows of a tally change each party and each class by what the tally took in.
-use Rattle.std.proofs.Common.{Bool, List, None, Option, Some, [], ap, arith, cond, false, flat_map, inl, inr, is_some, nat_eq, refl, sum_by, sym, true, unwrap_or, ℕ, ℤ, ◌++◌, ◌+◌, ◌==◌, ◌||◌, ◌∙◌, ◌∷◌, ◌≡◌, negsuc, pos}
+use Rattle.std.proofs.Common.{Bool, List, None, Option, Some, [], ap, arith, cond, eq-eqb, false, flat_map, inl, inr, is_some, nat_eq, refl, sum_by, sym, true, unwrap_or, ℕ, ℤ, ◌++◌, ◌+◌, ◌==◌, ◌||◌, ◌∙◌, ◌∷◌, ◌≡◌, negsuc, pos}
 use Rattle.std.specs.BTreeMap.{BTreeMap, is_at, keys}
-use Rattle.std.specs.List.{list_any}
+use Rattle.std.specs.List.{AllByRecursion, IsDistinct, list_any}
 use Rattle.std.specs.List.Sorted.{IsStrictlySortedBy}
-use Rattle.std.specs.Map.{lookup}
+use Rattle.std.specs.Map.{keys_of, lookup}
 use Rattle.std.specs.Ordering.{nat_cmp}
 use Rattle.std.proofs.lemmas.Bool.{true≢false}
 use Rattle.std.proofs.lemmas.Bool.Decides.{Decides-int_eq, eqb_tells}
 use Rattle.std.proofs.lemmas.Int.{ints}
 use Rattle.std.proofs.lemmas.List.Sums.{sum_by-append, sum_by-cons}
-use Rattle.std.proofs.lemmas.Map.Keys.{sorted_head, sorted_tail}
+use Rattle.std.proofs.lemmas.Map.Keys.{IsDistinct-head, IsDistinct-tail, sorted_head, sorted_tail}
 use Rattle.std.proofs.lemmas.Map.Made.{is_some-lookup}
 use Rattle.agent_events.specs.declared.order.Party.{Party}
 use Rattle.agent_events.specs.declared.totals.CashChange.{CashChange}
@@ -22,7 +22,7 @@ use Rattle.gain_loss_book.proofs.RisingClasses.{none-up_to}
 use Rattle.gain_loss_book.specs.ChangeRows.{cash_row, cash_rows, class_rows, dealer_rows, holder_rows, mils_row, mils_rows}
 use Rattle.gain_loss_book.specs.ClassFlows.{flows_of}
 use Rattle.gain_loss_book.specs.ClassGains.{mils_change, mils_flow}
-use Rattle.gain_loss_book.specs.Flows.{fall, flow_by, net, no_flow, rise}
+use Rattle.gain_loss_book.specs.Flows.{fall, flow_at, flow_by, net, no_flow, rise}
 use Rattle.gain_loss_book.specs.Posted.{cash_change, changes_flow}
 use Rattle.gain_loss_book.specs.Tallies.{cash_tallied, mils_tallied, sorted_flow}
 use Rattle.gain_loss_book.specs.declared.class_flows.ClassFlows.{ClassFlows}
@@ -30,7 +30,7 @@ use Rattle.gain_loss_book.specs.declared.flows.Flow.{Flow}
 use Rattle.gain_loss_book.specs.declared.tally.Tally.{Tally}
 
 -- sums over rows by number, of which only one number's count
-other-sum : {X : Type 0} (g : X → ℕ) (row : ℕ → List X) → ((k : ℕ) → sum_by g (row k) ≡ 0) → (ks : List ℕ) → sum_by g (flat_map row ks) ≡ 0
+other-sum : {X K : Type 0} (g : X → ℕ) (row : K → List X) → ((k : K) → sum_by g (row k) ≡ 0) → (ks : List K) → sum_by g (flat_map row ks) ≡ 0
 other-sum g row none [] = refl
 other-sum g row none (k ∷ ks) =
     omega (arith, sum_by-append g (row k) (flat_map row ks), none k, other-sum g row none ks)
@@ -142,38 +142,68 @@ other-kind : (side : ℤ → ℕ) (make : ℕ → Party) (party : Party) → ((k
 other-kind side make party apart f ks =
     other-sum (λ (x : CashChange). cond (same_party x.party party) (side x.cents) 0) (λ k. cash_row (make k) (f k)) (λ k. other-row side (make k) party (f k) (apart k)) ks
 
+-- the rows of holders, as they are kept: where one is absent, at one of them, and at another party
+absent-holder : (side : ℤ → ℕ) (q : ℕ) (holders : List (ℕ × Flow)) → AllByRecursion (λ k. nat_eq q k ≡ false) (keys_of holders) → sum_by (λ (x : CashChange). cond (same_party x.party (Party.Holder q)) (side x.cents) 0) (holder_rows holders) ≡ 0
+absent-holder side q [] absent = refl
+absent-holder side q (holder ∷ holders) absent =
+    let g : CashChange → ℕ = λ x. cond (same_party x.party (Party.Holder q)) (side x.cents) 0 in
+    let apart : (holder.0 == q) ≡ false = apart_number q holder.0 (λ same. true≢false (sym (eq-eqb q holder.0 same) ∙ absent.0)) in
+    omega (arith, sum_by-append g (cash_row (Party.Holder holder.0) holder.1) (holder_rows holders), other-row side (Party.Holder holder.0) (Party.Holder q) holder.1 apart, absent-holder side q holders absent.1)
+
+own-holder : (side : ℤ → ℕ) → side (pos 0) ≡ 0 → (q : ℕ) (holders : List (ℕ × Flow)) → IsDistinct nat_eq (keys_of holders) → sum_by (λ (x : CashChange). cond (same_party x.party (Party.Holder q)) (side x.cents) 0) (holder_rows holders) ≡ side (net (flow_at holders q))
+own-holder side none q [] once = sym none
+own-holder side none q (holder ∷ holders) once =
+    let p = Party.Holder q in
+    let g : CashChange → ℕ = λ x. cond (same_party x.party p) (side x.cents) 0 in
+    let both = sum_by-append g (cash_row (Party.Holder holder.0) holder.1) (holder_rows holders) in
+    elim (eqb_tells q holder.0) [
+      | inl (is, same) ↦
+          (let absent : AllByRecursion (λ k. nat_eq q k ≡ false) (keys_of holders) = rw same (IsDistinct-head nat_eq holder.0 (keys_of holders) once) in
+          let own = own-row side none (Party.Holder holder.0) p holder.1 (eq-eqb holder.0 q (sym same)) in
+          let whole : sum_by g (holder_rows (holder ∷ holders)) ≡ side (net holder.1) = omega (arith, both, own, absent-holder side q holders absent) in
+          whole ∙ ap (λ b. side (net (unwrap_or (cond b (Some holder.1) (lookup (nat_eq q) holders)) no_flow))) (sym is))
+      | inr (is, apart) ↦
+          (let first = other-row side (Party.Holder holder.0) p holder.1 (apart_number q holder.0 apart) in
+          let whole : sum_by g (holder_rows (holder ∷ holders)) ≡ side (net (flow_at holders q)) = omega (arith, both, first, own-holder side none q holders (IsDistinct-tail nat_eq holder.0 (keys_of holders) once)) in
+          whole ∙ ap (λ b. side (net (unwrap_or (cond b (Some holder.1) (lookup (nat_eq q) holders)) no_flow))) (sym is))
+    ]
+
+other-holders : (side : ℤ → ℕ) (party : Party) → ((k : ℕ) → same_party (Party.Holder k) party ≡ false) → (holders : List (ℕ × Flow)) → sum_by (λ (x : CashChange). cond (same_party x.party party) (side x.cents) 0) (holder_rows holders) ≡ 0
+other-holders side party apart holders =
+    other-sum (λ (x : CashChange). cond (same_party x.party party) (side x.cents) 0) (λ (holder : ℕ × Flow). cash_row (Party.Holder holder.0) holder.1) (λ (holder : ℕ × Flow). other-row side (Party.Holder holder.0) party holder.1 (apart holder.0)) holders
+
 net-flow_by : (z : ℤ) → net (flow_by z) ≡ z
 net-flow_by (pos n) = omega (arith, ints)
 net-flow_by (negsuc n) = omega (arith, ints)
 
 -- what the rows of a tally add up to
-abbrev AreSorted : Tally → Type 0
-AreSorted tally = IsStrictlySortedBy nat_cmp (keys tally.holders) × IsStrictlySortedBy nat_cmp (keys tally.classes) × IsStrictlySortedBy nat_cmp (keys tally.dealers)
+abbrev AreInOrder : Tally → Type 0
+AreInOrder tally = IsDistinct nat_eq (keys_of tally.holders.entries) × IsStrictlySortedBy nat_cmp (keys tally.classes) × IsStrictlySortedBy nat_cmp (keys tally.dealers)
 
 five-parts : {X : Type 0} (g : X → ℕ) (a b c d e : List X) → sum_by g ((((a ++ b) ++ c) ++ d) ++ e) ≡ sum_by g a + (sum_by g b + (sum_by g c + (sum_by g d + sum_by g e)))
 five-parts g a b c d e =
     omega (arith, sum_by-append g (((a ++ b) ++ c) ++ d) e, sum_by-append g ((a ++ b) ++ c) d, sum_by-append g (a ++ b) c, sum_by-append g a b)
 
-side-of-cash : (side : ℤ → ℕ) → side (pos 0) ≡ 0 → (tally : Tally) → AreSorted tally → (party : Party) → sum_by (λ (x : CashChange). cond (same_party x.party party) (side x.cents) 0) (cash_rows tally) ≡ side (net (cash_tallied tally party))
+side-of-cash : (side : ℤ → ℕ) → side (pos 0) ≡ 0 → (tally : Tally) → AreInOrder tally → (party : Party) → sum_by (λ (x : CashChange). cond (same_party x.party party) (side x.cents) 0) (cash_rows tally) ≡ side (net (cash_tallied tally party))
 side-of-cash side none tally up (Party.Holder q) =
     let p = Party.Holder q in
-    omega (arith, five-parts (λ (x : CashChange). cond (same_party x.party p) (side x.cents) 0) (holder_rows tally.holders) (class_rows tally.classes) (dealer_rows tally.dealers) (cash_row Party.Underwriter tally.underwriter) (cash_row Party.Agent tally.agent), own-kind side none (λ k. Party.Holder k) (λ a b. refl) (sorted_flow tally.holders) (keys tally.holders) up.0 q (row-none tally.holders q), other-kind side (λ k. Party.Class k) p (λ k. refl) (λ k. (flows_of tally.classes k).cash) (keys tally.classes), other-kind side (λ k. Party.Dealer k) p (λ k. refl) (sorted_flow tally.dealers) (keys tally.dealers), other-row side Party.Underwriter p tally.underwriter refl, other-row side Party.Agent p tally.agent refl)
+    omega (arith, five-parts (λ (x : CashChange). cond (same_party x.party p) (side x.cents) 0) (holder_rows tally.holders.entries) (class_rows tally.classes) (dealer_rows tally.dealers) (cash_row Party.Underwriter tally.underwriter) (cash_row Party.Agent tally.agent), own-holder side none q tally.holders.entries up.0, other-kind side (λ k. Party.Class k) p (λ k. refl) (λ k. (flows_of tally.classes k).cash) (keys tally.classes), other-kind side (λ k. Party.Dealer k) p (λ k. refl) (sorted_flow tally.dealers) (keys tally.dealers), other-row side Party.Underwriter p tally.underwriter refl, other-row side Party.Agent p tally.agent refl)
 side-of-cash side none tally up (Party.Class q) =
     let p = Party.Class q in
-    omega (arith, five-parts (λ (x : CashChange). cond (same_party x.party p) (side x.cents) 0) (holder_rows tally.holders) (class_rows tally.classes) (dealer_rows tally.dealers) (cash_row Party.Underwriter tally.underwriter) (cash_row Party.Agent tally.agent), own-kind side none (λ k. Party.Class k) (λ a b. refl) (λ k. (flows_of tally.classes k).cash) (keys tally.classes) up.1 q (λ absent. ap (λ (f : ClassFlows). f.cash) (flows-none tally.classes q absent)), other-kind side (λ k. Party.Holder k) p (λ k. refl) (sorted_flow tally.holders) (keys tally.holders), other-kind side (λ k. Party.Dealer k) p (λ k. refl) (sorted_flow tally.dealers) (keys tally.dealers), other-row side Party.Underwriter p tally.underwriter refl, other-row side Party.Agent p tally.agent refl)
+    omega (arith, five-parts (λ (x : CashChange). cond (same_party x.party p) (side x.cents) 0) (holder_rows tally.holders.entries) (class_rows tally.classes) (dealer_rows tally.dealers) (cash_row Party.Underwriter tally.underwriter) (cash_row Party.Agent tally.agent), own-kind side none (λ k. Party.Class k) (λ a b. refl) (λ k. (flows_of tally.classes k).cash) (keys tally.classes) up.1 q (λ absent. ap (λ (f : ClassFlows). f.cash) (flows-none tally.classes q absent)), other-holders side p (λ k. refl) tally.holders.entries, other-kind side (λ k. Party.Dealer k) p (λ k. refl) (sorted_flow tally.dealers) (keys tally.dealers), other-row side Party.Underwriter p tally.underwriter refl, other-row side Party.Agent p tally.agent refl)
 side-of-cash side none tally up (Party.Dealer q) =
     let p = Party.Dealer q in
-    omega (arith, five-parts (λ (x : CashChange). cond (same_party x.party p) (side x.cents) 0) (holder_rows tally.holders) (class_rows tally.classes) (dealer_rows tally.dealers) (cash_row Party.Underwriter tally.underwriter) (cash_row Party.Agent tally.agent), own-kind side none (λ k. Party.Dealer k) (λ a b. refl) (sorted_flow tally.dealers) (keys tally.dealers) up.2 q (row-none tally.dealers q), other-kind side (λ k. Party.Holder k) p (λ k. refl) (sorted_flow tally.holders) (keys tally.holders), other-kind side (λ k. Party.Class k) p (λ k. refl) (λ k. (flows_of tally.classes k).cash) (keys tally.classes), other-row side Party.Underwriter p tally.underwriter refl, other-row side Party.Agent p tally.agent refl)
+    omega (arith, five-parts (λ (x : CashChange). cond (same_party x.party p) (side x.cents) 0) (holder_rows tally.holders.entries) (class_rows tally.classes) (dealer_rows tally.dealers) (cash_row Party.Underwriter tally.underwriter) (cash_row Party.Agent tally.agent), own-kind side none (λ k. Party.Dealer k) (λ a b. refl) (sorted_flow tally.dealers) (keys tally.dealers) up.2 q (row-none tally.dealers q), other-holders side p (λ k. refl) tally.holders.entries, other-kind side (λ k. Party.Class k) p (λ k. refl) (λ k. (flows_of tally.classes k).cash) (keys tally.classes), other-row side Party.Underwriter p tally.underwriter refl, other-row side Party.Agent p tally.agent refl)
 side-of-cash side none tally up Party.Underwriter =
     let p = Party.Underwriter in
-    omega (arith, five-parts (λ (x : CashChange). cond (same_party x.party p) (side x.cents) 0) (holder_rows tally.holders) (class_rows tally.classes) (dealer_rows tally.dealers) (cash_row Party.Underwriter tally.underwriter) (cash_row Party.Agent tally.agent), other-kind side (λ k. Party.Holder k) p (λ k. refl) (sorted_flow tally.holders) (keys tally.holders), other-kind side (λ k. Party.Class k) p (λ k. refl) (λ k. (flows_of tally.classes k).cash) (keys tally.classes), other-kind side (λ k. Party.Dealer k) p (λ k. refl) (sorted_flow tally.dealers) (keys tally.dealers), own-row side none Party.Underwriter p tally.underwriter refl, other-row side Party.Agent p tally.agent refl)
+    omega (arith, five-parts (λ (x : CashChange). cond (same_party x.party p) (side x.cents) 0) (holder_rows tally.holders.entries) (class_rows tally.classes) (dealer_rows tally.dealers) (cash_row Party.Underwriter tally.underwriter) (cash_row Party.Agent tally.agent), other-holders side p (λ k. refl) tally.holders.entries, other-kind side (λ k. Party.Class k) p (λ k. refl) (λ k. (flows_of tally.classes k).cash) (keys tally.classes), other-kind side (λ k. Party.Dealer k) p (λ k. refl) (sorted_flow tally.dealers) (keys tally.dealers), own-row side none Party.Underwriter p tally.underwriter refl, other-row side Party.Agent p tally.agent refl)
 side-of-cash side none tally up Party.Agent =
     let p = Party.Agent in
-    omega (arith, five-parts (λ (x : CashChange). cond (same_party x.party p) (side x.cents) 0) (holder_rows tally.holders) (class_rows tally.classes) (dealer_rows tally.dealers) (cash_row Party.Underwriter tally.underwriter) (cash_row Party.Agent tally.agent), other-kind side (λ k. Party.Holder k) p (λ k. refl) (sorted_flow tally.holders) (keys tally.holders), other-kind side (λ k. Party.Class k) p (λ k. refl) (λ k. (flows_of tally.classes k).cash) (keys tally.classes), other-kind side (λ k. Party.Dealer k) p (λ k. refl) (sorted_flow tally.dealers) (keys tally.dealers), other-row side Party.Underwriter p tally.underwriter refl, own-row side none Party.Agent p tally.agent refl)
+    omega (arith, five-parts (λ (x : CashChange). cond (same_party x.party p) (side x.cents) 0) (holder_rows tally.holders.entries) (class_rows tally.classes) (dealer_rows tally.dealers) (cash_row Party.Underwriter tally.underwriter) (cash_row Party.Agent tally.agent), other-holders side p (λ k. refl) tally.holders.entries, other-kind side (λ k. Party.Class k) p (λ k. refl) (λ k. (flows_of tally.classes k).cash) (keys tally.classes), other-kind side (λ k. Party.Dealer k) p (λ k. refl) (sorted_flow tally.dealers) (keys tally.dealers), other-row side Party.Underwriter p tally.underwriter refl, own-row side none Party.Agent p tally.agent refl)
 
-pub cash-by_party : (rows : List CashChange) (tally : Tally) → rows ≡ cash_rows tally → IsStrictlySortedBy nat_cmp (keys tally.holders) → IsStrictlySortedBy nat_cmp (keys tally.classes) → IsStrictlySortedBy nat_cmp (keys tally.dealers) → (party : Party) → cash_change rows party ≡ net (cash_tallied tally party)
+pub cash-by_party : (rows : List CashChange) (tally : Tally) → rows ≡ cash_rows tally → IsDistinct nat_eq (keys_of tally.holders.entries) → IsStrictlySortedBy nat_cmp (keys tally.classes) → IsStrictlySortedBy nat_cmp (keys tally.dealers) → (party : Party) → cash_change rows party ≡ net (cash_tallied tally party)
 cash-by_party rows tally is holders classes dealers party =
-    let up : AreSorted tally = (holders, classes, dealers) in
+    let up : AreInOrder tally = (holders, classes, dealers) in
     ap (λ (xs : List CashChange). cash_change xs party) is
     ∙ (ap net (flow-same (changes_flow (cash_rows tally) party) (flow_by (net (cash_tallied tally party))) (side-of-cash rise refl tally up party) (side-of-cash fall refl tally up party))
     ∙ net-flow_by (net (cash_tallied tally party)))

@@ -20,10 +20,11 @@ cash_row party flow = if is_nothing (net flow) then [] else record { party = par
 abbrev pub mils_row : ℕ → Flow → List MilsChange
 mils_row class flow = if is_nothing (net flow) then [] else record { class = class; mils = net flow } ∷ []
 
--- the rows by number
-abbrev pub holder_rows : BTreeMap ℕ Flow → List CashChange
-holder_rows holders = flat_map (λ account. cash_row (Party.Holder account) (sorted_flow holders account)) (keys holders)
+-- the rows of holders, as they are kept
+abbrev pub holder_rows : List (ℕ × Flow) → List CashChange
+holder_rows holders = flat_map (λ (holder : ℕ × Flow). cash_row (Party.Holder holder.0) holder.1) holders
 
+-- the rows by number
 abbrev pub class_rows : BTreeMap ℕ ClassFlows → List CashChange
 class_rows classes = flat_map (λ class. cash_row (Party.Class class) (flows_of classes class).cash) (keys classes)
 
@@ -33,10 +34,10 @@ dealer_rows dealers = flat_map (λ dealer. cash_row (Party.Dealer dealer) (sorte
 abbrev pub share_rows : BTreeMap ℕ ClassFlows → List MilsChange
 share_rows classes = flat_map (λ class. mils_row class (flows_of classes class).mils) (keys classes)
 
--- holders, classes and dealers by number, the underwriter and the agent
+-- the holders, classes and dealers by number, the underwriter and the agent
 abbrev pub cash_rows : Tally → List CashChange
 cash_rows tally =
-    (((holder_rows tally.holders ++ class_rows tally.classes) ++ dealer_rows tally.dealers)
+    (((holder_rows tally.holders.entries ++ class_rows tally.classes) ++ dealer_rows tally.dealers)
     ++ cash_row Party.Underwriter tally.underwriter) ++ cash_row Party.Agent tally.agent
 
 abbrev pub mils_rows : Tally → List MilsChange

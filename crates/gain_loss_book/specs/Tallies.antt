@@ -4,7 +4,7 @@ use Rattle.std.specs.Ordering.{nat_cmp}
 use Rattle.std.specs.Prelude.{ℕ, unwrap_or, ◌≤◌}
 use Rattle.agent_events.specs.declared.order.Party.{Party}
 use Rattle.gain_loss_book.specs.ClassFlows.{flows_of}
-use Rattle.gain_loss_book.specs.Flows.{no_flow}
+use Rattle.gain_loss_book.specs.Flows.{flow_at, no_flow}
 use Rattle.gain_loss_book.specs.declared.flows.Flow.{Flow}
 use Rattle.gain_loss_book.specs.declared.tally.Tally.{Tally}
 
@@ -14,7 +14,7 @@ sorted_flow rows number = unwrap_or (get nat_cmp rows number) no_flow
 
 -- the cash of a party
 abbrev pub cash_tallied : Tally → Party → Flow
-cash_tallied tally (Party.Holder account) = sorted_flow tally.holders account
+cash_tallied tally (Party.Holder account) = flow_at tally.holders.entries account
 cash_tallied tally (Party.Class class) = (flows_of tally.classes class).cash
 cash_tallied tally (Party.Dealer dealer) = sorted_flow tally.dealers dealer
 cash_tallied tally Party.Underwriter = tally.underwriter

@@ -1,12 +1,14 @@
 //! The rows of a tally: each party and each class that changes, once, in their order.
-ghost use Rattle.std.specs.Prelude.{◌≡◌, ℕ, ◌++◌, ◌<◌, ◌^◌, OnOk, IfOk};
+ghost use Rattle.std.specs.Prelude.{◌≡◌, ℕ, ◌++◌, ◌<◌, ◌^◌, OnOk, IfOk, nat_eq};
 ghost use Rattle.std.specs.BTreeMap.{keys};
+ghost use Rattle.std.specs.List.{IsDistinct};
 ghost use Rattle.std.specs.List.Sorted.{IsStrictlySortedBy};
+ghost use Rattle.std.specs.Map.{keys_of};
 ghost use Rattle.std.specs.Ordering.{nat_cmp};
 ghost use Rattle.agent_events.specs.declared.order.Party.{Party as AnyParty};
 ghost use Rattle.gain_loss_book.specs.ClassFlows.{flows_of};
 ghost use Rattle.gain_loss_book.specs.ClassGains.{mils_change};
-ghost use Rattle.gain_loss_book.specs.Flows.{net};
+ghost use Rattle.gain_loss_book.specs.Flows.{flow_at, net};
 ghost use Rattle.gain_loss_book.specs.Posted.{cash_change};
 ghost use Rattle.gain_loss_book.specs.ChangeRows.{cash_row, cash_rows, class_rows, dealer_rows, holder_rows, mils_row, mils_rows, share_rows};
 ghost use Rattle.gain_loss_book.specs.Tallies.{IsWithin, cash_tallied, mils_tallied, sorted_flow};
@@ -16,13 +18,14 @@ use crate::flows::Flow;
 use crate::tally::{self, Tally};
 use agent_events::{CashChange, Changes, MilsChange, Party};
 use money_units::{List, NoMemory};
+use number_hashing::NumberMap;
 use std::alloc::Global;
 use std::collections::BTreeMap;
 
 impl Tally {
     /// What changes by all that the tally took in: the classes whose shares change, by number, and the parties whose cash
-    /// changes: holders and classes by number, dealers by number, the underwriter and the agent. None that stays the same
-    /// has a row.
+    /// changes: the holders, classes and dealers by number, the underwriter and the agent. None that stays the same has a
+    /// row.
     pub fn changes(&self, alloc: Global) -> Result<Changes, NoMemory>
         requires { IsWithin self.now (2 ^ 126) }
         ensures cash { IfOk result (λ changes. (party : AnyParty)
@@ -58,11 +61,11 @@ fn push_cash(rows: &mut List<CashChange>, party: Party, flow: Flow) -> Result<()
     Ok(())
 }
 
-fn push_holders(rows: &mut List<CashChange>, holders: &BTreeMap<u32, Flow>) -> Result<(), NoMemory>
-    requires inflow { (q : ℕ) → (sorted_flow holders.now q).inflow < 2 ^ 127 }
-    requires outflow { (q : ℕ) → (sorted_flow holders.now q).outflow < 2 ^ 127 }
-    ensures rows { OnOk result (rows.new ≡ rows.old ++ holder_rows holders.now) }
-    ensures rising { OnOk result (IsStrictlySortedBy nat_cmp (keys holders.now)) }
+fn push_holders(rows: &mut List<CashChange>, holders: &NumberMap<u32, Flow>) -> Result<(), NoMemory>
+    requires inflow { (q : ℕ) → (flow_at holders.now.entries q).inflow < 2 ^ 127 }
+    requires outflow { (q : ℕ) → (flow_at holders.now.entries q).outflow < 2 ^ 127 }
+    ensures rows { OnOk result (rows.new ≡ rows.old ++ holder_rows holders.now.entries) }
+    ensures once { OnOk result (IsDistinct nat_eq (keys_of holders.now.entries)) }
 {
     for (account, flow) in holders {
         push_cash(rows, Party::Holder(*account), *flow)?;

@@ -1,21 +1,22 @@
 //! The cash of parties and the shares of classes as trades bring them, gathered by party and class.
-ghost use Rattle.std.specs.Prelude.{◌≡◌, ℕ, ◌+◌, ◌<◌, ◌≤◌, ◌^◌, ◌==◌, if◌then◌else◌, OnOk};
+ghost use Rattle.std.specs.Prelude.{◌≡◌, ℕ, ◌+◌, ◌<◌, ◌≤◌, ◌^◌, ◌==◌, if◌then◌else◌, IfOk, OnOk};
 ghost use Rattle.agent_events.specs.declared.order.Party.{Party as AnyParty};
 ghost use Rattle.register_machine.specs.corrections.Cash.{same_party};
-ghost use Rattle.gain_loss_book.specs.Flows.{no_flow, with_flow};
+ghost use Rattle.gain_loss_book.specs.Flows.{flow_at, no_flow, with_flow};
 ghost use Rattle.gain_loss_book.specs.Tallies.{IsWithin, cash_tallied, mils_tallied, sorted_flow};
 
 use crate::class_flows::{self, ClassFlows};
 use crate::flows::Flow;
 use agent_events::Party;
 use money_units::NoMemory;
+use number_hashing::{NumberMap, number_map};
 use std::alloc::Global;
 use std::collections::BTreeMap;
 
 /// The cash of each party and the shares of each class, by number.
 #[derive(Drop)]
 pub struct Tally {
-    pub holders: BTreeMap<u32, Flow>,
+    pub holders: NumberMap<u32, Flow>,
     pub classes: BTreeMap<u32, ClassFlows>,
     pub dealers: BTreeMap<u32, Flow>,
     pub underwriter: Flow,
@@ -30,12 +31,24 @@ impl Tally {
         ensures within { IsWithin result 0 }
     {
         Tally {
-            holders: BTreeMap::new(alloc),
+            holders: number_map(alloc),
             classes: BTreeMap::new(alloc),
             dealers: BTreeMap::new(alloc),
             underwriter: Flow::none(),
             agent: Flow::none(),
         }
+    }
+
+    /// Nothing came or went, with room for so many holders.
+    pub fn with_room(alloc: Global, holders: usize) -> Result<Tally, NoMemory>
+        ensures cash { IfOk result
+            (λ tally. (party : AnyParty) → cash_tallied tally party ≡ no_flow) }
+        ensures mils { IfOk result (λ tally. (class : ℕ) → mils_tallied tally class ≡ no_flow) }
+        ensures within { IfOk result (λ tally. IsWithin tally 0) }
+    {
+        let mut tally = Tally::new(alloc);
+        tally.holders.reserve(holders)?;
+        Ok(tally)
     }
 
     /// Adds a flow of cash to that of a party.
@@ -50,7 +63,7 @@ impl Tally {
     {
         match party {
             Party::Holder(account) => {
-                add(&mut self.holders, account, flow)?;
+                add_to_holder(&mut self.holders, account, flow)?;
                 Ok(())
             }
             Party::Class(class) => {
@@ -91,6 +104,23 @@ impl Tally {
         class_flows::add(&mut self.classes, class, flows)?;
         Ok(())
     }
+}
+
+// Adds a flow to that of a holder.
+fn add_to_holder(
+    holders: &mut NumberMap<u32, Flow>,
+    account: u32,
+    flow: Flow,
+) -> Result<(), NoMemory>
+    requires inflow { (flow_at holders.old.entries account).inflow + flow.inflow < 2 ^ 128 }
+    requires outflow { (flow_at holders.old.entries account).outflow + flow.outflow < 2 ^ 128 }
+    ensures { OnOk result ((q : ℕ) → flow_at holders.new.entries q
+        ≡ (if account == q then with_flow (flow_at holders.old.entries q) flow
+        else flow_at holders.old.entries q)) }
+{
+    let own = holders.entry(account)?.or_insert(Flow::none());
+    *own = own.and(flow);
+    Ok(())
 }
 
 // Adds a flow to that of a number.

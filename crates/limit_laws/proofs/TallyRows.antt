@@ -1,46 +1,59 @@
 -- The rows of a tally name each party and each class once.
-use Rattle.std.proofs.Common.{Bool, List, [], arith, cond, count_by, false, flat_map, nat_eq, refl, sym, true, ℕ, ◌++◌, ◌+◌, ◌==◌, ◌∷◌, ◌≡◌, ◌≤◌}
+use Rattle.std.proofs.Common.{Bool, List, [], ap, arith, cond, count_by, false, flat_map, get_or, inl, inr, map, nat_eq, refl, subst, sym, true, ℕ, ◌++◌, ◌+◌, ◌<◌, ◌==◌, ◌∷◌, ◌≡◌, ◌≤◌}
 use Rattle.std.proofs.lemmas.Bool.{eqb-true}
 use Rattle.std.proofs.lemmas.List.Sums.{sum_by-append, sum_by-cons}
-use Rattle.std.proofs.lemmas.Map.Keys.{sorted_head, sorted_tail}
+use Rattle.std.proofs.lemmas.Bool.Decides.{eqb_tells}
+use Rattle.std.proofs.lemmas.List.{map-id}
+use Rattle.std.proofs.lemmas.Map.Keys.{IsDistinct-from_apart, IsDistinct-head, IsDistinct-tail, below_from_sorted}
 use Rattle.std.specs.BTreeMap.{keys}
+use Rattle.std.specs.List.{AllByRecursion, IsDistinct}
 use Rattle.std.specs.List.Sorted.{IsStrictlySortedBy}
 use Rattle.std.specs.Ordering.{nat_cmp}
 use Rattle.agent_events.specs.declared.order.Party.{Party}
 use Rattle.agent_events.specs.declared.totals.CashChange.{CashChange}
 use Rattle.agent_events.specs.declared.totals.MilsChange.{MilsChange}
-use Rattle.gain_loss_book.proofs.RisingClasses.{none-up_to}
 use Rattle.gain_loss_book.specs.ChangeRows.{cash_row, cash_rows, class_rows, dealer_rows, holder_rows, mils_row, mils_rows}
 use Rattle.gain_loss_book.specs.ClassFlows.{flows_of}
 use Rattle.gain_loss_book.specs.Flows.{net}
 use Rattle.gain_loss_book.specs.Tallies.{sorted_flow}
 use Rattle.gain_loss_book.specs.declared.flows.Flow.{Flow}
 use Rattle.gain_loss_book.specs.declared.tally.Tally.{Tally}
-use Rattle.limit_laws.proofs.Counting.{none-counted}
-use Rattle.limit_laws.specs.Posts.{HasRisingRows, TallyNamesEachOnce}
+use Rattle.limit_laws.specs.Posts.{HasRowsOnce, TallyNamesEachOnce}
 use Rattle.register_laws.proofs.Comparisons.{eq-yes}
 use Rattle.register_machine.specs.corrections.Cash.{same_party}
 use Rattle.register_machine.specs.corrections.Gains.{is_nothing}
 
 -- ---- rows by number
 
-key-once : (q : ℕ) (ks : List ℕ) → IsStrictlySortedBy nat_cmp ks → count_by (nat_eq q) ks ≤ 1
-key-once q [] up = omega arith
-key-once q (k ∷ ks) up =
-    by (nat_eq q k) refl (key-once q ks (sorted_tail nat_cmp k ks up)) (sum_by-cons (λ x. cond (nat_eq q x) 1 0) k ks)
+key-once : {K : Type 0} (key : K → ℕ) (q : ℕ) (ks : List K) → IsDistinct nat_eq (map key ks) → count_by (λ k. nat_eq q (key k)) ks ≤ 1
+key-once key q [] once = omega arith
+key-once {K = K} key q (k ∷ ks) once =
+    by (nat_eq q (key k)) refl (key-once key q ks (IsDistinct-tail nat_eq (key k) (map key ks) once)) (sum_by-cons (λ x. cond (nat_eq q (key x)) 1 0) k ks)
   where
-    by : (same : Bool) → nat_eq q k ≡ same → count_by (nat_eq q) ks ≤ 1 → count_by (nat_eq q) (k ∷ ks) ≡ cond same 1 0 + count_by (nat_eq q) ks → count_by (nat_eq q) (k ∷ ks) ≤ 1
+    none : (ks : List K) → AllByRecursion (λ m. nat_eq q m ≡ false) (map key ks) → count_by (λ x. nat_eq q (key x)) ks ≤ 0
+    none [] absent = omega arith
+    none (m ∷ ks) absent = omega (arith, none ks absent.1, sum_by-cons (λ x. cond (nat_eq q (key x)) 1 0) m ks, ap {B = ℕ} (λ b. cond b 1 0) absent.0)
+
+    by : (same : Bool) → nat_eq q (key k) ≡ same → count_by (λ x. nat_eq q (key x)) ks ≤ 1 → count_by (λ x. nat_eq q (key x)) (k ∷ ks) ≡ cond same 1 0 + count_by (λ x. nat_eq q (key x)) ks → count_by (λ x. nat_eq q (key x)) (k ∷ ks) ≤ 1
     by false e rest whole = omega (arith, rest, whole)
     by true e rest whole =
-        let own = eqb-true q k e in
-        omega (arith, whole, none-counted (nat_eq q) ks (none-up_to k q (omega (arith, own)) ks (sorted_head nat_cmp k ks up)))
+        let absent : AllByRecursion (λ m. nat_eq q m ≡ false) (map key ks) = subst (λ n. AllByRecursion (λ m. nat_eq n m ≡ false) (map key ks)) (sym (eqb-true q (key k) e)) (IsDistinct-head nat_eq (key k) (map key ks) once) in
+        omega (arith, whole, none ks absent)
 
-rows-once : {Row : Type 0} (p : Row → Bool) (row : ℕ → List Row) (q : ℕ) → ((k : ℕ) → count_by p (row k) ≤ cond (nat_eq q k) 1 0) → (ks : List ℕ) → count_by p (flat_map row ks) ≤ count_by (nat_eq q) ks
-rows-once p row q each [] = omega arith
-rows-once p row q each (k ∷ ks) =
-    omega (arith, each k, rows-once p row q each ks, sum_by-append (λ x. cond (p x) 1 0) (row k) (flat_map row ks), sum_by-cons (λ x. cond (nat_eq q x) 1 0) k ks)
+-- a list that rises has each number once
+rising-once : (ks : List ℕ) → IsStrictlySortedBy nat_cmp ks → IsDistinct nat_eq (map (λ k. k) ks)
+rising-once ks up =
+    subst (IsDistinct nat_eq) (sym (map-id ks)) (IsDistinct-from_apart nat_eq ks (λ i j d before within. apart (get_or ks i d) (get_or ks j d) (below_from_sorted ks i j d up before within)))
+  where
+    apart : (a b : ℕ) → a < b → nat_eq a b ≡ false
+    apart a b less = elim (eqb_tells a b) [ inl (is, same) ↦ absurd (omega (arith, same, less)) | inr (is, other) ↦ is ]
 
-rows-none : {Row : Type 0} (p : Row → Bool) (row : ℕ → List Row) → ((k : ℕ) → count_by p (row k) ≤ 0) → (ks : List ℕ) → count_by p (flat_map row ks) ≤ 0
+rows-once : {Row K : Type 0} (p : Row → Bool) (row : K → List Row) (key : K → ℕ) (q : ℕ) → ((k : K) → count_by p (row k) ≤ cond (nat_eq q (key k)) 1 0) → (ks : List K) → count_by p (flat_map row ks) ≤ count_by (λ k. nat_eq q (key k)) ks
+rows-once p row key q each [] = omega arith
+rows-once p row key q each (k ∷ ks) =
+    omega (arith, each k, rows-once p row key q each ks, sum_by-append (λ x. cond (p x) 1 0) (row k) (flat_map row ks), sum_by-cons (λ x. cond (nat_eq q (key x)) 1 0) k ks)
+
+rows-none : {Row K : Type 0} (p : Row → Bool) (row : K → List Row) → ((k : K) → count_by p (row k) ≤ 0) → (ks : List K) → count_by p (flat_map row ks) ≤ 0
 rows-none p row each [] = omega arith
 rows-none p row each (k ∷ ks) =
     omega (arith, each k, rows-none p row each ks, sum_by-append (λ x. cond (p x) 1 0) (row k) (flat_map row ks))
@@ -66,7 +79,7 @@ row-counts q party flow =
 
 -- the rows of each kind
 record CountsBy (tally : Tally) (q : Party) (holders classes dealers underwriter agent : ℕ) : Type 0 where
-  of_holders : count_by (of_party q) (holder_rows tally.holders) ≤ holders
+  of_holders : count_by (of_party q) (holder_rows tally.holders.entries) ≤ holders
   of_classes : count_by (of_party q) (class_rows tally.classes) ≤ classes
   of_dealers : count_by (of_party q) (dealer_rows tally.dealers) ≤ dealers
   of_underwriter : count_by (of_party q) (cash_row Party.Underwriter tally.underwriter) ≤ underwriter
@@ -75,7 +88,7 @@ record CountsBy (tally : Tally) (q : Party) (holders classes dealers underwriter
 all-count : (tally : Tally) (q : Party) (h c d u a : ℕ) → h + (c + (d + (u + a))) ≤ 1 → CountsBy tally q h c d u a → count_by (of_party q) (cash_rows tally) ≤ 1
 all-count tally q h c d u a few by =
     let one : CashChange → ℕ = λ x. cond (of_party q x) 1 0 in
-    let two = holder_rows tally.holders ++ class_rows tally.classes in
+    let two = holder_rows tally.holders.entries ++ class_rows tally.classes in
     let three = two ++ dealer_rows tally.dealers in
     let four = three ++ cash_row Party.Underwriter tally.underwriter in
     omega (
@@ -86,14 +99,14 @@ all-count tally q h c d u a few by =
       by.of_dealers,
       by.of_underwriter,
       by.of_agent,
-      sum_by-append one (holder_rows tally.holders) (class_rows tally.classes),
+      sum_by-append one (holder_rows tally.holders.entries) (class_rows tally.classes),
       sum_by-append one two (dealer_rows tally.dealers),
       sum_by-append one three (cash_row Party.Underwriter tally.underwriter),
       sum_by-append one four (cash_row Party.Agent tally.agent),
     )
 
-abbrev holder_row : Tally → ℕ → List CashChange
-holder_row tally k = cash_row (Party.Holder k) (sorted_flow tally.holders k)
+abbrev holder_row : (ℕ × Flow) → List CashChange
+holder_row holder = cash_row (Party.Holder holder.0) holder.1
 
 abbrev class_row : Tally → ℕ → List CashChange
 class_row tally k = cash_row (Party.Class k) (flows_of tally.classes k).cash
@@ -101,11 +114,11 @@ class_row tally k = cash_row (Party.Class k) (flows_of tally.classes k).cash
 abbrev dealer_row : Tally → ℕ → List CashChange
 dealer_row tally k = cash_row (Party.Dealer k) (sorted_flow tally.dealers k)
 
-party-once : (tally : Tally) → HasRisingRows tally → (q : Party) → count_by (of_party q) (cash_rows tally) ≤ 1
+party-once : (tally : Tally) → HasRowsOnce tally → (q : Party) → count_by (of_party q) (cash_rows tally) ≤ 1
 party-once tally rise (Party.Holder a) =
     let q = Party.Holder a in
     all-count tally q 1 0 0 0 0 (omega arith) (record {
-      of_holders = omega (arith, key-once a (keys tally.holders) rise.holders, rows-once (of_party q) (holder_row tally) a (λ k. omega (arith, row-counts q (Party.Holder k) (sorted_flow tally.holders k), turned k a)) (keys tally.holders));
+      of_holders = omega (arith, key-once (λ (e : ℕ × Flow). e.0) a tally.holders.entries rise.holders, rows-once (of_party q) holder_row (λ (e : ℕ × Flow). e.0) a (λ (e : ℕ × Flow). omega (arith, row-counts q (Party.Holder e.0) e.1, turned e.0 a)) tally.holders.entries);
       of_classes = rows-none (of_party q) (class_row tally) (λ k. row-counts q (Party.Class k) (flows_of tally.classes k).cash) (keys tally.classes);
       of_dealers = rows-none (of_party q) (dealer_row tally) (λ k. row-counts q (Party.Dealer k) (sorted_flow tally.dealers k)) (keys tally.dealers);
       of_underwriter = row-counts q Party.Underwriter tally.underwriter;
@@ -114,8 +127,8 @@ party-once tally rise (Party.Holder a) =
 party-once tally rise (Party.Class a) =
     let q = Party.Class a in
     all-count tally q 0 1 0 0 0 (omega arith) (record {
-      of_holders = rows-none (of_party q) (holder_row tally) (λ k. row-counts q (Party.Holder k) (sorted_flow tally.holders k)) (keys tally.holders);
-      of_classes = omega (arith, key-once a (keys tally.classes) rise.classes, rows-once (of_party q) (class_row tally) a (λ k. omega (arith, row-counts q (Party.Class k) (flows_of tally.classes k).cash, turned k a)) (keys tally.classes));
+      of_holders = rows-none (of_party q) holder_row (λ (e : ℕ × Flow). row-counts q (Party.Holder e.0) e.1) tally.holders.entries;
+      of_classes = omega (arith, key-once (λ k. k) a (keys tally.classes) (rising-once (keys tally.classes) rise.classes), rows-once (of_party q) (class_row tally) (λ k. k) a (λ k. omega (arith, row-counts q (Party.Class k) (flows_of tally.classes k).cash, turned k a)) (keys tally.classes));
       of_dealers = rows-none (of_party q) (dealer_row tally) (λ k. row-counts q (Party.Dealer k) (sorted_flow tally.dealers k)) (keys tally.dealers);
       of_underwriter = row-counts q Party.Underwriter tally.underwriter;
       of_agent = row-counts q Party.Agent tally.agent;
@@ -123,15 +136,15 @@ party-once tally rise (Party.Class a) =
 party-once tally rise (Party.Dealer a) =
     let q = Party.Dealer a in
     all-count tally q 0 0 1 0 0 (omega arith) (record {
-      of_holders = rows-none (of_party q) (holder_row tally) (λ k. row-counts q (Party.Holder k) (sorted_flow tally.holders k)) (keys tally.holders);
+      of_holders = rows-none (of_party q) holder_row (λ (e : ℕ × Flow). row-counts q (Party.Holder e.0) e.1) tally.holders.entries;
       of_classes = rows-none (of_party q) (class_row tally) (λ k. row-counts q (Party.Class k) (flows_of tally.classes k).cash) (keys tally.classes);
-      of_dealers = omega (arith, key-once a (keys tally.dealers) rise.dealers, rows-once (of_party q) (dealer_row tally) a (λ k. omega (arith, row-counts q (Party.Dealer k) (sorted_flow tally.dealers k), turned k a)) (keys tally.dealers));
+      of_dealers = omega (arith, key-once (λ k. k) a (keys tally.dealers) (rising-once (keys tally.dealers) rise.dealers), rows-once (of_party q) (dealer_row tally) (λ k. k) a (λ k. omega (arith, row-counts q (Party.Dealer k) (sorted_flow tally.dealers k), turned k a)) (keys tally.dealers));
       of_underwriter = row-counts q Party.Underwriter tally.underwriter;
       of_agent = row-counts q Party.Agent tally.agent;
     })
 party-once tally rise Party.Underwriter =
     all-count tally Party.Underwriter 0 0 0 1 0 (omega arith) (record {
-      of_holders = rows-none (of_party Party.Underwriter) (holder_row tally) (λ k. row-counts Party.Underwriter (Party.Holder k) (sorted_flow tally.holders k)) (keys tally.holders);
+      of_holders = rows-none (of_party Party.Underwriter) holder_row (λ (e : ℕ × Flow). row-counts Party.Underwriter (Party.Holder e.0) e.1) tally.holders.entries;
       of_classes = rows-none (of_party Party.Underwriter) (class_row tally) (λ k. row-counts Party.Underwriter (Party.Class k) (flows_of tally.classes k).cash) (keys tally.classes);
       of_dealers = rows-none (of_party Party.Underwriter) (dealer_row tally) (λ k. row-counts Party.Underwriter (Party.Dealer k) (sorted_flow tally.dealers k)) (keys tally.dealers);
       of_underwriter = row-counts Party.Underwriter Party.Underwriter tally.underwriter;
@@ -139,7 +152,7 @@ party-once tally rise Party.Underwriter =
     })
 party-once tally rise Party.Agent =
     all-count tally Party.Agent 0 0 0 0 1 (omega arith) (record {
-      of_holders = rows-none (of_party Party.Agent) (holder_row tally) (λ k. row-counts Party.Agent (Party.Holder k) (sorted_flow tally.holders k)) (keys tally.holders);
+      of_holders = rows-none (of_party Party.Agent) holder_row (λ (e : ℕ × Flow). row-counts Party.Agent (Party.Holder e.0) e.1) tally.holders.entries;
       of_classes = rows-none (of_party Party.Agent) (class_row tally) (λ k. row-counts Party.Agent (Party.Class k) (flows_of tally.classes k).cash) (keys tally.classes);
       of_dealers = rows-none (of_party Party.Agent) (dealer_row tally) (λ k. row-counts Party.Agent (Party.Dealer k) (sorted_flow tally.dealers k)) (keys tally.dealers);
       of_underwriter = row-counts Party.Agent Party.Underwriter tally.underwriter;
@@ -155,12 +168,12 @@ share-counts q class flow =
       | false ↦ omega arith
     ]
 
-class-once : (tally : Tally) → HasRisingRows tally → (q : ℕ) → count_by (λ (change : MilsChange). change.class == q) (mils_rows tally) ≤ 1
+class-once : (tally : Tally) → HasRowsOnce tally → (q : ℕ) → count_by (λ (change : MilsChange). change.class == q) (mils_rows tally) ≤ 1
 class-once tally rise q =
     omega (
       arith,
-      key-once q (keys tally.classes) rise.classes,
-      rows-once (λ (change : MilsChange). change.class == q) (λ k. mils_row k (flows_of tally.classes k).mils) q
+      key-once (λ k. k) q (keys tally.classes) (rising-once (keys tally.classes) rise.classes),
+      rows-once (λ (change : MilsChange). change.class == q) (λ k. mils_row k (flows_of tally.classes k).mils) (λ k. k) q
           (λ k. omega (arith, share-counts q k (flows_of tally.classes k).mils, turned k q)) (keys tally.classes),
     )
 

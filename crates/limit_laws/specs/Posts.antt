@@ -1,8 +1,10 @@
 -- What a post may have at most: changes between two replays stay within it.
 use Rattle.std.specs.BTreeMap.{keys}
+use Rattle.std.specs.List.{IsDistinct}
 use Rattle.std.specs.List.Sorted.{IsStrictlySortedBy}
+use Rattle.std.specs.Map.{keys_of}
 use Rattle.std.specs.Ordering.{nat_cmp}
-use Rattle.std.specs.Prelude.{count_by, ℕ, ◌<◌, ◌==◌, ◌^◌, ◌≤◌}
+use Rattle.std.specs.Prelude.{count_by, nat_eq, ℕ, ◌<◌, ◌==◌, ◌^◌, ◌≤◌}
 use Rattle.agent_events.specs.Events.{Event}
 use Rattle.agent_events.specs.declared.order.Party.{Party}
 use Rattle.agent_events.specs.declared.totals.Changes.{Changes}
@@ -65,13 +67,13 @@ InFormBooksFit journal = AreInForm journal → BookedFits journal
 
 -- ---- The rows of a tally.
 
--- A tally has its holders, classes and dealers by rising number, as its maps do.
-pub record HasRisingRows (tally : Tally) : Type 0 where
-  pub holders : IsStrictlySortedBy nat_cmp (keys tally.holders)
+-- A tally has each holder once, and its classes and dealers by rising number, as its maps do.
+pub record HasRowsOnce (tally : Tally) : Type 0 where
+  pub holders : IsDistinct nat_eq (keys_of tally.holders.entries)
   pub classes : IsStrictlySortedBy nat_cmp (keys tally.classes)
   pub dealers : IsStrictlySortedBy nat_cmp (keys tally.dealers)
 
 -- So its rows name each party and each class once.
 abbrev pub TallyNamesEachOnce : Tally → Type 0
 TallyNamesEachOnce tally =
-    HasRisingRows tally → NamesEachOnce (record { outstanding = mils_rows tally; cash = cash_rows tally })
+    HasRowsOnce tally → NamesEachOnce (record { outstanding = mils_rows tally; cash = cash_rows tally })

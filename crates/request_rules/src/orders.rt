@@ -1,5 +1,5 @@
 //! The rules on orders, dealers' lines and entered orders.
-ghost use Rattle.std.specs.Prelude.{◌≡◌, ◌≤◌, length, nat_lt};
+ghost use Rattle.std.specs.Prelude.{Bool, None, ◌≡◌, ◌≤◌, length, nat_lt, true};
 ghost use Rattle.agent_events.specs.declared.request.Request.{Request};
 ghost use Rattle.request_rules.specs.VerbRules.{absent_among, below_least, has_breakpoints, rules_of};
 ghost use Rattle.std.specs.Option.{option_copied};
@@ -99,6 +99,13 @@ pub fn below_least(terms: &ClassForm, is_bought: bool, gross: Amount) -> Option<
     refused_when(gross.cents() < least.cents(), Refusal::BelowMinimum(least))
 }
 
+/// Whether a gross in cents is at both minimums of a class, so that no earlier purchase needs to be looked for.
+fn is_at_both_minimums(terms: &ClassForm, gross: Amount) -> bool
+    ensures { result ≡ true → (is_bought : Bool) → below_least terms.now is_bought gross ≡ None }
+{
+    terms.first_min.cents() <= gross.cents() && terms.later_min.cents() <= gross.cents()
+}
+
 /// Refusal 6. The gross of a purchase is below its minimum: the later one behind another order to buy the class that stands,
 /// else the first one; `terms` are those of the order's class.
 fn below_minimum_by(inquiry: &Inquiry, row: &OrderRow, terms: Option<&ClassForm>) -> Option<Refusal>
@@ -108,6 +115,7 @@ fn below_minimum_by(inquiry: &Inquiry, row: &OrderRow, terms: Option<&ClassForm>
 {
     match row.order.body {
         Body::Buy { class, gross } => match terms {
+            Some(terms) if is_at_both_minimums(terms, gross) => None,
             Some(terms) => below_least(terms, inquiry.has_bought(row, class), gross),
             None => None,
         },

@@ -1,15 +1,12 @@
--- The rows so far, and those of the entries that are left, are all of them; a look-up finds each of these.
-use Rattle.std.proofs.Common.{All, Some, flat_map, ℕ, ◌++◌, ◌≡◌}
-use Rattle.std.specs.BTreeMap.{get}
-use Rattle.std.specs.Ordering.{nat_cmp}
-use Rattle.agent_events.specs.declared.order.Party.{Party}
-use Rattle.gain_loss_book.specs.ChangeRows.{cash_row}
-use Rattle.gain_loss_book.specs.declared.flows.Flow.{Flow}
+-- The rows of the holders so far stand behind those before.
+use Rattle.std.proofs.Common.{map, ◌++◌, ◌≡◌}
+use Rattle.std.specs.Map.Iter.{deref_pair}
+use Rattle.gain_loss_book.specs.ChangeRows.{holder_rows}
 use Rattle.gain_loss_book.proofs.change_rows.push_holders.Given as goal
 
 abbrev pub invariant-loop-account : goal.invariant-loop-account
 invariant-loop-account l = record {
-  rows : l.rows ++ flat_map (λ (e : ℕ × Flow). cash_row (Party.Holder e.0) e.1) l.account-iterator
-      ≡ l.fn.rows ++ flat_map (λ (e : ℕ × Flow). cash_row (Party.Holder e.0) e.1) l.holders.entries;
-  found : All (λ (e : ℕ × Flow). get nat_cmp l.holders e.0 ≡ Some e.1) l.account-iterator;
+  can_next : (goal.iterator-loop-account).can_next l.account-iterator;
+  is_finite : (goal.iterator-loop-account).is_finite l.account-iterator;
+  rows : l.rows ≡ l.fn.rows ++ holder_rows (map deref_pair l.yielded);
 }

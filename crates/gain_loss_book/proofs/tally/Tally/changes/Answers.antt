@@ -46,8 +46,8 @@ returns-clause-cash c =
     (c.in_ok-push_cash.ensures ∙ ap (behind (cash_row Party.Underwriter tally.underwriter))
     (c.in_ok-push_dealers.ensures.rows ∙ ap (behind (dealer_rows tally.dealers))
     (c.in_ok-push_classes.ensures.rows ∙ ap (behind (class_rows tally.classes))
-    (c.in_ok-push_holders.ensures.rows ∙ ap (behind (holder_rows tally.holders)) c.new-cash.ensures)))) in
-    cash-by_party c.push_cash-2.new.rows tally is c.in_ok-push_holders.ensures.rising c.in_ok-push_classes.ensures.rising c.in_ok-push_dealers.ensures.rising
+    (c.in_ok-push_holders.ensures.rows ∙ ap (behind (holder_rows tally.holders.entries)) c.new-cash.ensures)))) in
+    cash-by_party c.push_cash-2.new.rows tally is c.in_ok-push_holders.ensures.once c.in_ok-push_classes.ensures.rising c.in_ok-push_dealers.ensures.rising
 
 pub returns-clause-mils : goal.returns-clause-mils
 returns-clause-mils c =
