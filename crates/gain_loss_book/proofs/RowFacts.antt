@@ -177,14 +177,14 @@ net-flow_by (pos n) = omega (arith, ints)
 net-flow_by (negsuc n) = omega (arith, ints)
 
 -- what the rows of a tally add up to
-abbrev AreInOrder : Tally → Type 0
-AreInOrder tally = IsDistinct nat_eq (keys_of tally.holders.entries) × IsStrictlySortedBy nat_cmp (keys tally.classes) × IsStrictlySortedBy nat_cmp (keys tally.dealers)
+abbrev HasKeysOnce : Tally → Type 0
+HasKeysOnce tally = IsDistinct nat_eq (keys_of tally.holders.entries) × IsStrictlySortedBy nat_cmp (keys tally.classes) × IsStrictlySortedBy nat_cmp (keys tally.dealers)
 
 five-parts : {X : Type 0} (g : X → ℕ) (a b c d e : List X) → sum_by g ((((a ++ b) ++ c) ++ d) ++ e) ≡ sum_by g a + (sum_by g b + (sum_by g c + (sum_by g d + sum_by g e)))
 five-parts g a b c d e =
     omega (arith, sum_by-append g (((a ++ b) ++ c) ++ d) e, sum_by-append g ((a ++ b) ++ c) d, sum_by-append g (a ++ b) c, sum_by-append g a b)
 
-side-of-cash : (side : ℤ → ℕ) → side (pos 0) ≡ 0 → (tally : Tally) → AreInOrder tally → (party : Party) → sum_by (λ (x : CashChange). cond (same_party x.party party) (side x.cents) 0) (cash_rows tally) ≡ side (net (cash_tallied tally party))
+side-of-cash : (side : ℤ → ℕ) → side (pos 0) ≡ 0 → (tally : Tally) → HasKeysOnce tally → (party : Party) → sum_by (λ (x : CashChange). cond (same_party x.party party) (side x.cents) 0) (cash_rows tally) ≡ side (net (cash_tallied tally party))
 side-of-cash side none tally up (Party.Holder q) =
     let p = Party.Holder q in
     omega (arith, five-parts (λ (x : CashChange). cond (same_party x.party p) (side x.cents) 0) (holder_rows tally.holders.entries) (class_rows tally.classes) (dealer_rows tally.dealers) (cash_row Party.Underwriter tally.underwriter) (cash_row Party.Agent tally.agent), own-holder side none q tally.holders.entries up.0, other-kind side (λ k. Party.Class k) p (λ k. refl) (λ k. (flows_of tally.classes k).cash) (keys tally.classes), other-kind side (λ k. Party.Dealer k) p (λ k. refl) (sorted_flow tally.dealers) (keys tally.dealers), other-row side Party.Underwriter p tally.underwriter refl, other-row side Party.Agent p tally.agent refl)
@@ -203,7 +203,7 @@ side-of-cash side none tally up Party.Agent =
 
 pub cash-by_party : (rows : List CashChange) (tally : Tally) → rows ≡ cash_rows tally → IsDistinct nat_eq (keys_of tally.holders.entries) → IsStrictlySortedBy nat_cmp (keys tally.classes) → IsStrictlySortedBy nat_cmp (keys tally.dealers) → (party : Party) → cash_change rows party ≡ net (cash_tallied tally party)
 cash-by_party rows tally is holders classes dealers party =
-    let up : AreInOrder tally = (holders, classes, dealers) in
+    let up : HasKeysOnce tally = (holders, classes, dealers) in
     ap (λ (xs : List CashChange). cash_change xs party) is
     ∙ (ap net (flow-same (changes_flow (cash_rows tally) party) (flow_by (net (cash_tallied tally party))) (side-of-cash rise refl tally up party) (side-of-cash fall refl tally up party))
     ∙ net-flow_by (net (cash_tallied tally party)))

@@ -34,7 +34,7 @@ dealer_rows dealers = flat_map (λ dealer. cash_row (Party.Dealer dealer) (sorte
 abbrev pub share_rows : BTreeMap ℕ ClassFlows → List MilsChange
 share_rows classes = flat_map (λ class. mils_row class (flows_of classes class).mils) (keys classes)
 
--- the holders, classes and dealers by number, the underwriter and the agent
+-- each holder, in the order of the table, classes and dealers by number, the underwriter and the agent
 abbrev pub cash_rows : Tally → List CashChange
 cash_rows tally =
     (((holder_rows tally.holders.entries ++ class_rows tally.classes) ++ dealer_rows tally.dealers)

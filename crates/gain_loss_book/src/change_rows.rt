@@ -24,7 +24,7 @@ use std::collections::BTreeMap;
 
 impl Tally {
     /// What changes by all that the tally took in: the classes whose shares change, by number, and the parties whose cash
-    /// changes: the holders, classes and dealers by number, the underwriter and the agent. None that stays the same has a
+    /// changes: each holder, classes and dealers by number, the underwriter and the agent. None that stays the same has a
     /// row.
     pub fn changes(&self, alloc: Global) -> Result<Changes, NoMemory>
         requires { IsWithin self.now (2 ^ 126) }

@@ -1,5 +1,6 @@
 //! The cash of parties and the shares of classes as trades bring them, gathered by party and class.
 ghost use Rattle.std.specs.Prelude.{◌≡◌, ℕ, ◌+◌, ◌<◌, ◌≤◌, ◌^◌, ◌==◌, if◌then◌else◌, IfOk, OnOk};
+ghost use Rattle.std.specs.HashMap.{spare};
 ghost use Rattle.agent_events.specs.declared.order.Party.{Party as AnyParty};
 ghost use Rattle.register_machine.specs.corrections.Cash.{same_party};
 ghost use Rattle.gain_loss_book.specs.Flows.{flow_at, no_flow, with_flow};
@@ -45,6 +46,7 @@ impl Tally {
             (λ tally. (party : AnyParty) → cash_tallied tally party ≡ no_flow) }
         ensures mils { IfOk result (λ tally. (class : ℕ) → mils_tallied tally class ≡ no_flow) }
         ensures within { IfOk result (λ tally. IsWithin tally 0) }
+        ensures room { IfOk result (λ tally. holders ≤ spare tally.holders) }
     {
         let mut tally = Tally::new(alloc);
         tally.holders.reserve(holders)?;

@@ -6,6 +6,7 @@ ghost use Rattle.register_machine.specs.replay.Letter.{has_letter_over};
 ghost use Rattle.register_machine.specs.replay.Positions as spec;
 
 use crate::held::HeldPosition;
+use crate::kept_letter::KeptLetter;
 use crate::key::PositionKey;
 use forward_price::{Sheet, lists_class};
 use fund_calendar::Day;
@@ -28,6 +29,14 @@ pub struct KeptPosition {
 /// What a position has beside its key; what each sheet looks at comes first.
 #[derive(Debug, Drop)]
 struct KeptHolding {
+    in_cash: bool,
+    letter: KeptLetter,
+    holding: Position,
+}
+
+/// The same of a position that is taken out.
+#[derive(Debug, Drop)]
+struct OwnHolding {
     in_cash: bool,
     letter: Option<Letter>,
     holding: Position,
@@ -59,6 +68,7 @@ impl KeptPosition {
             in_cash,
             letter,
         } = position;
+        let letter = KeptLetter::keep(alloc, letter)?;
         let kept = keep_holding(
             alloc,
             KeptHolding {
@@ -83,7 +93,7 @@ impl KeptPosition {
             class,
             kept,
         } = self;
-        let KeptHolding {
+        let OwnHolding {
             in_cash,
             letter,
             holding,
@@ -120,7 +130,7 @@ impl KeptPosition {
     pub fn letter(&self) -> Option<Letter>
         ensures { result ≡ self.now.letter }
     {
-        self.kept.as_ref().letter
+        self.kept.as_ref().letter.letter()
     }
 
     /// Its lots.
@@ -189,23 +199,46 @@ fn shared_holding(kept: &Rc<KeptHolding>) -> Result<Rc<KeptHolding>, NoMemory>
 }
 
 /// The rest of a position itself where no other has it, and else a copy of it.
-fn own_holding(alloc: Global, kept: Rc<KeptHolding>) -> Result<KeptHolding, NoMemory>
-    ensures { IfOk result (λ own. own ≡ kept.value) }
+fn own_holding(alloc: Global, kept: Rc<KeptHolding>) -> Result<OwnHolding, NoMemory>
+    ensures in_cash { IfOk result (λ own. own.in_cash ≡ kept.value.in_cash) }
+    ensures letter { IfOk result (λ own. own.letter ≡ kept.value.letter) }
+    ensures holding { IfOk result (λ own. own.holding ≡ kept.value.holding) }
 {
     match Rc::try_unwrap(kept) {
-        Ok(own) => Ok(own),
+        Ok(own) => Ok(into_own(own)),
         Err(shared) => copied_holding(alloc, &shared),
     }
 }
 
-fn copied_holding(alloc: Global, kept: &Rc<KeptHolding>) -> Result<KeptHolding, NoMemory>
-    ensures { IfOk result (λ copy. copy ≡ kept.now.value) }
+fn into_own(kept: KeptHolding) -> OwnHolding
+    ensures { result ≡ record {
+      in_cash = kept.in_cash;
+      letter = kept.letter;
+      holding = kept.holding;
+    } }
+{
+    let KeptHolding {
+        in_cash,
+        letter,
+        holding,
+    } = kept;
+    OwnHolding {
+        in_cash,
+        letter: letter.letter(),
+        holding,
+    }
+}
+
+fn copied_holding(alloc: Global, kept: &Rc<KeptHolding>) -> Result<OwnHolding, NoMemory>
+    ensures in_cash { IfOk result (λ own. own.in_cash ≡ kept.now.value.in_cash) }
+    ensures letter { IfOk result (λ own. own.letter ≡ kept.now.value.letter) }
+    ensures holding { IfOk result (λ own. own.holding ≡ kept.now.value.holding) }
 {
     let kept = kept.as_ref();
     let holding = kept.holding.copied(alloc)?;
-    Ok(KeptHolding {
+    Ok(OwnHolding {
         in_cash: kept.in_cash,
-        letter: kept.letter,
+        letter: kept.letter.letter(),
         holding,
     })
 }

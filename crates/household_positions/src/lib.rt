@@ -5,6 +5,7 @@
 mod day;
 mod held;
 mod kept;
+mod kept_letter;
 mod key;
 mod places;
 mod register;

@@ -1,12 +1,15 @@
 -- The equality of identities in the code is that of the definitions.
-use Rattle.std.proofs.Common.{None, Some, ap, cond, refl, sym, true, ◌==◌, ◌∙◌, ◌≡◌, ℕ}
+use Rattle.std.proofs.Common.{Bool, None, Option, Some, ap, cond, false, not, refl, sym, true, ◌==◌, ◌∙◌, ◌≡◌, ℕ}
 use Rattle.std.proofs.lemmas.Bool.{and_parts, eqb-true}
 use Rattle.std.specs.Option.{option_or, unwrap_or}
 use Rattle.std.specs.HashMap.{HashMap, Updates, get, get_by}
 use Rattle.order_book.proofs.Places.{put-or-kept}
 use Rattle.order_book.specs.Brought.{same_identity}
 use Rattle.order_book.specs.contracts.identity.IdentityPartialEq.TheImpl.{eq-value}
+use Rattle.order_book.specs.Indexes.{is_reference, place_of}
+use Rattle.order_book.specs.declared.identities.Identities.{Identities}
 use Rattle.order_book.specs.declared.identity.Identity.{Identity}
+use Rattle.register_machine.proofs.FoundFacts.{option_or-none}
 
 pub same-identity : (a b : Identity) → eq-value.it a b ≡ same_identity a b
 same-identity (Identity.Reference account ref_no) (Identity.Reference other_account other_ref) = refl
@@ -65,3 +68,34 @@ place-entered old new identity place kept is put =
     ∙ (put.0 q
     ∙ (ap (λ is. cond is (Some kept) (get_by (eq-value.it q) old)) (same-identity identity q)
     ∙ ap (λ found. cond (same_identity identity q) (Some kept) found) (got-by old q))))
+
+-- what stands in two tables, of which each identity has its own, once one of them keeps a place
+pub put-apart : (mine : Identity → Bool) (old new other : Identity → Option ℕ) (identity : Identity) (place : ℕ) → mine identity ≡ true
+    → ((q : Identity) → new q ≡ option_or (old q) (cond (same_identity identity q) (Some place) None))
+    → (q : Identity) → cond (mine q) (new q) (other q)
+    ≡ option_or (cond (mine q) (old q) (other q)) (cond (same_identity identity q) (Some place) None)
+put-apart mine old new other identity place own put q = by_mine (mine q) refl
+  where
+    by_same : (same : Bool) → same_identity identity q ≡ same → mine q ≡ false
+        → other q ≡ option_or (other q) (cond same (Some place) None)
+    by_same true e none = let clash : true ≡ false = sym own ∙ (ap mine (one-identity identity q e) ∙ none) in cc
+    by_same false e none = sym (option_or-none (other q))
+
+    by_mine : (is : Bool) → mine q ≡ is → cond is (new q) (other q)
+        ≡ option_or (cond is (old q) (other q)) (cond (same_identity identity q) (Some place) None)
+    by_mine true e = put q
+    by_mine false e = by_same (same_identity identity q) refl e
+
+-- one of two, the other way round
+pub turned : {X : Type 0} (is : Bool) (x y : X) → cond (not is) x y ≡ cond is y x
+turned true x y = refl
+turned false x y = refl
+
+-- two tables that keep what they kept
+pub same-tables : (old new : Identities)
+    → ((q : Identity) → get same_identity new.references q ≡ get same_identity old.references q)
+    → ((q : Identity) → get same_identity new.others q ≡ get same_identity old.others q)
+    → (q : Identity) → place_of new q ≡ place_of old q
+same-tables old new references others q =
+    ap (λ (found : Option ℕ). cond (is_reference q) found (get same_identity new.others q)) (references q)
+    ∙ ap (λ (found : Option ℕ). cond (is_reference q) (get same_identity old.references q) found) (others q)

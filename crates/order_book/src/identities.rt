@@ -3,7 +3,7 @@ ghost use Rattle.std.specs.Prelude.{◌≡◌, ◌≤◌, ◌*◌, ◌-◌, ◌+
 ghost use Rattle.std.specs.HashMap.{get, spare};
 ghost use Rattle.std.specs.Option.{option_or};
 ghost use Rattle.order_book.specs.Brought.{same_identity, identity_in, reference_entered};
-ghost use Rattle.order_book.specs.Indexes.{place_of, HasRoom};
+ghost use Rattle.order_book.specs.Indexes.{place_of, is_reference, HasRoom};
 ghost use Rattle.order_book.specs.Kept.{KeepsPlaces};
 ghost use Rattle.register_machine.specs.journal.Journals.{Journal, with_event};
 ghost use Rattle.order_book.specs.declared.identity.Identity.{Identity as Named};
@@ -14,10 +14,12 @@ use money_units::NoMemory;
 use number_hashing::{NumberMap, number_map};
 use std::alloc::Global;
 
-/// The place of the first event that brings an identity.
+/// The place of the first event that brings an identity. References stand apart from the others: there are as many as orders and
+/// cancels, and each order asks for its class, its account and its household, which stay at hand in a small table.
 #[derive(Drop)]
 pub struct Identities {
-    places: NumberMap<Identity, usize>,
+    references: NumberMap<Identity, usize>,
+    others: NumberMap<Identity, usize>,
 }
 
 impl Identities {
@@ -25,7 +27,8 @@ impl Identities {
         ensures { (q : Named) → place_of result q ≡ None }
     {
         Identities {
-            places: number_map(alloc),
+            references: number_map(alloc),
+            others: number_map(alloc),
         }
     }
 
@@ -33,7 +36,11 @@ impl Identities {
     pub fn place(&self, identity: Identity) -> Option<usize>
         ensures { result ≡ place_of self.now identity }
     {
-        self.places.get(&identity).copied()
+        if is_reference(&identity) {
+            self.references.get(&identity).copied()
+        } else {
+            self.others.get(&identity).copied()
+        }
     }
 
     /// Takes the memory for so many events.
@@ -45,7 +52,8 @@ impl Identities {
         if events > usize::MAX / 2 {
             return Err(NoMemory);
         }
-        self.places.reserve(2 * events)?;
+        self.references.reserve(2 * events)?;
+        self.others.reserve(2 * events)?;
         Ok(())
     }
 
@@ -58,10 +66,39 @@ impl Identities {
             (with_event journal (record { moment = moment; kind = kind.now })) }
         ensures room { (n : ℕ) → HasRoom self.old (n + 1) → HasRoom self.new n }
     {
-        put_first(&mut self.places, identity_in(kind), place);
+        self.put(identity_in(kind), place);
         if let Some(entered) = reference_entered(kind) {
-            put_first(&mut self.places, entered, place);
+            self.put(entered, place);
         }
+    }
+
+    // Keeps the place, unless one is kept already.
+    fn put(&mut self, identity: Identity, place: usize)
+        requires references { 1 ≤ spare self.old.references }
+        requires others { 1 ≤ spare self.old.others }
+        ensures places { (q : Named) → place_of self.new q
+            ≡ option_or (place_of self.old q)
+            (if same_identity identity q then Some place else None) }
+        ensures references { spare self.old.references ≤ spare self.new.references + 1 }
+        ensures others { spare self.old.others ≤ spare self.new.others + 1 }
+    {
+        if is_reference(&identity) {
+            put_first(&mut self.references, identity, place);
+        } else {
+            put_first(&mut self.others, identity, place);
+        }
+    }
+}
+
+fn is_reference(identity: &Identity) -> bool
+    ensures { result ≡ is_reference identity.now }
+{
+    match identity {
+        Identity::Reference {
+            account: _,
+            ref_no: _,
+        } => true,
+        _ => false,
     }
 }
 

@@ -1,5 +1,5 @@
 //! The rules on orders, dealers' lines and entered orders.
-ghost use Rattle.std.specs.Prelude.{Bool, None, ◌≡◌, ◌≤◌, length, nat_lt, true};
+ghost use Rattle.std.specs.Prelude.{Bool, None, ◌≡◌, ◌≤◌, ◌&&◌, length, nat_le, nat_lt, true};
 ghost use Rattle.agent_events.specs.declared.request.Request.{Request};
 ghost use Rattle.request_rules.specs.VerbRules.{absent_among, below_least, has_breakpoints, rules_of};
 ghost use Rattle.std.specs.Option.{option_copied};
@@ -101,7 +101,10 @@ pub fn below_least(terms: &ClassForm, is_bought: bool, gross: Amount) -> Option<
 
 /// Whether a gross in cents is at both minimums of a class, so that no earlier purchase needs to be looked for.
 fn is_at_both_minimums(terms: &ClassForm, gross: Amount) -> bool
-    ensures { result ≡ true → (is_bought : Bool) → below_least terms.now is_bought gross ≡ None }
+    ensures both { result
+        ≡ (nat_le terms.now.first_min gross && nat_le terms.now.later_min gross) }
+    ensures none { result ≡ true
+        → (is_bought : Bool) → below_least terms.now is_bought gross ≡ None }
 {
     terms.first_min.cents() <= gross.cents() && terms.later_min.cents() <= gross.cents()
 }

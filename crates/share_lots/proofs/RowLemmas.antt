@@ -1,9 +1,9 @@
 -- What a change of a position's own lots makes of all its lots: those that it has in common with copies stand as they are.
-use Rattle.std.proofs.Common.{◌≡◌, ℕ, ◌+◌, ◌-◌, ◌≤◌, Bool, true, false, cond, not, ◌&&◌, ◌||◌, ◌==◌, min, List, [], ◌∷◌, ◌++◌, length, get_or, map, filter, sum_by, refl, sym, ap, ◌∙◌, inl, inr, arith, append_assoc, append-nil, find, Some, option_map}
+use Rattle.std.proofs.Common.{◌≡◌, ℕ, ◌+◌, ◌-◌, ◌≤◌, Bool, true, false, cond, not, ◌&&◌, ◌||◌, ◌==◌, min, List, [], ◌∷◌, ◌++◌, length, get_or, map, filter, sum_by, refl, sym, ap, ◌∙◌, inl, inr, arith, append_assoc, append-nil, find, Some, option_map, get_or-append-add, length-append, subst}
 use Rattle.std.specs.Prelude.{All, AllPairs, ◌⊎◌}
 use Rattle.std.specs.List.{list_any, slice_get}
 use Rattle.std.proofs.lemmas.Bool.{cases_lt}
-use Rattle.std.proofs.lemmas.List.{map-append}
+use Rattle.std.proofs.lemmas.List.{get_or_append_left, map-append}
 use Rattle.std.proofs.lemmas.Option.{get_or_from_slice_get}
 use Rattle.std.proofs.lemmas.List.Elements.{filter-append}
 use Rattle.std.proofs.lemmas.List.Kept.{AllPairs-cons}
@@ -165,6 +165,18 @@ all-precede lots lot last ranked is first k d short =
       | inl lt ↦ ranks-next (get_or lots k d) (get_or lots (length lots - 1) d) lot (ranked k (length lots - 1) d lt (omega arith)) (rw end first)
       | inr ge ↦ let same : k ≡ length lots - 1 = omega arith in rw (same, end) first
     ]
+
+-- lots before others whose last one comes before another
+pub part-precedes : (xs ys : List Lot) (lot last : Lot) → AreRanked (xs ++ ys) → slice_get ys (length ys - 1) ≡ Some last → ranks_before last lot ≡ true
+    → All (λ other. ranks_before other lot ≡ true) xs
+part-precedes xs [] lot last ranked is first k d short = absurd cc
+part-precedes xs (y ∷ ys) lot last ranked is first k d short =
+    let end = get_or_from_slice_get (y ∷ ys) (length (y ∷ ys) - 1) last d is in
+    let place = get_or-append-add xs (y ∷ ys) (length (y ∷ ys) - 1) d in
+    let whole = length-append xs (y ∷ ys) in
+    let before = ranked k (length xs + (length (y ∷ ys) - 1)) d (omega arith) (omega (arith, whole)) in
+    let near = subst (λ (a : Lot). ranks_before a (get_or (xs ++ y ∷ ys) (length xs + (length (y ∷ ys) - 1)) d) ≡ true) (get_or_append_left xs (y ∷ ys) d k short) before in
+    ranks-next (get_or xs k d) last lot (subst (λ (a : Lot). ranks_before (get_or xs k d) a ≡ true) (place ∙ end) near) first
 
 -- mils that are kept back in a lot that isn't among those in common
 neither : (a b : Bool) → (a || b) ≡ false → (a ≡ false) × (b ≡ false)

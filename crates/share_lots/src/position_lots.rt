@@ -8,7 +8,7 @@ ghost use Rattle.share_lots.specs.Rows.{rest_of, lots_in};
 
 use crate::adding::{free_number, insert_lot, join_free};
 use crate::escrow::{has_number, hold_back, release_lots};
-use crate::lot_list::{held_total, loose_of, loose_total, precede};
+use crate::lot_list::{held_total, loose_of, loose_total, precede, ranks_before};
 use crate::paying::pay_lots;
 use crate::shared_block::{SharedBlock, lots_of, pass_lots, shared_block};
 use crate::taking::{remove_empty, take_pieces, take_row};
@@ -193,6 +193,28 @@ impl PositionLots {
 
     /// The lot comes behind all those that stand before the last ones.
     fn comes_last(&self, lot: &Lot) -> bool
+        requires { spec.AreRanked (lots_in self.now) }
+        ensures { result ≡ true → All (λ other. spec.ranks_before other lot.now ≡ true)
+            (self.now.front.items ++ rest_of self.now.rest) }
+    {
+        self.follows_back(lot) || self.follows_rest(lot)
+    }
+
+    /// The lot comes behind the last lot of those that stand last. No lot in common with copies is looked at, which may lie in memory
+    /// that was last used long ago.
+    fn follows_back(&self, lot: &Lot) -> bool
+        requires { spec.AreRanked (lots_in self.now) }
+        ensures { result ≡ true → All (λ other. spec.ranks_before other lot.now ≡ true)
+            (self.now.front.items ++ rest_of self.now.rest) }
+    {
+        match self.back.last() {
+            Some(last) => ranks_before(last, lot),
+            None => false,
+        }
+    }
+
+    /// The lot comes behind the last lot of those that stand before the last ones.
+    fn follows_rest(&self, lot: &Lot) -> bool
         requires { spec.AreRanked (lots_in self.now) }
         ensures { result ≡ true → All (λ other. spec.ranks_before other lot.now ≡ true)
             (self.now.front.items ++ rest_of self.now.rest) }

@@ -1,9 +1,7 @@
 -- That `Tally::with_room` keeps its contract.
-use Rattle.std.proofs.Common.{Option, ap, refl, unwrap_or, ◌∙◌, ◌≡◌}
-use Rattle.agent_events.specs.declared.order.Party.{Party}
+use Rattle.std.proofs.Common.{Option, ap, refl, unwrap_or, ◌∙◌}
 use Rattle.gain_loss_book.proofs.TallyFacts.{cash-as_before, nothing-within}
 use Rattle.gain_loss_book.specs.Flows.{no_flow}
-use Rattle.gain_loss_book.specs.Tallies.{cash_tallied}
 use Rattle.gain_loss_book.specs.declared.flows.Flow.{Flow}
 use Rattle.gain_loss_book.specs.declared.tally.Tally.{Tally}
 use Rattle.gain_loss_book.proofs.tally.Tally.with_room.Goals as goal

@@ -1,5 +1,5 @@
 -- That `OrderBook::dividend` keeps its contract.
-use Rattle.std.proofs.Common.{ap, find, sym, ◌∙◌}
+use Rattle.std.proofs.Common.{ap, sym, ◌∙◌}
 use Rattle.std.specs.Prelude.{option_and_then}
 use Rattle.agent_events.specs.Events.{Event}
 use Rattle.order_book.proofs.LookUps.{dividend-found}

@@ -1,4 +1,4 @@
--- That `PositionLots::comes_last` keeps its contract.
+-- That `PositionLots::follows_rest` keeps its contract.
 use Rattle.std.proofs.Common.{◌≡◌, ◌++◌, true, sym, subst}
 use Rattle.std.specs.Prelude.{All}
 use Rattle.share_lots.specs.declared.lot.Lot.{Lot}
@@ -6,7 +6,7 @@ use Rattle.share_lots.specs.Rows.{rest_of}
 use Rattle.std.proofs.lemmas.List.Elements.{All-append}
 use Rattle.share_lots.specs.Lots.{AreRanked, ranks_before}
 use Rattle.share_lots.proofs.RowLemmas.{AllPairs-left, AllPairs-right}
-use Rattle.share_lots.proofs.position_lots.PositionLots.comes_last.Goals as goal
+use Rattle.share_lots.proofs.position_lots.PositionLots.follows_rest.Goals as goal
 
 pub precede-requires-then-precede : goal.precede-requires-then-precede
 precede-requires-then-precede c =
