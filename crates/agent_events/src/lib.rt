@@ -31,7 +31,7 @@ pub use crate::fields::{
 };
 pub use crate::item::{Asked, KeyText, ScriptItem};
 pub use crate::lists::{Days, FrontBrackets, Holidays, RisingPrices, SheetPrices};
-pub use crate::order::{Bearer, Body, Order, OrderRow, Party, Standing};
+pub use crate::order::{Bearer, Body, Order, OrderRow, Party};
 pub use crate::reply::{BooksReply, OrderReply, OrderState, Refusal, Reply, TraceReply};
 pub use crate::reply_lists::{
     BooksOfClasses, BooksOfDealers, ClassBooks, ClassGain, ClassGains, DealerBooks, PositionText,

@@ -86,6 +86,3 @@ pub struct OrderRow {
     pub struck: bool,
     pub order: Order,
 }
-
-/// The orders that aren't struck, by place.
-pub type Standing = List<OrderRow>;

@@ -12,8 +12,6 @@ mod FoundParts
 mod ShareFacts
 -- the one move of a reopened household
 pub mod ReopenedDay
--- what two changes bring together
-mod JoinFacts
 -- what trades bring, summed over households, where one household is moved
 pub mod FlowsOfMoves
 -- the totals stay the sums over all trades

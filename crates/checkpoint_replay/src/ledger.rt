@@ -23,7 +23,7 @@ use crate::parts::{put_moves, reserve_moves};
 use crate::reopening::{ReplayStart, move_by_replay};
 use crate::sheet::moves_of_sheet;
 use crate::totals::LedgerTotals;
-use agent_events::{Party, Trade};
+use agent_events::Trade;
 use household_fold::{Facts, HouseholdState, Steps};
 use household_replay::NumberedOrders;
 use money_units::NoMemory;
@@ -137,13 +137,6 @@ impl Ledger {
         ensures { result ≡ mils_held self.now.totals class }
     {
         self.totals.outstanding(class)
-    }
-
-    /// The cents that a party holds by trades; what it owes is negative.
-    pub fn cash(&self, party: Party) -> i128
-        ensures { result ≡ cents_held self.now.totals party }
-    {
-        self.totals.cash(party)
     }
 
     /// What a sheet makes of all households, by its orders under the numbers of their households: one step for each household

@@ -6,7 +6,7 @@ ghost use Rattle.gain_loss_book.specs.ClassGains.{mils_change};
 ghost use Rattle.gain_loss_book.specs.Posted.{cash_change};
 
 use crate::shares::add_shares;
-use agent_events::{Changes, Party};
+use agent_events::Changes;
 use gain_loss_book::{CashBook, FlowRows};
 use money_units::NoMemory;
 use std::alloc::Global;
@@ -82,12 +82,5 @@ impl LedgerTotals {
         ensures { result ≡ mils_held self.now class }
     {
         self.shares.flow(class).net()
-    }
-
-    /// The cents that a party holds by trades; what it owes is negative.
-    pub fn cash(&self, party: Party) -> i128
-        ensures { result ≡ cents_held self.now party }
-    {
-        self.cash.balance(party)
     }
 }

@@ -1,11 +1,10 @@
 -- What a tally holds of trades.
-use Rattle.std.proofs.Common.{ap, arith, pos, ℕ, ℤ, ◌-ℤ◌, ◌≡◌, ◌≤◌}
-use Rattle.std.proofs.lemmas.Int.{ints}
+use Rattle.std.proofs.Common.{ap, arith, ℕ, ◌≡◌, ◌≤◌}
 use Rattle.std.specs.BTreeMap.{BTreeMap}
 use Rattle.agent_events.specs.declared.order.Party.{Party}
 use Rattle.gain_loss_book.proofs.PostedFacts.{flow-in, flow-out}
 use Rattle.gain_loss_book.specs.ClassFlows.{flows_of}
-use Rattle.gain_loss_book.specs.Flows.{flow_at, net, no_flow, reverse_flow, with_flow}
+use Rattle.gain_loss_book.specs.Flows.{flow_at, no_flow}
 use Rattle.gain_loss_book.specs.Tallies.{IsWithin, cash_tallied, mils_tallied, sorted_flow}
 use Rattle.gain_loss_book.specs.declared.class_flows.ClassFlows.{ClassFlows}
 use Rattle.gain_loss_book.specs.declared.flows.Flow.{Flow}
@@ -34,16 +33,3 @@ nothing-within tally cash mils = record {
   mils_in = λ class. omega (arith, flow-in _ _ (mils class));
   mils_out = λ class. omega (arith, flow-out _ _ (mils class));
 }
-
--- what was brought to nothing
-pub net-brought : (base now flow : Flow) → base ≡ no_flow → now ≡ with_flow base flow → net now ≡ net flow
-net-brought base now flow none is =
-    omega (arith, ints, flow-in _ _ none, flow-out _ _ none, flow-in _ _ is, flow-out _ _ is)
-
--- and what was taken back behind it
-pub net-between : (base now next after before : Flow) → base ≡ no_flow → now ≡ with_flow base after → next ≡ with_flow now (reverse_flow before) → net next ≡ net after -ℤ net before
-net-between base now next after before none is was =
-    omega (arith, ints, flow-in _ _ none, flow-out _ _ none, flow-in _ _ is, flow-out _ _ is, flow-in _ _ was, flow-out _ _ was)
-
-pub less-nothing : (z : ℤ) → z ≡ z -ℤ (pos 0 -ℤ pos 0)
-less-nothing z = omega (arith, ints)

@@ -1,5 +1,5 @@
 -- Changes whose amounts by party are those of movements sum to zero.
-use Rattle.std.proofs.Common.{Bool, List, [], ap, arith, cond, eqb-true, false, inl, inr, filter, flat_map, length, map, not, refl, suc, sum_by, sym, true, zero, ℕ, ◌++◌, ◌+◌, ◌==◌, ◌∙◌, ◌∷◌, ◌≡◌, ◌≤◌, pos}
+use Rattle.std.proofs.Common.{Bool, List, [], ap, arith, cond, eqb-true, false, inl, inr, filter, flat_map, length, map, not, refl, suc, sum_by, sym, true, zero, ℕ, ◌++◌, ◌+◌, ◌==◌, ◌∙◌, ◌∷◌, ◌≡◌, ◌≤◌}
 use Rattle.std.proofs.lemmas.Bool.{true≢false}
 use Rattle.std.proofs.lemmas.Bool.Decides.{eqb_tells}
 use Rattle.std.proofs.lemmas.Int.{ints}
@@ -8,7 +8,7 @@ use Rattle.agent_events.specs.declared.order.Party.{Party}
 use Rattle.agent_events.specs.declared.totals.CashChange.{CashChange}
 use Rattle.register_machine.specs.corrections.Cash.{Movement, cents_paid, cents_paid_in, cents_received, cents_received_in, same_party}
 use Rattle.gain_loss_book.specs.Booked.{MovesAs}
-use Rattle.gain_loss_book.specs.Flows.{flow_by, net}
+use Rattle.gain_loss_book.specs.Flows.{flow_by}
 use Rattle.gain_loss_book.specs.Posted.{all_changes, cents_moved, fall_in, rise_in}
 use Rattle.gain_loss_book.specs.declared.flows.Flow.{Flow}
 
@@ -179,7 +179,3 @@ all-as-much changes before after moves =
   where
     even_at : (q : Party) → sum_by (part_at came q) (entries changes before after) ≡ sum_by (part_at went q) (entries changes before after)
     even_at q = omega (arith, ints, came-at changes before after q, went-at changes before after q, moves q)
-
-pub changes_sum_to_zero : (changes : List CashChange) (before after : List Movement) → MovesAs changes before after → net (all_changes changes) ≡ pos 0
-changes_sum_to_zero changes before after moves =
-    omega (arith, ints, all-as-much changes before after moves, came-all changes before after, went-all changes before after)

@@ -20,10 +20,7 @@ pub use crate::class_flows::ClassFlows;
 pub use crate::class_gains::gains;
 pub use crate::flows::{Flow, FlowRows};
 pub use crate::latest_price::latest_sheet;
-pub use crate::limits::{
-    cash_within, classes_are_numbered, correction_within, gains_within, shares_within,
-};
+pub use crate::limits::{cash_within, classes_are_numbered, gains_within, shares_within};
 pub use crate::party_accounts::Accounts;
 pub use crate::posting::Correction;
 pub use crate::tally::Tally;
-pub use crate::trade_changes::{changes_between, changes_of};

@@ -1,11 +1,9 @@
 //! The limits of changes and of gains, for a caller that tests them.
 ghost use Rattle.std.specs.Prelude.{◌≡◌, ◌≤◌, ◌↔◌, ◌&&◌, IsTrue, nat_le};
 ghost use Rattle.std.specs.List.{list_all};
-ghost use Rattle.std.specs.Option.{option_copied};
 ghost use Rattle.gain_loss_book.specs.ClassGains.{are_numbered, is_numbered, most_mils, size_of_mils};
-ghost use Rattle.gain_loss_book.specs.Posted.{most_cash, most_gains, size_of_cash, size_of_correction, size_of_gains};
+ghost use Rattle.gain_loss_book.specs.Posted.{most_cash, most_gains, size_of_cash, size_of_gains};
 
-use crate::posting::Correction;
 use agent_events::{CashChange, Changes, ClassGain, ClassGains, MilsChange, Party};
 
 /// Changes of cash add up to at most so many cents in size.
@@ -36,16 +34,6 @@ pub fn gains_within(gains: &ClassGains) -> bool
     ensures { IsTrue result ↔ (size_of_gains gains.now ≤ most_gains) }
 {
     gains_add_up(gains.as_slice())
-}
-
-/// Whether the gains of a correction, if there is one, do.
-pub fn correction_within(correction: Option<&Correction>) -> bool
-    ensures { IsTrue result ↔ (size_of_correction (option_copied correction.entry) ≤ most_gains) }
-{
-    match correction {
-        None => true,
-        Some(correction) => gains_within(&correction.gains),
-    }
 }
 
 /// Whether all classes that the changes name have numbers from 1 on.

@@ -1,12 +1,10 @@
-//! What trades change: the cash of parties and the outstanding shares of classes.
-ghost use Rattle.std.specs.Prelude.{◌≡◌, ℕ, ◌+◌, ◌*◌, ◌≤◌, ◌^◌, ◌-ℤ◌, ◌==◌, ◌&&◌, length, IfOk, OnOk};
+//! What trades bring to a tally, and what it takes back of them.
+ghost use Rattle.std.specs.Prelude.{◌≡◌, ℕ, ◌+◌, ◌*◌, ◌≤◌, ◌^◌, ◌==◌, ◌&&◌, length, OnOk};
 ghost use Rattle.agent_events.specs.declared.order.Party.{Party as AnyParty};
-ghost use Rattle.register_machine.specs.corrections.Cash.{cash_of, movements_in, movements_of};
-ghost use Rattle.gain_loss_book.specs.Booked.{SumsToZero};
-ghost use Rattle.gain_loss_book.specs.ClassGains.{mils_change};
-ghost use Rattle.gain_loss_book.specs.Flows.{net, reverse_flow, with_flow};
+ghost use Rattle.register_machine.specs.corrections.Cash.{movements_in, movements_of};
+ghost use Rattle.gain_loss_book.specs.Flows.{reverse_flow, with_flow};
 ghost use Rattle.gain_loss_book.specs.Movements.{mils_flow_of, trades_mils};
-ghost use Rattle.gain_loss_book.specs.Posted.{cash_change, movements_flow};
+ghost use Rattle.gain_loss_book.specs.Posted.{movements_flow};
 ghost use Rattle.gain_loss_book.specs.Tallies.{IsWithin, cash_tallied, mils_tallied};
 ghost use Rattle.gain_loss_book.specs.TradeFlows.{AreSmall, IsSmall, cash_of_flows, flow_of_class, flow_of_party, mils_of_flows};
 
@@ -14,45 +12,8 @@ use crate::class_flows::ClassFlows;
 use crate::flows::Flow;
 use crate::tally::Tally;
 use crate::trade_flows::TradeFlows;
-use agent_events::{Changes, Party, Trade};
+use agent_events::{Party, Trade};
 use money_units::NoMemory;
-use std::alloc::Global;
-
-/// What trades change: the cash of each party and the outstanding shares of each class, each once, in their order, and none
-/// that stays the same.
-pub fn changes_of(alloc: Global, trades: &[Trade]) -> Result<Changes, NoMemory>
-    requires { length trades.now ≤ 2 ^ 60 }
-    ensures cash { IfOk result (λ changes. (party : AnyParty)
-        → cash_change changes.cash party ≡ cash_of trades.now party) }
-    ensures mils { IfOk result (λ changes. (class : ℕ)
-        → mils_change changes.outstanding class ≡ net (trades_mils trades.now class)) }
-    ensures together { IfOk result (λ changes. SumsToZero changes.cash) }
-{
-    let mut tally = Tally::new(alloc);
-    tally.bring(trades)?;
-    tally.changes(alloc)
-}
-
-/// What changes where some trades stand in the place of others, as after a correction.
-pub fn changes_between(
-    alloc: Global,
-    before: &[Trade],
-    after: &[Trade],
-) -> Result<Changes, NoMemory>
-    requires before { length before.now ≤ 2 ^ 60 }
-    requires after { length after.now ≤ 2 ^ 60 }
-    ensures cash { IfOk result (λ changes. (party : AnyParty)
-        → cash_change changes.cash party ≡ cash_of after.now party -ℤ cash_of before.now party) }
-    ensures mils { IfOk result (λ changes. (class : ℕ)
-        → mils_change changes.outstanding class
-        ≡ net (trades_mils after.now class) -ℤ net (trades_mils before.now class)) }
-    ensures together { IfOk result (λ changes. SumsToZero changes.cash) }
-{
-    let mut tally = Tally::new(alloc);
-    tally.bring(after)?;
-    tally.take_back(before)?;
-    tally.changes(alloc)
-}
 
 impl Tally {
     /// Adds what trades bring, of cash and of shares.

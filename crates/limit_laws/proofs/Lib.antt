@@ -30,3 +30,7 @@ pub mod TallyRows
 pub mod ReadInForm
 -- every script's run
 pub mod RunsInForm
+-- what is answered behind a full journal
+pub mod AnsweredWhenFull
+-- the price of each trade
+pub mod PricedByKind

@@ -5,6 +5,8 @@ pub mod InForm
 pub mod Counts
 -- a book whose prices, rates and counts are within the limits
 pub mod Limited
+-- the price of each trade, by its kind
+pub mod TradePrices
 -- how much one trade moves, and how many a sheet makes
 pub mod SmallTrades
 -- how much all trades move together
@@ -13,3 +15,5 @@ pub mod Moved
 pub mod Posts
 -- every script's run stays within all limits
 pub mod Runs
+-- what a full journal answers
+pub mod FullJournals

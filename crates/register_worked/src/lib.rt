@@ -13,6 +13,8 @@ pub mod worked_dividends;
 pub mod worked_forms;
 pub mod worked_letters;
 pub mod worked_limits;
+pub mod worked_loads;
+pub mod worked_lots;
 pub mod worked_members;
 pub mod worked_minimums;
 pub mod worked_named;

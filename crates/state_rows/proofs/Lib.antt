@@ -4,3 +4,5 @@ pub mod EachPart
 pub mod Tests
 -- classes are counted by the set of those that were met
 pub mod ClassesMet
+-- rows of literals are computed
+pub mod RowsOnLiterals

@@ -6,3 +6,5 @@ pub mod Rules
 pub mod InForm
 -- the reader of each part
 pub mod Reading
+-- states at their limits
+pub mod WorkedStates

@@ -8,6 +8,7 @@ pub mod laws;
 mod readers;
 mod rows;
 mod rules;
+pub mod worked;
 mod writers;
 
 pub use crate::rows::{decode_state, encode_state};

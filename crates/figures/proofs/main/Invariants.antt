@@ -1,0 +1,5 @@
+-- What holds at each turn of the loops of `main`.
+use Rattle.figures.proofs.main.Given as goal
+
+abbrev pub ghosts-run_on : goal.ghosts-run_on
+ghosts-run_on a = record { name = a.blank.name; parts = a.blank.parts }

@@ -1,5 +1,0 @@
--- What holds at each turn of the loops of `main`.
-use Rattle.sheet_figures.proofs.main.Given as goal
-
-abbrev pub ghosts-run_on : goal.ghosts-run_on
-ghosts-run_on a = record { name = a.blank.name; parts = a.blank.parts }
