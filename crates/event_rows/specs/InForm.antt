@@ -1,5 +1,6 @@
--- Which events have a row: each field is in its range. An event of the program always is, by its types.
-use Rattle.std.specs.Prelude.{ℕ, ◌<◌, ◌^◌, List}
+-- Which events have a row: each field is in its range. An event of the program always is, by its types, but for how many
+-- loads a class has: a request may ask for any number, and the terms' own rules take no others than these.
+use Rattle.std.specs.Prelude.{ℕ, ◌<◌, ◌^◌, Bool, true, ◌&&◌, nat_le, List, length}
 use Rattle.class_terms.specs.declared.lists.Bracket.{Bracket}
 use Rattle.agent_events.specs.declared.event.EventKind.{EventKind}
 use Rattle.agent_events.specs.declared.event.Placed.{Placed}
@@ -37,8 +38,18 @@ AreHolidays days = AreListed IsDay days × Passes are_holidays days
 abbrev pub IsBracket : Bracket → Type 0
 IsBracket row = (row.floor < 2 ^ 64) × IsBps row.rate
 
+-- a class has one to 16 rows of front-end loads, and no more than ten rates of a deferred load
+abbrev pub has_front_rows : List Bracket → Bool
+has_front_rows rows = nat_le 1 (length rows) && nat_le (length rows) 16
+
+abbrev pub has_deferred_rates : List ℕ → Bool
+has_deferred_rates rates = nat_le (length rates) 10
+
 abbrev pub AreBrackets : List Bracket → Type 0
-AreBrackets rows = AreListed IsBracket rows × Passes are_floors rows
+AreBrackets rows = (AreListed IsBracket rows × Passes has_front_rows rows) × Passes are_floors rows
+
+abbrev pub AreRates : List ℕ → Type 0
+AreRates rates = AreListed IsBps rates × Passes has_deferred_rates rates
 
 -- a price of a sheet by its types alone: that the classes are in range follows from their rising
 abbrev pub IsListedPrice : ℕ × ℕ → Type 0
@@ -57,7 +68,7 @@ IsClose form = IsIdentifier form.calendar × IsDay form.day
 
 abbrev pub AreLoads : ClassForm → Type 0
 AreLoads form =
-    Unit {0} × (IsMinimum form.first_min × (IsMinimum form.later_min × (AreBrackets form.front × AreListed IsBps form.deferred)))
+    Unit {0} × (IsMinimum form.first_min × (IsMinimum form.later_min × (AreBrackets form.front × AreRates form.deferred)))
 
 abbrev pub IsClass : ClassForm → Type 0
 IsClass form =
@@ -120,6 +131,11 @@ IsKind (EventKind.FixRate form) = IsFixRate form
 IsKind (EventKind.Enter form) = IsEntry form
 IsKind (EventKind.Replace form) = IsEntry form
 IsKind (EventKind.Void form) = IsVoid form
+
+-- a class with as many loads as a row may have
+abbrev pub has_loads : EventKind → Bool
+has_loads (EventKind.Class form) = has_front_rows form.front && has_deferred_rates form.deferred
+has_loads _ = true
 
 -- the moment and each field of the kind in its range
 abbrev pub InForm : Event → Type 0

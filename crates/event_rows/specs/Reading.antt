@@ -22,6 +22,7 @@ use Rattle.agent_events.specs.declared.request.VoidForm.{VoidForm}
 use Rattle.agent_events.specs.declared.order.Bearer.{Bearer}
 use Rattle.agent_events.specs.Events.{Event}
 use Rattle.agent_events.specs.Fields.{are_floors, is_rising, are_holidays}
+use Rattle.event_rows.specs.InForm.{has_front_rows, has_deferred_rates}
 use Rattle.row_fields.specs.Reading.{◌&◌, map_read, kept, behind, byte_at, number_at, list_at, if_whole}
 use Rattle.row_fields.specs.Readers.{flag_at, identifier_at, identifier_or_none_at, reference_at, moment_at, day_at, amount_at, minimum_at, nav_at, quantity_at, dividend_rate_at, corrected_rate_at, time_of_day_at, window_at, rate_at, name_at, zone_at, household_key_at, dealer_key_at, bearer_at}
 
@@ -80,10 +81,10 @@ unfoldable pub bracket_at : List ℕ → Option (Bracket × List ℕ)
 bracket_at = map_read bracket_of (number_at w64 & rate_at)
 
 unfoldable pub front_at : List ℕ → Option (List Bracket × List ℕ)
-front_at = kept are_floors (list_at bracket_at)
+front_at = kept are_floors (kept has_front_rows (list_at bracket_at))
 
 unfoldable pub deferred_at : List ℕ → Option (List ℕ × List ℕ)
-deferred_at = list_at rate_at
+deferred_at = kept has_deferred_rates (list_at rate_at)
 
 unfoldable pub price_at : List ℕ → Option ((ℕ × ℕ) × List ℕ)
 price_at = number_at w32 & nav_at

@@ -107,7 +107,8 @@ fn put_class_loads(row: &mut RowWriter, form: &ClassForm) -> Result<(), NoMemory
     requires front { fits_count form.now.front ≡ true }
     requires deferred { fits_count form.now.deferred ≡ true }
     ensures written { OnOk result (row.new ≡ row.old ++ spelled.class_loads form.now) }
-    ensures in_form { OnOk result (range.AreLoads form.now) }
+    ensures in_form { OnOk result (range.has_front_rows form.now.front ≡ true
+        → range.has_deferred_rates form.now.deferred ≡ true → range.AreLoads form.now) }
 {
     row.flag(form.counts)?;
     row.u64(form.first_min.cents())?;
@@ -122,7 +123,8 @@ fn put_class(row: &mut RowWriter, form: &ClassForm) -> Result<(), NoMemory>
     requires front { fits_count form.now.front ≡ true }
     requires deferred { fits_count form.now.deferred ≡ true }
     ensures written { OnOk result (row.new ≡ row.old ++ spelled.class form.now) }
-    ensures in_form { OnOk result (range.IsClass form.now) }
+    ensures in_form { OnOk result (range.has_front_rows form.now.front ≡ true
+        → range.has_deferred_rates form.now.deferred ≡ true → range.IsClass form.now) }
 {
     row.u32(form.class.number())?;
     row.u32(form.calendar.number())?;
@@ -293,7 +295,7 @@ pub(crate) fn kind_number(kind: &EventKind) -> u8
 pub(crate) fn put_fields(row: &mut RowWriter, kind: &EventKind) -> Result<(), NoMemory>
     requires { fits_row kind.now ≡ true }
     ensures written { OnOk result (row.new ≡ row.old ++ spelled.fields kind.now) }
-    ensures in_form { OnOk result (range.IsKind kind.now) }
+    ensures in_form { OnOk result (range.has_loads kind.now ≡ true → range.IsKind kind.now) }
 {
     match kind {
         EventKind::Calendar(form) => put_calendar(row, form)?,

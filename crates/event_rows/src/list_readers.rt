@@ -12,6 +12,11 @@ use money_units::{Cents, Nav};
 use row_fields::{RowFault, RowReader};
 use std::alloc::Global;
 
+/// The most rows of front-end loads that a class has, and the most rates of a deferred load.
+const MOST_FRONT_ROWS: usize = 16;
+
+const MOST_DEFERRED_RATES: usize = 10;
+
 #[tactic(auto, unfolding(crate::specs::Reading::bracket_at))]
 fn read_bracket(row: &mut RowReader) -> Result<Bracket, RowFault>
     ensures { Reads result row.new (bracket_at row.old) }
@@ -100,7 +105,11 @@ pub(crate) fn read_front(alloc: Global, row: &mut RowReader) -> Result<FrontBrac
     ensures fits { IfOk result (λ front. fits_count front ≡ true) }
 {
     let count = row.u16()?;
-    FrontBrackets::new(read_brackets(alloc, row, count)?).ok_or(RowFault::Wrong)
+    let rows = read_brackets(alloc, row, count)?;
+    if rows.len() < 1 || rows.len() > MOST_FRONT_ROWS {
+        return Err(RowFault::Wrong);
+    }
+    FrontBrackets::new(rows).ok_or(RowFault::Wrong)
 }
 
 /// The deferred loads of a class.
@@ -110,7 +119,11 @@ pub(crate) fn read_deferred(alloc: Global, row: &mut RowReader) -> Result<Schedu
     ensures fits { IfOk result (λ rates. fits_count rates ≡ true) }
 {
     let count = row.u16()?;
-    Ok(read_rates(alloc, row, count)?)
+    let rates = read_rates(alloc, row, count)?;
+    if rates.len() > MOST_DEFERRED_RATES {
+        return Err(RowFault::Wrong);
+    }
+    Ok(rates)
 }
 
 /// The prices of a sheet.

@@ -1,8 +1,8 @@
 //! The row of an event, and the event of a row.
-ghost use Rattle.std.specs.Prelude.{◌≡◌, Some, IfOk, IfSome};
+ghost use Rattle.std.specs.Prelude.{◌≡◌, true, Some, IfOk, IfSome};
 ghost use Rattle.agent_events.specs.Events.{Event};
 ghost use Rattle.row_fields.specs.Reading.{Reads};
-ghost use Rattle.event_rows.specs.InForm.{InForm};
+ghost use Rattle.event_rows.specs.InForm.{InForm, has_loads};
 ghost use Rattle.event_rows.specs.Reading.{first_version_at, event_at, event_of_row};
 ghost use Rattle.event_rows.specs.Rows.{event_row};
 
@@ -25,7 +25,7 @@ const USUAL_ROW: usize = 64;
 pub fn encode(alloc: Global, event: &Event) -> Result<Vec<u8>, NoMemory>
     ensures written { IfOk result (λ bytes. bytes.items ≡ event_row event.now) }
     // So what is written is read again.
-    ensures in_form { IfOk result (λ bytes. InForm event.now) }
+    ensures in_form { IfOk result (λ bytes. has_loads event.now.kind ≡ true → InForm event.now) }
 {
     let mut row = RowWriter::with_room(alloc, USUAL_ROW)?;
     row.byte(VERSION)?;

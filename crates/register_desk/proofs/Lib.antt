@@ -6,3 +6,4 @@ pub mod KeysOfDealers
 pub mod DesksGoOn
 pub mod LinesInRows
 pub mod BoundsGoOn
+pub mod LoadsOfClasses

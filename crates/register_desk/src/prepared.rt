@@ -1,7 +1,7 @@
 //! A prepared answer.
-ghost use Rattle.std.specs.Prelude.{◌≡◌, [], All, IfOk};
+ghost use Rattle.std.specs.Prelude.{◌≡◌, [], true, All, IfOk, IfSome};
 ghost use Rattle.desk_answers.specs.Answered.{events_of};
-ghost use Rattle.event_rows.specs.InForm.{InForm};
+ghost use Rattle.event_rows.specs.InForm.{InForm, has_loads};
 ghost use Rattle.register_desk.specs.Rows.{rows_of};
 
 use agent_events::Reply;
@@ -69,8 +69,9 @@ pub(crate) fn give_up_answer(answered: Answered) {
     give_up_changes(change);
 }
 
-// The rows of the events that a change notes, as what the keeper is to append.
+// The rows of the events that a change notes, as what the keeper is to append. A class has as many loads as its row may have.
 pub(crate) fn batch_of(alloc: Global, change: &Option<ReadyChange>) -> Result<Batch, NoMemory>
+    requires { IfSome change.now (λ noted. has_loads noted.event.kind ≡ true) }
     ensures rows { IfOk result (λ batch. batch.rows ≡ rows_of (events_of change.now)) }
     ensures puts { IfOk result (λ batch. batch.puts ≡ []) }
     ensures removes { IfOk result (λ batch. batch.removes ≡ []) }

@@ -147,8 +147,7 @@ fn print_counts(rt: &HostRuntime, counts: Counts) -> io::Result<ExitCode> {
         runs,
         differ,
     } = counts;
-    eprintln!(rt; "{runs} runs")?;
-    println!(rt; "{cases} cases: {differ} differ")?;
+    println!(rt; "{cases} cases in {runs} runs: {differ} differ")?;
     Ok(if differ == 0 && cases > 0 {
         ExitCode::SUCCESS
     } else {
