@@ -1,5 +1,5 @@
 -- A class that is noted has as many loads as its row may have: a lawful journal brings no other.
-use Rattle.std.proofs.Common.{Bool, None, Option, Some, cond, false, is_none, refl, sym, true, ℕ, ◌&&◌, ◌≡◌}
+use Rattle.std.proofs.Common.{Bool, None, Option, Some, cond, false, is_none, refl, sym, true, ℕ, ◌≡◌}
 use Rattle.std.specs.Prelude.{IfSome}
 use Rattle.std.proofs.lemmas.Bool.{and_parts, true≢false}
 use Rattle.agent_events.specs.declared.event.EventKind.{EventKind}
@@ -14,9 +14,6 @@ use Rattle.journal_tables.specs.Tables.{brings_good_loads}
 counted : (are : Bool) (found : Option ℕ) (place : ℕ) → is_none (cond are found (Some place)) ≡ true → are ≡ true
 counted true found place none = refl
 counted false found place none = absurd (true≢false (sym none))
-
-both : (one other : Bool) → one ≡ true → other ≡ true → (one && other) ≡ true
-both true other refl is = is
 
 good-have-counts : (kind : EventKind) → brings_good_loads kind ≡ true → has_loads kind ≡ true
 good-have-counts (EventKind.Class form) good =
