@@ -1,10 +1,21 @@
-//! From bytes to requests, and from replies to bytes.
+//! HTTP: what a request asks by its route and its body, and replies into bytes.
 #![tactic(auto)]
 
-mod script;
+mod bodies;
+mod body;
+mod bytes;
+mod calls;
+mod faults;
+mod feed;
+mod flat;
+mod member_names;
+mod members;
+mod reply_names;
+mod routes;
+mod shows;
+pub mod worked;
 
-pub use agent_events::{KeyText, ScriptItem};
-pub use csv_rows::{Fields, append_line, push_field, records_of};
-pub use http_replies::{batch_bytes, fault_bytes, reply_bytes, reply_line};
-pub use http_stream::HttpFault;
-pub use script::ScriptItems;
+pub use crate::bytes::{batch_bytes, reply_bytes};
+pub use crate::calls::CallAsk;
+pub use crate::faults::fault_bytes;
+pub use crate::feed::{Call, Feed, Step};

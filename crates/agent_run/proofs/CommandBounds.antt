@@ -5,11 +5,11 @@ use Rattle.std.proofs.lemmas.Bool.{and_parts, leb-true, true≢false}
 use Rattle.money_units.specs.Texts.{number}
 use Rattle.agent_run.specs.Ends.{IsInRange}
 use Rattle.agent_events.specs.Fields.{operator_key}
-use Rattle.command_words.specs.Commands.{Apply, Command, Load, Serve, apply, apply_of, apply_options, command_named, command_of, load, load_of, load_options, number_within, path, serve, serve_of, serve_options, within}
-use Rattle.command_words.specs.Options.{Text, values_of}
-use Rattle.command_words.specs.Views.{command_view}
-use Rattle.command_words.specs.declared.command.Command.{Command as CommandRead}
-use Rattle.command_words.specs.declared.command.Command.TheVariants as read
+use Rattle.agent_run.specs.Commands.{Apply, Command, Load, Serve, apply, apply_of, apply_options, command_named, command_of, load, load_of, load_options, number_within, path, serve, serve_of, serve_options, within}
+use Rattle.agent_run.specs.Options.{Text, values_of}
+use Rattle.agent_run.specs.Views.{command_view}
+use Rattle.agent_run.specs.declared.command.Command.{Command as CommandRead}
+use Rattle.agent_run.specs.declared.command.Command.TheVariants as read
 
 pub record AreBounded (options : Load) : Type 0 where
   pub some : 1 ≤ options.households

@@ -7,7 +7,7 @@ use Rattle.agent_run.proofs.Statuses.{by_first, no_such}
 use Rattle.agent_run.specs.Ends.{Ends, IfApply, IfLoad, IfServe, LeavesDoor, Sides, is_one_of, load_of_options, sink}
 use Rattle.agent_run.specs.Runs.{SaysLine, TellSame, status_line}
 use Rattle.agent_edge.specs.Counts.{Rose}
-use Rattle.command_words.specs.Commands.{Apply, Command, Load, Serve, apply, load, serve}
+use Rattle.agent_run.specs.Commands.{Apply, Command, Load, Serve, apply, load, serve}
 use Rattle.load_requests.specs.Summaries.{load_text}
 use Rattle.script_answers.specs.Runs.{AppendsFront}
 

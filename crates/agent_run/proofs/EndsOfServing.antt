@@ -8,7 +8,7 @@ use Rattle.agent_run.specs.Runs.{AreServedFrom, GrowLawfully, MaySayLine, SaysLi
 use Rattle.agent_edge.specs.Counts.{Rose}
 use Rattle.agent_keeper.specs.Calls.{Rose as KeeperRose}
 use Rattle.agent_keeper.specs.Content.{Content}
-use Rattle.command_words.specs.Commands.{Serve, serve}
+use Rattle.agent_run.specs.Commands.{Serve, serve}
 use Rattle.register_desk.specs.Rows.{IsDamagedAt}
 
 -- the facts of serving

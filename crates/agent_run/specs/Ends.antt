@@ -7,9 +7,9 @@ use Rattle.agent_run.specs.declared.applying.TheConstants.{MAX_SCRIPT}
 use Rattle.agent_edge.specs.Counts.{Rose}
 use Rattle.agent_keeper.specs.Calls.{Rose as KeeperRose}
 use Rattle.agent_keeper.specs.Content.{Content}
-use Rattle.command_words.specs.Commands.{Apply, Command, Load, Serve, apply, load, serve}
-use Rattle.command_words.specs.declared.command.Command.{Command as CommandRead}
-use Rattle.command_words.specs.declared.command.Command.TheVariants as read
+use Rattle.agent_run.specs.Commands.{Apply, Command, Load, Serve, apply, load, serve}
+use Rattle.agent_run.specs.declared.command.Command.{Command as CommandRead}
+use Rattle.agent_run.specs.declared.command.Command.TheVariants as read
 use Rattle.connection_service.specs.Answers.{ClockAt}
 use Rattle.connection_service.specs.InTurn.{DoorAt}
 use Rattle.load_requests.specs.Summaries.{load_text}

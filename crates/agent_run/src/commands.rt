@@ -2,18 +2,18 @@
 ghost use Rattle.std.specs.Prelude.{map, Some};
 ghost use Rattle.std.specs.String.{string_bytes};
 ghost use Rattle.agent_run.specs.Ends.{Ends, IsInRange, sides_of};
-ghost use Rattle.command_words.specs.Commands as spec;
-ghost use Rattle.command_words.specs.Views.{command_view};
+ghost use Rattle.agent_run.specs.Commands as spec;
+ghost use Rattle.agent_run.specs.Views.{command_view};
 ghost use Rattle.connection_service.specs.Answers.{clock_at};
 ghost use Rattle.connection_service.specs.InTurn.{door_at};
 
 use crate::applying::apply;
+use crate::command::{Command, command_of};
 use crate::ends::{Status, end, no_memory};
 use crate::loading::load;
 use crate::serving::serve;
 use agent_edge::{Clock, Door, Sink, Source};
 use agent_keeper::Keeper;
-use command_words::{Command, command_of};
 use household_fold::Steps;
 use money_units::NoMemory;
 use std::alloc::Global;

@@ -4,7 +4,7 @@ use Rattle.checkpoint_replay.specs.Parts.{AreOwnParts, day_of, first_day, part_i
 use Rattle.checkpoint_replay.specs.Sheets.{CanAdvance, CanStep}
 use Rattle.checkpoint_replay.specs.declared.part.HouseholdPart.{HouseholdPart}
 use Rattle.household_fold.specs.Facts.{Known}
-use Rattle.household_replay.specs.Replays.{NumberedOrder, orders_under}
+use Rattle.checkpoint_replay.specs.Replays.{NumberedOrder, orders_under}
 use Rattle.register_machine.specs.replay.Trades.{Day}
 use Rattle.std.proofs.Common.{List, None, Option, Some, ap, nat_eq, subst, sym, ℕ, ◌≡◌}
 use Rattle.std.specs.Map.{lookup}

@@ -1,6 +1,6 @@
 -- The numbers of orders, each once: they differ, and no order has another number.
-use Rattle.household_replay.specs.NumberedRows.{numbers_met}
-use Rattle.household_replay.specs.Replays.{NumberedOrder, orders_under}
+use Rattle.checkpoint_replay.specs.NumberedRows.{numbers_met}
+use Rattle.checkpoint_replay.specs.Replays.{NumberedOrder, orders_under}
 use Rattle.std.proofs.Common.{Bool, List, [], ap, cond, eqb-true, false, filter, map, nat_eq, not, refl, sym, true, true≢false, ℕ, ◌==◌, ◌∙◌, ◌∷◌, ◌≡◌, ◌||◌}
 use Rattle.std.proofs.lemmas.Map.Keys.{IsDistinct-cons, IsDistinct-head, IsDistinct-tail}
 use Rattle.std.specs.Cmp.{nat_eq_equiv}

@@ -9,12 +9,12 @@ use Rattle.checkpoint_replay.specs.declared.reopening.ReplayStart.{ReplayStart}
 use Rattle.household_fold.specs.Facts.{Known}
 use Rattle.household_fold.specs.Households.{AreOrdersOf, first_of}
 use Rattle.household_fold.specs.Numbers.{AreNumbersWithin}
-use Rattle.household_replay.proofs.DayFacts.{days_from, days_split}
-use Rattle.household_replay.proofs.PremiseFacts.{can_part}
-use Rattle.household_replay.specs.Premises.{CanBeReplayed}
+use Rattle.checkpoint_replay.proofs.DayFacts.{days_from, days_split}
+use Rattle.checkpoint_replay.proofs.PremiseFacts.{can_part}
+use Rattle.checkpoint_replay.specs.Premises.{CanBeReplayed}
 use Rattle.register_machine.specs.replay.Positions.{Register}
 use Rattle.register_machine.specs.replay.Trades.{Day}
-use Rattle.household_replay.specs.Replays.{NumberedOrder, day_behind, days_behind, known_on, orders_under}
+use Rattle.checkpoint_replay.specs.Replays.{NumberedOrder, day_behind, days_behind, known_on, orders_under}
 use Rattle.std.proofs.lemmas.List.Elements.{All-from_recursion}
 use Rattle.std.proofs.lemmas.Map.Keys.{IsDistinct-cons}
 use Rattle.std.specs.List.{IsDistinct}

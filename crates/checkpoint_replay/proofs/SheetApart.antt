@@ -7,7 +7,7 @@ use Rattle.checkpoint_replay.specs.declared.part.HouseholdPart.{HouseholdPart}
 use Rattle.agent_events.specs.declared.order.Order.{Order}
 use Rattle.household_fold.specs.Facts.{Known}
 use Rattle.household_fold.specs.Quiet.{is_quiet_for}
-use Rattle.household_replay.specs.Replays.{NumberedOrder, orders_under}
+use Rattle.checkpoint_replay.specs.Replays.{NumberedOrder, orders_under}
 use Rattle.register_machine.specs.replay.Trades.{Day}
 use Rattle.std.proofs.Common.{All, Bool, List, None, Option, Some, [], ap, cond, eq-eqb, eqb-true, false, nat_eq, refl, subst, sym, true, true≢false, ℕ, ◌++◌, ◌∙◌, ◌∷◌, ◌≡◌}
 use Rattle.std.proofs.lemmas.List.{append_assoc}

@@ -10,7 +10,7 @@ use Rattle.household_fold.proofs.QuietFacts.{quiet-step}
 use Rattle.household_fold.specs.Facts.{Known}
 use Rattle.household_fold.specs.Households.{first_of, step_known}
 use Rattle.household_fold.specs.Quiet.{is_quiet_for}
-use Rattle.household_replay.specs.Replays.{NumberedOrder, day_behind, orders_under}
+use Rattle.checkpoint_replay.specs.Replays.{NumberedOrder, day_behind, orders_under}
 use Rattle.register_machine.specs.replay.Trades.{Day}
 use Rattle.std.proofs.Common.{Bool, List, None, Option, Some, [], ap, arith, cond, eq-eqb, eqb-true, false, fold, length, nat_eq, refl, sym, true, true≢false, ℕ, ◌++◌, ◌∙◌, ◌∷◌, ◌≡◌, ◌||◌}
 use Rattle.std.proofs.lemmas.List.{append-nil, take_all}

@@ -3,7 +3,7 @@ use Rattle.checkpoint_replay.specs.declared.change.HouseholdMove.{HouseholdMove}
 use Rattle.checkpoint_replay.specs.declared.reopening.ReplayStart.{ReplayStart}
 use Rattle.household_fold.specs.Facts.{Known}
 use Rattle.household_fold.specs.Households.{first_of}
-use Rattle.household_replay.specs.Replays.{NumberedOrder, days_behind}
+use Rattle.checkpoint_replay.specs.Replays.{NumberedOrder, days_behind}
 use Rattle.checkpoint_replay.specs.Parts.{first_day}
 use Rattle.agent_events.specs.declared.trade.Trade.{Trade}
 use Rattle.register_machine.specs.replay.Trades.{Day}

@@ -7,8 +7,8 @@ use Rattle.household_fold.specs.Facts.{Known}
 use Rattle.household_fold.specs.Households.{AreOrdersOf, AreOwned, step_known}
 use Rattle.household_fold.specs.Numbers.{AreNumbersWithin}
 use Rattle.household_fold.specs.Quiet.{is_quiet_for}
-use Rattle.household_replay.specs.NumberedRows.{numbers_met}
-use Rattle.household_replay.specs.Replays.{NumberedOrder, orders_under}
+use Rattle.checkpoint_replay.specs.NumberedRows.{numbers_met}
+use Rattle.checkpoint_replay.specs.Replays.{NumberedOrder, orders_under}
 use Rattle.register_machine.specs.replay.Positions.{Register}
 use Rattle.register_machine.specs.replay.Trades.{Day}
 use Rattle.std.specs.Map.{lookup}

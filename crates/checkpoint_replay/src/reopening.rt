@@ -2,11 +2,12 @@
 ghost use Rattle.std.specs.Prelude.{◌≡◌, ◌+◌, ◌-◌, ◌≤◌, IfOk};
 ghost use Rattle.checkpoint_replay.specs.Reopenings.{move_by_replay};
 ghost use Rattle.household_fold.specs.Households.{first_of};
-ghost use Rattle.household_replay.specs.Premises.{CanBeReplayed};
+ghost use Rattle.checkpoint_replay.specs.Premises.{CanBeReplayed};
 
 use crate::change::HouseholdMove;
+use crate::numbered_orders::NumberedOrders;
+use crate::replay::replay_on;
 use household_fold::{Facts, HouseholdState, Steps};
-use household_replay::{NumberedOrders, replay_on};
 use money_units::NoMemory;
 use std::alloc::Global;
 use std::sync::ledger::Ledger;

@@ -4,14 +4,14 @@ ghost use Rattle.checkpoint_replay.specs.Moves.{AreMoves, part_after};
 ghost use Rattle.checkpoint_replay.specs.Parts.{AreParts, day_of, first_day, part_in};
 ghost use Rattle.checkpoint_replay.specs.Sheets.{CanAdvance, CanStep, IsReached, move_on, move_unless_quiet, moves_of_other, moves_of_others, moves_of_parts, moves_of_sheet};
 ghost use Rattle.household_fold.specs.Facts.{FactsFit};
-ghost use Rattle.household_replay.specs.NumberedRows.{numbers_met};
-ghost use Rattle.household_replay.specs.Replays.{day_behind, orders_under};
+ghost use Rattle.checkpoint_replay.specs.NumberedRows.{numbers_met};
+ghost use Rattle.checkpoint_replay.specs.Replays.{day_behind, orders_under};
 
 use crate::change::HouseholdMove;
+use crate::numbered_orders::NumberedOrders;
 use crate::part::HouseholdPart;
 use agent_events::Order;
 use household_fold::{Facts, HouseholdState, Steps};
-use household_replay::NumberedOrders;
 use money_units::NoMemory;
 use number_hashing::NumberMap;
 use std::alloc::Global;

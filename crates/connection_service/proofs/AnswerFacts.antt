@@ -8,7 +8,7 @@ use Rattle.agent_events.specs.declared.verdict.Caller.{Caller}
 use Rattle.agent_keeper.specs.Calls.{Answer, Counts, GoesOn}
 use Rattle.agent_keeper.specs.declared.fault.KeepFault.{KeepFault}
 use Rattle.connection_service.specs.Answers.{Gets, Kept, Reads, Said, clock_at, kept_at, kept_text, said_to_bad_form, situation_read, text_of}
-use Rattle.http_replies.specs.Bytes.{bytes_of, fault_bytes}
+use Rattle.agent_http.specs.Bytes.{bytes_of, fault_bytes}
 use Rattle.http_stream.specs.declared.fault.HttpFault.{HttpFault}
 use Rattle.register_laws.specs.Lawful.{own_at}
 use Rattle.register_machine.specs.journal.Journals.{Journal, last_moment}

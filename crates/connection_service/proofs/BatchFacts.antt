@@ -8,14 +8,14 @@ use Rattle.agent_events.specs.VerbForms.{Asked}
 use Rattle.agent_events.specs.declared.reply.Refusal.{Refusal}
 use Rattle.agent_events.specs.declared.verdict.Caller.{Caller}
 use Rattle.connection_service.specs.Answers.{batch_asks_lines, batch_text, said_to_batch, said_to_lines}
-use Rattle.csv_rows.specs.Rows.{records_of}
+use Rattle.script_text.specs.Rows.{records_of}
 use Rattle.dealer_lines.proofs.LinesAsked.{lines_asked}
-use Rattle.http_calls.specs.Bodies.{asked_by_body}
-use Rattle.http_calls.specs.Calls.{answered_at, answered_by, batch_ask, is_body_verb, is_filled, is_rooted, item_answer, look_route, parts_of, path_of, route_in, verb_route, with_length}
-use Rattle.http_calls.specs.Steps.{StepsAs}
-use Rattle.http_calls.specs.declared.calls.CallAsk.{CallAsk}
-use Rattle.http_calls.specs.declared.feed.Call.{Call}
-use Rattle.http_calls.specs.declared.feed.Step.{Step}
+use Rattle.agent_http.specs.Bodies.{asked_by_body}
+use Rattle.agent_http.specs.Calls.{answered_at, answered_by, batch_ask, is_body_verb, is_filled, is_rooted, item_answer, look_route, parts_of, path_of, route_in, verb_route, with_length}
+use Rattle.agent_http.specs.Steps.{StepsAs}
+use Rattle.agent_http.specs.declared.calls.CallAsk.{CallAsk}
+use Rattle.agent_http.specs.declared.feed.Call.{Call}
+use Rattle.agent_http.specs.declared.feed.Step.{Step}
 use Rattle.http_stream.specs.Stream.{Stream, StreamItem}
 use Rattle.http_stream.specs.declared.fault.HttpFault.{HttpFault}
 use Rattle.register_desk.specs.PreparedBatches.{batch_given}

@@ -6,8 +6,8 @@ use Rattle.agent_events.specs.VerbForms.{Asked}
 use Rattle.agent_events.specs.declared.reply.Refusal.{Refusal}
 use Rattle.connection_service.specs.Answers.{AnswersBy, At, Gets, Kept, Said, said_to_lines}
 use Rattle.connection_service.specs.Runs.{Run}
-use Rattle.http_calls.specs.Calls.{item_answer, item_key}
-use Rattle.http_calls.specs.declared.calls.CallAsk.{CallAsk}
+use Rattle.agent_http.specs.Calls.{item_answer, item_key}
+use Rattle.agent_http.specs.declared.calls.CallAsk.{CallAsk}
 use Rattle.http_stream.specs.Stream.{Stream}
 use Rattle.http_stream.specs.declared.fault.HttpFault.{HttpFault}
 use Rattle.register_laws.proofs.RunsAreLawful.{answer_is_lawful, keyed-among}

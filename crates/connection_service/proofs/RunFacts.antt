@@ -1,8 +1,8 @@
 -- What a run over a connection does, item by item.
 use Rattle.std.proofs.Common.{Err, List, Ok, Result, [], ap, append-nil, arith, sym, ℕ, ◌++◌, ◌∙◌, ◌≡◌, ◌≤◌}
 use Rattle.std.specs.Prelude.{Bool}
-use Rattle.http_calls.specs.Calls.{item_answer, item_key}
-use Rattle.http_calls.specs.declared.calls.CallAsk.{CallAsk}
+use Rattle.agent_http.specs.Calls.{item_answer, item_key}
+use Rattle.agent_http.specs.declared.calls.CallAsk.{CallAsk}
 use Rattle.http_stream.specs.Stream.{Stream}
 use Rattle.http_stream.specs.declared.fault.HttpFault.{HttpFault}
 use Rattle.connection_service.proofs.AnswerFacts.{grown-then}

@@ -8,9 +8,9 @@ use Rattle.std.proofs.Math.Seq.{take-add}
 use Rattle.agent_edge.proofs.TalkLemmas.{talk-nothing, talk-read, talk-write}
 use Rattle.agent_edge.specs.Links.{Links, after_read, after_talk, after_write}
 use Rattle.agent_edge.specs.declared.doors.LinkFault.{LinkFault}
-use Rattle.http_calls.specs.Calls.{ends, item_answer, item_key}
-use Rattle.http_calls.specs.declared.calls.CallAsk.{CallAsk}
-use Rattle.http_replies.specs.Bytes.{fault_bytes}
+use Rattle.agent_http.specs.Calls.{ends, item_answer, item_key}
+use Rattle.agent_http.specs.declared.calls.CallAsk.{CallAsk}
+use Rattle.agent_http.specs.Bytes.{fault_bytes}
 use Rattle.http_stream.specs.Stream.{IsItem, Message, Stream, StreamItem, Undecided, with_more}
 use Rattle.http_stream.specs.declared.fault.HttpFault.{HttpFault}
 use Rattle.http_stream.proofs.ItemLaws.{item_more}

@@ -2,10 +2,10 @@
 use Rattle.std.proofs.Common.{List, Option, ap, false, subst, sym, ◌∙◌, ◌≡◌}
 use Rattle.std.specs.Prelude.{Bool, ℕ}
 use Rattle.agent_edge.specs.Links.{Links}
-use Rattle.http_calls.specs.Steps.{StepsAs}
-use Rattle.http_calls.specs.declared.feed.Call.{Call}
-use Rattle.http_calls.specs.declared.feed.Step.{Step}
-use Rattle.http_replies.specs.Bytes.{fault_bytes}
+use Rattle.agent_http.specs.Steps.{StepsAs}
+use Rattle.agent_http.specs.declared.feed.Call.{Call}
+use Rattle.agent_http.specs.declared.feed.Step.{Step}
+use Rattle.agent_http.specs.Bytes.{fault_bytes}
 use Rattle.http_stream.specs.Stream.{Stream, Undecided}
 use Rattle.http_stream.specs.declared.fault.HttpFault.{HttpFault}
 use Rattle.connection_service.proofs.ServingFacts.{fewer-call, fewer-fault, goes-call, goes-fault}

@@ -7,9 +7,9 @@ use Rattle.agent_events.specs.declared.reply.Refusal.{Refusal}
 use Rattle.agent_events.specs.declared.reply.Reply.{Reply}
 use Rattle.connection_service.specs.Answers.{AnswersBy, At, Gets, Kept, Said, said_to_lines}
 use Rattle.connection_service.specs.Requests.{SaysUnkept}
-use Rattle.http_calls.specs.declared.calls.CallAsk.{CallAsk}
-use Rattle.http_replies.specs.Bodies.{json_body}
-use Rattle.http_replies.specs.Bytes.{bytes_of, json_kind, refusal_status, reply_of}
+use Rattle.agent_http.specs.declared.calls.CallAsk.{CallAsk}
+use Rattle.agent_http.specs.ReplyBodies.{json_body}
+use Rattle.agent_http.specs.Bytes.{bytes_of, json_kind, refusal_status, reply_of}
 use Rattle.http_stream.specs.declared.fault.HttpFault.{HttpFault}
 use Rattle.register_machine.specs.run.Batches.{BatchAnswer}
 

@@ -10,9 +10,9 @@ use Rattle.agent_events.specs.declared.verdict.Caller.{Caller}
 use Rattle.agent_keeper.specs.Calls.{Rose}
 use Rattle.agent_keeper.specs.declared.fault.KeepFault.{KeepFault}
 use Rattle.dealer_lines.specs.Lines.{all_lines}
-use Rattle.http_calls.specs.Calls.{item_answer, item_key}
-use Rattle.http_calls.specs.declared.calls.CallAsk.{CallAsk}
-use Rattle.http_replies.specs.Bytes.{batch_bytes, bytes_of, fault_bytes}
+use Rattle.agent_http.specs.Calls.{item_answer, item_key}
+use Rattle.agent_http.specs.declared.calls.CallAsk.{CallAsk}
+use Rattle.agent_http.specs.Bytes.{batch_bytes, bytes_of, fault_bytes}
 use Rattle.http_stream.specs.Stream.{StreamItem}
 use Rattle.http_stream.specs.declared.fault.HttpFault.{HttpFault}
 use Rattle.register_laws.specs.Lawful.{own_at}

@@ -7,9 +7,9 @@ use Rattle.agent_events.specs.declared.reply.Refusal.{Refusal}
 use Rattle.agent_events.specs.declared.reply.Reply.{Reply}
 use Rattle.agent_events.specs.declared.request.Request.{Request}
 use Rattle.connection_service.specs.Answers.{At, Gets, Kept, Reads, said_once, situation_read}
-use Rattle.http_calls.specs.Calls.{item_answer}
-use Rattle.http_calls.specs.declared.calls.CallAsk.{CallAsk}
-use Rattle.http_replies.specs.Bytes.{bytes_of, fault_bytes}
+use Rattle.agent_http.specs.Calls.{item_answer}
+use Rattle.agent_http.specs.declared.calls.CallAsk.{CallAsk}
+use Rattle.agent_http.specs.Bytes.{bytes_of, fault_bytes}
 use Rattle.http_stream.specs.Stream.{StreamItem}
 use Rattle.http_stream.specs.declared.fault.HttpFault.{HttpFault}
 use Rattle.register_laws.specs.Answers.{is_query}

@@ -1,6 +1,6 @@
 -- A run over a connection: the items of its stream in order, each answered behind what those before it left.
 use Rattle.std.specs.Prelude.{List, [], false, ℕ, ◌++◌, ◌∷◌}
-use Rattle.http_calls.specs.Calls.{ends}
+use Rattle.agent_http.specs.Calls.{ends}
 use Rattle.http_stream.specs.Stream.{IsItem, Stream, StreamItem}
 use Rattle.connection_service.specs.Answers.{Answers, At}
 

@@ -4,8 +4,8 @@ use Rattle.std.specs.List.{concat}
 use Rattle.agent_edge.specs.Links.{Links, after_shut, after_talk, after_write}
 use Rattle.agent_edge.specs.Counts.{Rose}
 use Rattle.agent_edge.specs.declared.doors.LinkFault.{LinkFault}
-use Rattle.http_calls.specs.declared.calls.CallAsk.{CallAsk}
-use Rattle.http_replies.specs.Bytes.{fault_bytes}
+use Rattle.agent_http.specs.declared.calls.CallAsk.{CallAsk}
+use Rattle.agent_http.specs.Bytes.{fault_bytes}
 use Rattle.http_stream.specs.Stream.{Stream, Undecided, item_limit}
 use Rattle.http_stream.specs.declared.fault.HttpFault.{HttpFault}
 use Rattle.connection_service.specs.Answers.{AnswersAsk, At, clock_at, kept_at}

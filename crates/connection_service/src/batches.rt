@@ -5,7 +5,7 @@ ghost use Rattle.agent_keeper.specs.declared.fault.KeepFault.{KeepFault as Fault
 ghost use Rattle.connection_service.specs.Answers.{Gets, IsAnswered, batch_text, kept_at, said_to_batch, text_of};
 ghost use Rattle.connection_service.specs.Serving.{at_of};
 ghost use Rattle.dealer_lines.specs.Lines.{all_lines};
-ghost use Rattle.register_desk.specs.desk_answers.Answered.{IsCaller};
+ghost use Rattle.register_desk.specs.Answered.{IsCaller};
 ghost use Rattle.register_desk.specs.Rows.{TellsRowsOf};
 ghost use Rattle.register_laws.specs.Lawful.{own_at};
 ghost use Rattle.register_machine.specs.journal.Journals.{Journal, last_moment};
@@ -15,10 +15,11 @@ use crate::answering::later;
 use crate::texts::{Text, kept_text, reply_text};
 use agent_edge::Clock;
 use agent_events::{Asked, Caller, Refusal, Reply};
+use agent_http::batch_bytes;
 use agent_keeper::{KeepFault, Keeper};
-use http_replies::{batch_bytes, reply_line};
 use money_units::{Bytes, Moment, NoMemory};
 use register_desk::{Desk, LedgerFault};
+use script_text::reply_line;
 use std::alloc::Global;
 
 // The lines of replies, one after another.

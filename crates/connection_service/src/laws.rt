@@ -5,7 +5,7 @@ ghost use Rattle.agent_events.specs.declared.request.Request.{Request};
 ghost use Rattle.connection_service.specs.Answers.{Answers, At};
 ghost use Rattle.connection_service.specs.Requests.{Asks, IsAnsweredInView, IsRuledBehind, IsRuledOrUnkept, SaysUnkept};
 ghost use Rattle.connection_service.specs.Runs.{Run};
-ghost use Rattle.http_calls.specs.Calls.{ends, item_key};
+ghost use Rattle.agent_http.specs.Calls.{ends, item_key};
 ghost use Rattle.http_stream.specs.Stream.{Items, Stream, StreamItem};
 ghost use Rattle.register_laws.specs.Isolation.{IsAskedOf};
 ghost use Rattle.register_machine.specs.journal.Journals.{Journal};

@@ -3,12 +3,12 @@ ghost use Rattle.std.specs.Prelude.{◌≡◌, ◌≤◌, IfOk, IsTrue, OnErr, O
 ghost use Rattle.agent_edge.specs.Counts.{Rose};
 ghost use Rattle.connection_service.specs.Answers as spec;
 ghost use Rattle.connection_service.specs.Serving.{IsWritten};
-ghost use Rattle.http_replies.specs.Bytes.{bytes_of};
+ghost use Rattle.agent_http.specs.Bytes.{bytes_of};
 
 use agent_edge::{Door, LinkFault, write_reply};
 use agent_events::Reply;
+use agent_http::{fault_bytes, reply_bytes};
 use agent_keeper::KeepFault;
-use http_replies::{fault_bytes, reply_bytes};
 use http_stream::HttpFault;
 use money_units::{Bytes, NoMemory};
 use std::alloc::Global;

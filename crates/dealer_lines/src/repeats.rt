@@ -5,10 +5,9 @@ ghost use Rattle.dealer_lines.specs.Lines.{is_line, line_events, placed_in};
 ghost use Rattle.dealer_lines.specs.Repeats.{is_repeat, placed_before};
 ghost use Rattle.register_laws.specs.Identities.{HasNoIdentityTwice};
 
-use agent_events::{Event, EventKind, Placed, Request};
+use agent_events::{Event, EventKind, Placed, Request, brought_by};
 use order_book::OrderBook;
 use order_intake::first_repeated;
-use request_content::brought_by;
 
 /// The order of an event, where it is one of an order.
 fn placed_in(kind: &EventKind) -> Option<Placed>

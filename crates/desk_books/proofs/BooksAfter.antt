@@ -15,20 +15,20 @@ use Rattle.desk_books.specs.ReadyChanges.{HasItsMinute, IsReady}
 use Rattle.desk_books.specs.declared.books.DeskBooks.{DeskBooks}
 use Rattle.desk_books.specs.declared.change.EventChange.{EventChange}
 use Rattle.forward_price.specs.PriceTables.{Table}
-use Rattle.journal_tables.proofs.EventTables.{tables_go_on}
-use Rattle.journal_tables.specs.Changes.{tables_with}
-use Rattle.journal_tables.specs.TablesOfJournals.{AreTablesOf}
-use Rattle.kept_of_journals.specs.KeptOfBooks.{AreKeptOf}
+use Rattle.reference_tables.proofs.EventTables.{tables_go_on}
+use Rattle.reference_tables.specs.TableChanges.{tables_with}
+use Rattle.reference_tables.specs.TablesOfJournals.{AreTablesOf}
+use Rattle.ledger_laws.specs.KeptOfBooks.{AreKeptOf}
 use Rattle.register_laws.specs.Lawful.{book_behind}
-use Rattle.price_changes.proofs.LawfulChanges.{changes_prices}
+use Rattle.reference_tables.proofs.LawfulChanges.{changes_prices}
 use Rattle.register_laws.proofs.OneEventMore.{gathers-on}
 use Rattle.register_laws.specs.OneEventMore.{corrected_table, corrected_table_by}
 use Rattle.register_machine.specs.journal.Journals.{Journal, with_event}
 use Rattle.register_machine.specs.journal.Kinds.{calendar_in, calendars_of}
 use Rattle.register_machine.specs.pricing.CorrectedOrders.{orders_of}
 use Rattle.standing_orders.specs.ClassHouseholds.{AreNoted, ClassLists}
-use Rattle.statement_laws.specs.LawfulStatements.{IsTimely}
-use Rattle.kept_of_journals.specs.waiting_laws.IndexOfJournals.{IsIndexOf}
+use Rattle.holder_statements.specs.LawfulStatements.{IsTimely}
+use Rattle.standing_orders.specs.IndexOfJournals.{IsIndexOf}
 
 timely-kind : (kind : EventKind) → HasItsMinute kind → All (λ (form : CalendarForm). form.minute ≤ 1439) (option_to_list (calendar_in kind))
 timely-kind (EventKind.Calendar form) minute = All-cons (λ (form : CalendarForm). form.minute ≤ 1439) form [] minute (All-nil (λ (form : CalendarForm). form.minute ≤ 1439))

@@ -12,9 +12,9 @@ use Rattle.desk_books.proofs.LedgerAfter.{neither, one-longer}
 use Rattle.desk_books.specs.BooksOfJournals.{IsCashOf}
 use Rattle.desk_books.specs.LedgerChanges.{IsLedgerChange, IsPosted}
 use Rattle.desk_books.specs.declared.change.LedgerChange.{LedgerChange}
-use Rattle.desk_looks.specs.EventReplies.{AreKeptFor}
-use Rattle.event_laws.proofs.EventReplays.{leaves_replay}
-use Rattle.event_laws.specs.EventReplays.{is_correction, is_sheet}
+use Rattle.holder_statements.specs.EventReplies.{AreKeptFor}
+use Rattle.register_laws.proofs.EventReplays.{leaves_replay}
+use Rattle.register_laws.specs.EventReplays.{is_correction, is_sheet}
 use Rattle.forward_price.specs.PriceTables.{Table}
 use Rattle.gain_loss_book.proofs.BookedFacts.{balances_after}
 use Rattle.gain_loss_book.specs.Booked.{cash_booked, correction_by, table_behind as table_by_events}

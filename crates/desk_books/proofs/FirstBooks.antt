@@ -9,18 +9,18 @@ use Rattle.desk_books.specs.declared.books.DeskBooks.{DeskBooks}
 use Rattle.forward_price.specs.PriceTables.{Book, empty_book}
 use Rattle.gain_loss_book.specs.Booked.{cash_booked}
 use Rattle.gain_loss_book.specs.Posted.{cash_held, gains_kept}
-use Rattle.journal_tables.proofs.EventTables.{none_yet}
-use Rattle.journal_tables.specs.Tables.{no_tables}
-use Rattle.journal_tables.specs.TablesOfJournals.{AreTablesOf}
-use Rattle.kept_of_journals.proofs.StatesStay.{none_kept}
-use Rattle.kept_of_journals.specs.KeptOfBooks.{AreKeptOf}
-use Rattle.ledger_of_journals.proofs.LedgersOfBooks.{empty_ledger}
-use Rattle.ledger_of_journals.specs.Ledgers.{IsLedgerOf}
+use Rattle.reference_tables.proofs.EventTables.{none_yet}
+use Rattle.reference_tables.specs.Tables.{no_tables}
+use Rattle.reference_tables.specs.TablesOfJournals.{AreTablesOf}
+use Rattle.ledger_laws.proofs.StatesStay.{none_kept}
+use Rattle.ledger_laws.specs.KeptOfBooks.{AreKeptOf}
+use Rattle.ledger_laws.proofs.LedgersOfBooks.{empty_ledger}
+use Rattle.ledger_laws.specs.Ledgers.{IsLedgerOf}
 use Rattle.register_laws.specs.Lawful.{book_behind}
 use Rattle.register_laws.specs.OneEventMore.{corrected_table}
 use Rattle.register_machine.specs.pricing.PublishedTable.{table_behind}
 use Rattle.register_machine.specs.replay.Replay.{replay}
-use Rattle.kept_of_journals.specs.waiting_laws.IndexOfJournals.{IsIndexOf}
+use Rattle.standing_orders.specs.IndexOfJournals.{IsIndexOf}
 
 no-row : {X : Type 0} {x : X} → None ≡ Some x → ⊥
 no-row e = cc

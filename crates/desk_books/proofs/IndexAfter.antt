@@ -8,8 +8,8 @@ use Rattle.agent_events.specs.declared.event.EventKind.{EventKind}
 use Rattle.agent_events.specs.declared.order.OrderRow.{OrderRow}
 use Rattle.desk_books.specs.OrderChanges.{ChangesOrders, IsWithin, last_number, owners_after, waiting_after}
 use Rattle.desk_books.specs.declared.change.OrderChange.{OrderChange}
-use Rattle.event_laws.proofs.EventReplays.{adds_sheet}
-use Rattle.event_laws.specs.EventReplays.{sheet_behind}
+use Rattle.register_laws.proofs.EventReplays.{adds_sheet}
+use Rattle.register_laws.specs.EventReplays.{sheet_behind}
 use Rattle.forward_price.specs.declared.price_sheet.Sheet.{Sheet}
 use Rattle.order_book.proofs.Places.{got-behind}
 use Rattle.register_machine.specs.journal.Journals.{Journal, with_event}
@@ -19,8 +19,8 @@ use Rattle.register_machine.specs.pricing.CorrectedOrders.{orders_of}
 use Rattle.standing_orders.specs.Places.{passes_at}
 use Rattle.standing_orders.specs.Rows.{stays}
 use Rattle.std.specs.Prelude.{filter}
-use Rattle.kept_of_journals.proofs.waiting_laws.IndexSteps.{begins_order, enters_order, leaves_the_index, replaces_order, sheet_takes}
-use Rattle.kept_of_journals.specs.waiting_laws.IndexOfJournals.{IsIndexOf, leaves_index, sheets_of}
+use Rattle.standing_orders.proofs.IndexSteps.{begins_order, enters_order, leaves_the_index, replaces_order, sheet_takes}
+use Rattle.standing_orders.specs.IndexOfJournals.{IsIndexOf, leaves_index, sheets_of}
 
 -- the last of some sheets
 last-of : (sheets : List Sheet) (sheet : Sheet) → last_number (sheets ++ sheet ∷ []) ≡ sheet.number

@@ -1,10 +1,10 @@
 -- The kept states behind an event.
 use Rattle.std.proofs.Common.{Bool, List, false, refl, true, ℕ, ◌≡◌}
 use Rattle.agent_events.specs.Events.{Event}
-use Rattle.event_laws.specs.EventReplays.{is_correction}
-use Rattle.kept_of_journals.proofs.StatesStay.{lawful_leaves}
-use Rattle.kept_of_journals.specs.KeptOfBooks.{AreKeptOf}
-use Rattle.kept_states.specs.declared.states.KeptState.{KeptState}
+use Rattle.register_laws.specs.EventReplays.{is_correction}
+use Rattle.ledger_laws.proofs.StatesStay.{lawful_leaves}
+use Rattle.ledger_laws.specs.KeptOfBooks.{AreKeptOf}
+use Rattle.checkpoint_replay.specs.declared.states.KeptState.{KeptState}
 use Rattle.register_laws.specs.Lawful.{book_behind}
 use Rattle.register_machine.specs.journal.Journals.{Journal, with_event}
 use Rattle.register_machine.specs.journal.Lawful.{IsLawful}

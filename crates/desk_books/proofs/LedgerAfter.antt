@@ -9,8 +9,8 @@ use Rattle.desk_books.specs.BooksOfJournals.{IsCashOf}
 use Rattle.desk_books.specs.LedgerChanges.{CanPost, HasRoomForLedger, IsLedgerChange, IsPosted}
 use Rattle.desk_books.specs.declared.change.LedgerChange.{LedgerChange}
 use Rattle.gain_loss_book.specs.Posted.{Books}
-use Rattle.ledger_of_journals.proofs.LedgersOfBooks.{keeps_ledger}
-use Rattle.ledger_of_journals.specs.Ledgers.{IsLedgerOf}
+use Rattle.ledger_laws.proofs.LedgersOfBooks.{keeps_ledger}
+use Rattle.ledger_laws.specs.Ledgers.{IsLedgerOf}
 use Rattle.register_laws.specs.Lawful.{book_behind}
 use Rattle.register_machine.specs.journal.Journals.{Journal, with_event}
 use Rattle.register_machine.specs.journal.Lawful.{IsLawful}

@@ -15,7 +15,7 @@ use Rattle.desk_books.specs.OrderChanges.{ChangesOrders, NamesItsOrder}
 use Rattle.desk_books.specs.declared.change.OrderChange.{OrderChange}
 use Rattle.order_book.proofs.Places.{find-at-position}
 use Rattle.fund_calendar.proofs.LookUpLemmas.{find_passes}
-use Rattle.ledger_of_journals.proofs.HouseholdBooks.{owner-there}
+use Rattle.ledger_laws.proofs.HouseholdBooks.{owner-there}
 use Rattle.register_laws.proofs.Comparisons.{eq-yes}
 use Rattle.register_laws.proofs.FitsRows.{names_what_stands}
 use Rattle.register_laws.specs.Lawful.{own_at}

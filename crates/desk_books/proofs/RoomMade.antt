@@ -1,6 +1,6 @@
 -- Books in which room was made, and more households are listed under classes, show what they showed before; so do books whose kept
 -- states are others that still serve.
-use Rattle.kept_states.specs.declared.states.KeptState.{KeptState}
+use Rattle.checkpoint_replay.specs.declared.states.KeptState.{KeptState}
 use Rattle.std.proofs.Common.{List, refl, subst, sym, true, ℕ, ◌∙◌, ◌≡◌, ◌≤◌}
 use Rattle.agent_events.specs.declared.order.Party.{Party}
 use Rattle.checkpoint_replay.specs.Parts.{Households, part_in}
@@ -8,12 +8,12 @@ use Rattle.checkpoint_replay.specs.Tallied.{IsTallied}
 use Rattle.desk_books.proofs.NotedAfter.{noted_kept}
 use Rattle.desk_books.specs.BooksOfJournals.{AreBooksOf, IsCashOf, ShowTheSame}
 use Rattle.desk_books.specs.declared.books.DeskBooks.{DeskBooks}
-use Rattle.desk_looks.specs.EventReplies.{AreKeptFor}
+use Rattle.holder_statements.specs.EventReplies.{AreKeptFor}
 use Rattle.forward_price.specs.PriceTables.{Book as PriceBook}
 use Rattle.gain_loss_book.specs.Posted.{Books, cash_held, gains_kept}
-use Rattle.journal_tables.specs.TablesOfJournals.{AreTablesOf}
-use Rattle.kept_of_journals.specs.KeptOfBooks.{AreKeptOf}
-use Rattle.kept_of_journals.specs.waiting_laws.IndexOfJournals.{IsIndexOf}
+use Rattle.reference_tables.specs.TablesOfJournals.{AreTablesOf}
+use Rattle.ledger_laws.specs.KeptOfBooks.{AreKeptOf}
+use Rattle.standing_orders.specs.IndexOfJournals.{IsIndexOf}
 use Rattle.order_book.specs.Books.{NotedJournal}
 use Rattle.register_laws.specs.Lawful.{book_behind}
 use Rattle.register_machine.specs.journal.Journals.{Journal}

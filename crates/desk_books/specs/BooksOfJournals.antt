@@ -5,12 +5,12 @@ use Rattle.agent_events.specs.Events.{Event}
 use Rattle.agent_events.specs.declared.order.Party.{Party}
 use Rattle.checkpoint_replay.specs.Tallied.{IsTallied}
 use Rattle.desk_books.specs.declared.books.DeskBooks.{DeskBooks}
-use Rattle.desk_looks.specs.EventReplies.{AreKeptFor}
+use Rattle.holder_statements.specs.EventReplies.{AreKeptFor}
 use Rattle.gain_loss_book.specs.Booked.{cash_booked}
 use Rattle.gain_loss_book.specs.Posted.{Books, cash_held, gains_kept}
-use Rattle.journal_tables.specs.TablesOfJournals.{AreTablesOf}
-use Rattle.kept_of_journals.specs.KeptOfBooks.{AreKeptOf}
-use Rattle.ledger_of_journals.specs.Ledgers.{IsLedgerOf}
+use Rattle.reference_tables.specs.TablesOfJournals.{AreTablesOf}
+use Rattle.ledger_laws.specs.KeptOfBooks.{AreKeptOf}
+use Rattle.ledger_laws.specs.Ledgers.{IsLedgerOf}
 use Rattle.register_laws.specs.Lawful.{book_behind}
 use Rattle.register_laws.specs.OneEventMore.{corrected_table}
 use Rattle.register_machine.specs.journal.Journals.{Journal}
@@ -18,8 +18,8 @@ use Rattle.register_machine.specs.journal.Lawful.{IsLawful}
 use Rattle.register_machine.specs.pricing.CorrectedOrders.{orders_of}
 use Rattle.register_machine.specs.replay.Replay.{replay}
 use Rattle.standing_orders.specs.ClassHouseholds.{AreNoted}
-use Rattle.statement_laws.specs.LawfulStatements.{IsTimely}
-use Rattle.kept_of_journals.specs.waiting_laws.IndexOfJournals.{IsIndexOf}
+use Rattle.holder_statements.specs.LawfulStatements.{IsTimely}
+use Rattle.standing_orders.specs.IndexOfJournals.{IsIndexOf}
 
 -- the cash of each party as it is booked, the gains of each correction as they were at its event, and no others
 pub record IsCashOf (journal : Journal) (cash : Books) : Type 0 where

@@ -9,11 +9,11 @@ use Rattle.checkpoint_replay.specs.Tallied.{IsTallied}
 use Rattle.checkpoint_replay.specs.Totals.{AreWithinLimits}
 use Rattle.checkpoint_replay.specs.declared.part.HouseholdPart.{HouseholdPart}
 use Rattle.desk_books.specs.declared.change.LedgerChange.{LedgerChange}
-use Rattle.event_laws.specs.EventReplays.{is_correction, is_sheet}
+use Rattle.register_laws.specs.EventReplays.{is_correction, is_sheet}
 use Rattle.gain_loss_book.specs.Booked.{AreDifferences, correction_at}
 use Rattle.gain_loss_book.specs.ClassGains.{most_mils, size_of_mils}
 use Rattle.gain_loss_book.specs.Posted.{Books, cash_held, cash_posted, gains_by, gains_kept, most_cash, most_gains, most_posts, rows_posted, size_of_cash, size_of_correction}
-use Rattle.ledger_of_journals.specs.Ledgers.{IsLedgerOf}
+use Rattle.ledger_laws.specs.Ledgers.{IsLedgerOf}
 use Rattle.register_laws.specs.Lawful.{book_behind}
 use Rattle.register_machine.specs.journal.Journals.{Journal, with_event}
 use Rattle.register_machine.specs.replay.Replay.{replay}

@@ -6,10 +6,10 @@ use Rattle.desk_books.specs.NotedClasses.{NotesOrder}
 use Rattle.desk_books.specs.OrderChanges.{ChangesOrders}
 use Rattle.desk_books.specs.declared.books.DeskBooks.{DeskBooks}
 use Rattle.desk_books.specs.declared.change.EventChange.{EventChange}
-use Rattle.journal_tables.specs.Changes.{CanTake, tables_with}
-use Rattle.journal_tables.specs.Tables.{IsInRange, tables_after}
-use Rattle.kept_of_journals.specs.KeptOfBooks.{AreKeptOf}
-use Rattle.price_changes.specs.Changes.{HasRoomFor as HasPriceRoom, listing_brought}
+use Rattle.reference_tables.specs.TableChanges.{CanTake, tables_with}
+use Rattle.reference_tables.specs.Tables.{IsInRange, tables_after}
+use Rattle.ledger_laws.specs.KeptOfBooks.{AreKeptOf}
+use Rattle.reference_tables.specs.PriceChanges.{HasRoomFor as HasPriceRoom, listing_brought}
 use Rattle.register_laws.specs.Lawful.{book_behind}
 use Rattle.register_machine.specs.journal.Journals.{with_event}
 use Rattle.register_machine.specs.journal.Kinds.{accounts_of}

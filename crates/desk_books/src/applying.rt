@@ -24,7 +24,7 @@ impl DeskBooks {
             ledger,
         } = change;
         let place = self.book.len();
-        price_changes::apply(&mut self.prices, event.moment(), event.kind(), prices);
+        reference_tables::apply(&mut self.prices, event.moment(), event.kind(), prices);
         self.tables.note(tables);
         post_ledger(&mut self.ledger, &mut self.cash, place, ledger);
         self.book.note(place, event);

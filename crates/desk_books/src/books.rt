@@ -2,13 +2,12 @@
 ghost use Rattle.std.specs.Prelude.{[], IfOk};
 ghost use Rattle.desk_books.specs.BooksOfJournals.{AreBooksOf};
 
-use checkpoint_replay::Ledger;
+use checkpoint_replay::{KeptStates, Ledger};
 use forward_price::PriceBook;
 use gain_loss_book::CashBook;
-use journal_tables::JournalTables;
-use kept_states::KeptStates;
 use money_units::NoMemory;
 use order_intake::Book;
+use reference_tables::JournalTables;
 use standing_orders::{ClassHouseholds, HouseholdOrders};
 use std::alloc::Global;
 

@@ -2,8 +2,7 @@
 use agent_events::Event;
 use checkpoint_replay::Change;
 use gain_loss_book::Correction;
-use journal_tables::TableChange;
-use price_changes::PriceChange;
+use reference_tables::{PriceChange, TableChange};
 
 /// What a sheet or a correction makes of the ledger, and for a correction who bears its losses, with its gains.
 #[derive(Drop)]

@@ -3,8 +3,8 @@ ghost use Rattle.std.specs.Prelude.{◌≡◌, ◌≤◌, IfOk, OnOk, true};
 ghost use Rattle.desk_books.specs.BooksOfJournals.{AreBooksOf, ShowTheSame};
 ghost use Rattle.desk_books.specs.LedgerChanges.{IsLedgerChange};
 ghost use Rattle.desk_books.specs.ReadyChanges.{HasItsMinute, IsReady};
-ghost use Rattle.event_laws.specs.EventReplays.{is_correction};
-ghost use Rattle.kept_of_journals.specs.KeptOfBooks.{AreKeptOf};
+ghost use Rattle.register_laws.specs.EventReplays.{is_correction};
+ghost use Rattle.ledger_laws.specs.KeptOfBooks.{AreKeptOf};
 ghost use Rattle.register_laws.specs.Lawful.{book_behind};
 ghost use Rattle.register_machine.specs.journal.Journals.{with_event};
 ghost use Rattle.register_machine.specs.journal.Lawful.{IsLawful};
@@ -42,7 +42,7 @@ impl DeskBooks {
         ensures ready { IfOk result (IsReady self.new) }
     {
         read_minute(event.kind());
-        let prices = price_changes::prepare(alloc, &mut self.prices, event.kind())?;
+        let prices = reference_tables::prepare(alloc, &mut self.prices, event.kind())?;
         let tables = self.tables.prepare(alloc, event.kind())?;
         let orders = order_change(self.book.orders(), event.kind());
         reserve_orders(&mut self.book, &mut self.orders)?;

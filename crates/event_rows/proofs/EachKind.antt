@@ -5,13 +5,13 @@ use Rattle.agent_events.specs.declared.event.EventKind.{EventKind}
 use Rattle.agent_events.specs.declared.event.Source.{Source}
 use Rattle.agent_events.specs.declared.order.Body.{Body}
 use Rattle.agent_events.specs.Fields.{are_floors, is_rising, are_holidays}
-use Rattle.row_fields.specs.Exact.{IsBytes, IsField}
-use Rattle.row_fields.specs.Ranges.{IsIdentifier, IsAmount, IsQuantity}
-use Rattle.row_fields.specs.Reading.{◌&◌, map_read}
-use Rattle.row_fields.specs.Readers.{identifier_at, amount_at, quantity_at, flag_at}
-use Rattle.row_fields.specs.Spelling.{two_bytes, four_bytes, eight_bytes, flag, list_bytes}
-use Rattle.row_fields.proofs.Fields.{both, shaped, tested, tagged, chosen, map_some}
-use Rattle.row_fields.proofs.EachField.{respelled, four_field, eight_field, flag_field, identifier_field, identifier_or_none_field, reference_field, moment_field, day_field, amount_field, minimum_field, nav_field, quantity_field, dividend_rate_field, corrected_rate_field, time_of_day_field, window_field, rate_field, name_field, zone_field, household_key_field, dealer_key_field, bearer_field, listed_field}
+use Rattle.event_rows.specs.Exact.{IsBytes, IsField}
+use Rattle.event_rows.specs.Ranges.{IsIdentifier, IsAmount, IsQuantity}
+use Rattle.event_rows.specs.FieldReading.{◌&◌, map_read}
+use Rattle.event_rows.specs.Readers.{identifier_at, amount_at, quantity_at, flag_at}
+use Rattle.event_rows.specs.Spelling.{two_bytes, four_bytes, eight_bytes, flag, list_bytes}
+use Rattle.event_rows.proofs.Fields.{both, shaped, tested, tagged, chosen, map_some}
+use Rattle.event_rows.proofs.EachField.{respelled, four_field, eight_field, flag_field, identifier_field, identifier_or_none_field, reference_field, moment_field, day_field, amount_field, minimum_field, nav_field, quantity_field, dividend_rate_field, corrected_rate_field, time_of_day_field, window_field, rate_field, name_field, zone_field, household_key_field, dealer_key_field, bearer_field, listed_field}
 use Rattle.event_rows.specs.InForm.{IsBody, AreHolidays, IsBracket, has_front_rows, has_deferred_rates, AreBrackets, AreRates, IsListedPrice, ArePrices, IsCalendar, IsClose, IsClass, IsDealer, IsHousehold, IsAccount, IsPlaced, IsCancel, IsSheet, IsDividend, IsFixPrice, IsFixRate, IsEntry, IsVoid, IsKind}
 use Rattle.event_rows.specs.Rows.{body, is_dealers, bracket, price, calendar, close, class_loads, class, dealer, household, account, accepted_order, cancel, sheet, dividend, fix_price, fix_rate, entry, void, kind_number, fields}
 use Rattle.event_rows.specs.Reading.{buy_of, sell_of, sell_cash_of, exchange_of, exchange_all_of, letter_of, elect_of, body_behind, body_at, source_of, source_at, holidays_at, bracket_of, bracket_at, front_at, deferred_at, price_at, prices_at, calendar_of, calendar_at, close_of, close_at, class_of, class_at, dealer_of, dealer_at, household_of, household_at, account_of, account_at, placed_of, placed_at, cancel_of, cancel_at, sheet_of, sheet_at, dividend_of, dividend_at, fix_price_of, fix_price_at, fix_rate_of, fix_rate_at, entry_of, entry_at, void_of, void_at, fields_at}

@@ -4,3 +4,9 @@ pub mod EachKind
 pub mod WholeRows
 -- an event holds no more than its row
 pub mod RowSizes
+-- how exact fields are put together
+pub mod Fields
+-- each field is exact
+pub mod EachField
+-- reading items one after the other, as a loop does
+pub mod Loops

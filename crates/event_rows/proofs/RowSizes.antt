@@ -4,7 +4,7 @@ use Rattle.std.specs.List.{flat_map}
 use Rattle.class_terms.specs.declared.lists.Bracket.{Bracket}
 use Rattle.agent_events.specs.declared.event.EventKind.{EventKind}
 use Rattle.agent_events.specs.Events.{Event}
-use Rattle.row_fields.specs.Spelling.{two_bytes, four_bytes, eight_bytes, text, list_bytes}
+use Rattle.event_rows.specs.Spelling.{two_bytes, four_bytes, eight_bytes, text, list_bytes}
 use Rattle.event_rows.specs.Rows.{bracket, price, calendar, class_loads, class, dealer, household, account, sheet, fields, event_row}
 use Rattle.event_rows.specs.Sizes.{content_size}
 

@@ -4,12 +4,12 @@ use Rattle.std.proofs.lemmas.Bool.{eqb-true}
 use Rattle.std.proofs.lemmas.List.{append-nil}
 use Rattle.agent_events.specs.declared.event.EventKind.{EventKind}
 use Rattle.agent_events.specs.Events.{Event}
-use Rattle.row_fields.specs.Exact.{IsBytes, IsField}
-use Rattle.row_fields.specs.Reading.{map_read, byte_at}
-use Rattle.row_fields.specs.Readers.{moment_at}
-use Rattle.row_fields.specs.Spelling.{one_byte, eight_bytes}
-use Rattle.row_fields.proofs.Fields.{IsBytes-rest, read_some, map_some, byte_takes, whole_some, chosen}
-use Rattle.row_fields.proofs.EachField.{moment_field}
+use Rattle.event_rows.specs.Exact.{IsBytes, IsField}
+use Rattle.event_rows.specs.FieldReading.{map_read, byte_at}
+use Rattle.event_rows.specs.Readers.{moment_at}
+use Rattle.event_rows.specs.Spelling.{one_byte, eight_bytes}
+use Rattle.event_rows.proofs.Fields.{IsBytes-rest, read_some, map_some, byte_takes, whole_some, chosen}
+use Rattle.event_rows.proofs.EachField.{moment_field}
 use Rattle.event_rows.specs.InForm.{InForm}
 use Rattle.event_rows.specs.Rows.{kind_number, fields, event_row}
 use Rattle.event_rows.specs.Reading.{fields_at, event_with, event_behind, first_version_at, version_behind, event_at, event_of_row}

@@ -20,7 +20,7 @@ use Rattle.agent_events.specs.declared.request.SheetForm.{SheetForm}
 use Rattle.agent_events.specs.declared.request.VoidForm.{VoidForm}
 use Rattle.agent_events.specs.Events.{Event}
 use Rattle.agent_events.specs.Fields.{is_label, is_zone_text, is_household_key, is_dealer_key, are_floors, is_rising, are_holidays}
-use Rattle.row_fields.specs.Ranges.{IsIdentifier, IsIdentifierOrNone, IsReference, IsMoment, IsDay, IsAmount, IsMinimum, IsNav, IsQuantity, IsDividendRate, IsCorrectedRate, IsTimeOfDay, IsWindow, IsBps, Passes, AreListed, IsBearer}
+use Rattle.event_rows.specs.Ranges.{IsIdentifier, IsIdentifierOrNone, IsReference, IsMoment, IsDay, IsAmount, IsMinimum, IsNav, IsQuantity, IsDividendRate, IsCorrectedRate, IsTimeOfDay, IsWindow, IsBps, Passes, AreListed, IsBearer}
 
 abbrev pub IsBody : Body → Type 0
 IsBody (Body.Buy class gross) = IsIdentifier class × IsAmount gross

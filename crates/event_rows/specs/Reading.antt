@@ -23,8 +23,8 @@ use Rattle.agent_events.specs.declared.order.Bearer.{Bearer}
 use Rattle.agent_events.specs.Events.{Event}
 use Rattle.agent_events.specs.Fields.{are_floors, is_rising, are_holidays}
 use Rattle.event_rows.specs.InForm.{has_front_rows, has_deferred_rates}
-use Rattle.row_fields.specs.Reading.{◌&◌, map_read, kept, behind, byte_at, number_at, list_at, if_whole}
-use Rattle.row_fields.specs.Readers.{flag_at, identifier_at, identifier_or_none_at, reference_at, moment_at, day_at, amount_at, minimum_at, nav_at, quantity_at, dividend_rate_at, corrected_rate_at, time_of_day_at, window_at, rate_at, name_at, zone_at, household_key_at, dealer_key_at, bearer_at}
+use Rattle.event_rows.specs.FieldReading.{◌&◌, map_read, kept, behind, byte_at, number_at, list_at, if_whole}
+use Rattle.event_rows.specs.Readers.{flag_at, identifier_at, identifier_or_none_at, reference_at, moment_at, day_at, amount_at, minimum_at, nav_at, quantity_at, dividend_rate_at, corrected_rate_at, time_of_day_at, window_at, rate_at, name_at, zone_at, household_key_at, dealer_key_at, bearer_at}
 
 -- what an order does, by the tag
 abbrev pub buy_of : ℕ × ℕ → Body

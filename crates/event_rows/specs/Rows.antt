@@ -19,7 +19,7 @@ use Rattle.agent_events.specs.declared.request.HouseholdForm.{HouseholdForm}
 use Rattle.agent_events.specs.declared.request.SheetForm.{SheetForm}
 use Rattle.agent_events.specs.declared.request.VoidForm.{VoidForm}
 use Rattle.agent_events.specs.Events.{Event}
-use Rattle.row_fields.specs.Spelling.{one_byte, two_bytes, four_bytes, eight_bytes, flag, text, list_bytes, bearer}
+use Rattle.event_rows.specs.Spelling.{one_byte, two_bytes, four_bytes, eight_bytes, flag, text, list_bytes, bearer}
 
 -- what an order does: a tag and its fields; an election is 00 for shares and 01 for cash
 unfoldable pub body : Body → List ℕ

@@ -1,16 +1,17 @@
 //! The readers of the kinds of events, each by the reader of each of its fields.
 ghost use Rattle.std.specs.Prelude.{◌≡◌, true, IfOk};
 ghost use Rattle.agent_events.specs.Events.{fits_count, fits_row};
-ghost use Rattle.row_fields.specs.Reading.{Reads};
+ghost use Rattle.event_rows.specs.FieldReading.{Reads};
 ghost use Rattle.event_rows.specs.Reading as field;
 
+use crate::fault::RowFault;
 use crate::list_readers::{read_deferred, read_front, read_holidays, read_sheet_prices};
+use crate::reader::RowReader;
 use agent_events::{
     AccountForm, Body, CalendarForm, CancelForm, ClassForm, CloseForm, DealerForm, DividendForm,
     EntryForm, EventKind, FixPriceForm, FixRateForm, HouseholdForm, Order, Placed, SheetForm,
     Source, VoidForm,
 };
-use row_fields::{RowFault, RowReader};
 use std::alloc::Global;
 
 /// What an order does, by its tag.

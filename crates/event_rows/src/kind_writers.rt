@@ -1,18 +1,18 @@
 //! The writers of the kinds of events, each by the writer of each of its fields.
 ghost use Rattle.std.specs.Prelude.{◌≡◌, ◌++◌, true, OnOk};
 ghost use Rattle.agent_events.specs.Events.{fits_count, fits_row};
-ghost use Rattle.row_fields.specs.Spelling.{flag};
+ghost use Rattle.event_rows.specs.Spelling.{flag};
 ghost use Rattle.event_rows.specs.InForm as range;
 ghost use Rattle.event_rows.specs.Rows as spelled;
 
 use crate::list_writers::{put_day, put_deferred, put_front, put_holidays, put_prices};
+use crate::writer::RowWriter;
 use agent_events::{
     AccountForm, Body, CalendarForm, CancelForm, ClassForm, CloseForm, DealerForm, DividendForm,
     EntryForm, EventKind, FixPriceForm, FixRateForm, HouseholdForm, Placed, SheetForm, Source,
     VoidForm,
 };
 use money_units::NoMemory;
-use row_fields::RowWriter;
 
 /// What an order does: a tag and its fields.
 #[tactic(auto, unfolding(crate::specs::Rows::body))]

@@ -1,7 +1,7 @@
 //! Laws of the rows of events.
 ghost use Rattle.std.specs.Prelude.{◌≡◌, ◌≤◌, ◌++◌, ℕ, List, length};
 ghost use Rattle.agent_events.specs.Events.{Event};
-ghost use Rattle.row_fields.specs.Exact.{IsField};
+ghost use Rattle.event_rows.specs.Exact.{IsField};
 ghost use Rattle.event_rows.specs.InForm.{InForm};
 ghost use Rattle.event_rows.specs.Rows.{event_row};
 ghost use Rattle.event_rows.specs.Reading.{event_at};

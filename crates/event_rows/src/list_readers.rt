@@ -2,14 +2,15 @@
 //! takes no memory.
 ghost use Rattle.std.specs.Prelude.{◌≡◌, true, length, IfOk};
 ghost use Rattle.agent_events.specs.Events.{fits_count};
-ghost use Rattle.row_fields.specs.Reading.{Reads, items_at};
-ghost use Rattle.row_fields.specs.Readers.{day_at, rate_at};
+ghost use Rattle.event_rows.specs.FieldReading.{Reads, items_at};
+ghost use Rattle.event_rows.specs.Readers.{day_at, rate_at};
 ghost use Rattle.event_rows.specs.Reading.{bracket_at, price_at, holidays_at, front_at, deferred_at, prices_at};
 
+use crate::fault::RowFault;
+use crate::reader::RowReader;
 use agent_events::{Days, FrontBrackets, Holidays, RisingPrices, SheetPrices};
 use class_terms::{Bracket, Brackets, Schedule};
 use money_units::{Cents, Nav};
-use row_fields::{RowFault, RowReader};
 use std::alloc::Global;
 
 /// The most rows of front-end loads that a class has, and the most rates of a deferred load.
@@ -89,7 +90,7 @@ fn read_prices(alloc: Global, row: &mut RowReader, count: u16) -> Result<SheetPr
 }
 
 /// The holidays of a calendar.
-#[tactic(auto, unfolding(crate::specs::Reading::holidays_at, row_fields::specs::Reading::list_at))]
+#[tactic(auto, unfolding(crate::specs::Reading::holidays_at, crate::specs::FieldReading::list_at))]
 pub(crate) fn read_holidays(alloc: Global, row: &mut RowReader) -> Result<Holidays, RowFault>
     ensures read { Reads result row.new (holidays_at row.old) }
     ensures fits { IfOk result (λ holidays. fits_count holidays ≡ true) }
@@ -99,7 +100,7 @@ pub(crate) fn read_holidays(alloc: Global, row: &mut RowReader) -> Result<Holida
 }
 
 /// The front-end loads of a class.
-#[tactic(auto, unfolding(crate::specs::Reading::front_at, row_fields::specs::Reading::list_at))]
+#[tactic(auto, unfolding(crate::specs::Reading::front_at, crate::specs::FieldReading::list_at))]
 pub(crate) fn read_front(alloc: Global, row: &mut RowReader) -> Result<FrontBrackets, RowFault>
     ensures read { Reads result row.new (front_at row.old) }
     ensures fits { IfOk result (λ front. fits_count front ≡ true) }
@@ -113,7 +114,7 @@ pub(crate) fn read_front(alloc: Global, row: &mut RowReader) -> Result<FrontBrac
 }
 
 /// The deferred loads of a class.
-#[tactic(auto, unfolding(crate::specs::Reading::deferred_at, row_fields::specs::Reading::list_at))]
+#[tactic(auto, unfolding(crate::specs::Reading::deferred_at, crate::specs::FieldReading::list_at))]
 pub(crate) fn read_deferred(alloc: Global, row: &mut RowReader) -> Result<Schedule, RowFault>
     ensures read { Reads result row.new (deferred_at row.old) }
     ensures fits { IfOk result (λ rates. fits_count rates ≡ true) }
@@ -127,7 +128,7 @@ pub(crate) fn read_deferred(alloc: Global, row: &mut RowReader) -> Result<Schedu
 }
 
 /// The prices of a sheet.
-#[tactic(auto, unfolding(crate::specs::Reading::prices_at, row_fields::specs::Reading::list_at))]
+#[tactic(auto, unfolding(crate::specs::Reading::prices_at, crate::specs::FieldReading::list_at))]
 pub(crate) fn read_sheet_prices(
     alloc: Global,
     row: &mut RowReader,

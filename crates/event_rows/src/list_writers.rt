@@ -1,16 +1,16 @@
 //! The lists of a row: a count, and each item.
 ghost use Rattle.std.specs.Prelude.{◌≡◌, ◌++◌, true, OnOk};
 ghost use Rattle.std.specs.List.{flat_map, AllByRecursion};
-ghost use Rattle.row_fields.specs.Ranges.{IsDay, IsBps, AreListed};
+ghost use Rattle.event_rows.specs.Ranges.{IsDay, IsBps, AreListed};
 ghost use Rattle.event_rows.specs.InForm.{IsBracket, IsListedPrice};
 ghost use Rattle.agent_events.specs.Events.{fits_count};
-ghost use Rattle.row_fields.specs.Spelling.{two_bytes, four_bytes, list_bytes};
+ghost use Rattle.event_rows.specs.Spelling.{two_bytes, four_bytes, list_bytes};
 ghost use Rattle.event_rows.specs.Rows.{bracket, price};
 
+use crate::writer::RowWriter;
 use class_terms::Bracket;
 use fund_calendar::Day;
 use money_units::{Bps, Nav, NoMemory};
-use row_fields::RowWriter;
 
 /// A date as its day number.
 pub(crate) fn put_day(row: &mut RowWriter, day: Day) -> Result<(), NoMemory>
@@ -73,7 +73,7 @@ fn put_each_price(row: &mut RowWriter, prices: &[(u32, Nav)]) -> Result<(), NoMe
 }
 
 /// The holidays of a calendar.
-#[tactic(auto, unfolding(row_fields::specs::Spelling::list_bytes))]
+#[tactic(auto, unfolding(crate::specs::Spelling::list_bytes))]
 pub(crate) fn put_holidays(row: &mut RowWriter, days: &[Day]) -> Result<(), NoMemory>
     requires { fits_count days.now ≡ true }
     ensures written { OnOk result (row.new ≡ row.old ++ list_bytes four_bytes days.now) }
@@ -85,7 +85,7 @@ pub(crate) fn put_holidays(row: &mut RowWriter, days: &[Day]) -> Result<(), NoMe
 }
 
 /// The front-end loads of a class.
-#[tactic(auto, unfolding(row_fields::specs::Spelling::list_bytes))]
+#[tactic(auto, unfolding(crate::specs::Spelling::list_bytes))]
 pub(crate) fn put_front(row: &mut RowWriter, brackets: &[Bracket]) -> Result<(), NoMemory>
     requires { fits_count brackets.now ≡ true }
     ensures written { OnOk result (row.new ≡ row.old ++ list_bytes bracket brackets.now) }
@@ -97,7 +97,7 @@ pub(crate) fn put_front(row: &mut RowWriter, brackets: &[Bracket]) -> Result<(),
 }
 
 /// The deferred loads of a class.
-#[tactic(auto, unfolding(row_fields::specs::Spelling::list_bytes))]
+#[tactic(auto, unfolding(crate::specs::Spelling::list_bytes))]
 pub(crate) fn put_deferred(row: &mut RowWriter, rates: &[Bps]) -> Result<(), NoMemory>
     requires { fits_count rates.now ≡ true }
     ensures written { OnOk result (row.new ≡ row.old ++ list_bytes two_bytes rates.now) }
@@ -109,7 +109,7 @@ pub(crate) fn put_deferred(row: &mut RowWriter, rates: &[Bps]) -> Result<(), NoM
 }
 
 /// The prices of a sheet.
-#[tactic(auto, unfolding(row_fields::specs::Spelling::list_bytes))]
+#[tactic(auto, unfolding(crate::specs::Spelling::list_bytes))]
 pub(crate) fn put_prices(row: &mut RowWriter, prices: &[(u32, Nav)]) -> Result<(), NoMemory>
     requires { fits_count prices.now ≡ true }
     ensures written { OnOk result (row.new ≡ row.old ++ list_bytes price prices.now) }

@@ -1,16 +1,18 @@
 //! The row of an event, and the event of a row.
 ghost use Rattle.std.specs.Prelude.{◌≡◌, true, Some, IfOk, IfSome};
 ghost use Rattle.agent_events.specs.Events.{Event};
-ghost use Rattle.row_fields.specs.Reading.{Reads};
+ghost use Rattle.event_rows.specs.FieldReading.{Reads};
 ghost use Rattle.event_rows.specs.InForm.{InForm, has_loads};
 ghost use Rattle.event_rows.specs.Reading.{first_version_at, event_at, event_of_row};
 ghost use Rattle.event_rows.specs.Rows.{event_row};
 
+use crate::fault::RowFault;
 use crate::kind_readers::read_fields;
 use crate::kind_writers::{kind_number, put_fields};
+use crate::reader::RowReader;
+use crate::writer::RowWriter;
 use agent_events::Event;
 use money_units::NoMemory;
-use row_fields::{RowFault, RowReader, RowWriter};
 use std::alloc::Global;
 
 /// The version of the rows that are written.

@@ -1,5 +1,5 @@
 //! A buffer of 1,000 requests, read 1,000 times by the parsers alone or by the feed, and one request of 1 MiB that comes byte by byte.
-use http_calls::{Feed, Step};
+use agent_http::{Feed, Step};
 use httparse::Status;
 use httparse::spans::{EMPTY_HEADER_SPAN, parse_request};
 use money_units::NoMemory;

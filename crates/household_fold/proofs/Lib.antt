@@ -35,5 +35,3 @@ pub mod QuietFacts
 pub mod OrdersInTurn
 -- what dividends and letters that end leave as it was
 pub mod SheetSteps
--- passed on to the crates above, which so needn't name the libraries below
-pub use Rattle.household_positions.proofs as household_positions

@@ -20,5 +20,3 @@ pub mod Exchanges
 pub mod Quiet
 -- a redemption in its parts
 pub mod Redemptions
--- passed on to the crates above, which so needn't name the libraries below
-pub use Rattle.register_machine.specs as register_machine

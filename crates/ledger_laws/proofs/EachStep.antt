@@ -6,8 +6,8 @@ use Rattle.household_fold.proofs.SheetFacts.{numbered-patched}
 use Rattle.household_fold.specs.Facts.{FactsFit, Known, no_sheet, on_trial, sheet_at_hand}
 use Rattle.household_fold.specs.Households.{AreOrdersOf}
 use Rattle.household_fold.specs.Numbers.{AreNumbersWithin}
-use Rattle.household_replay.proofs.PremiseFacts.{owned_on}
-use Rattle.household_replay.specs.Replays.{NumberedOrder, known_on, orders_under, day_behind, days_behind}
+use Rattle.checkpoint_replay.proofs.PremiseFacts.{owned_on}
+use Rattle.checkpoint_replay.specs.Replays.{NumberedOrder, known_on, orders_under, day_behind, days_behind}
 use Rattle.ledger_laws.proofs.OwnedParts.{owned_by_accounts}
 use Rattle.ledger_laws.proofs.PartLimits.{numbers_within}
 use Rattle.ledger_laws.proofs.ReplaysAsPart.{days-from, part-one-more}

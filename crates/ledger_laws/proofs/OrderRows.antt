@@ -6,7 +6,7 @@ use Rattle.agent_events.specs.declared.order.Order.{Order}
 use Rattle.agent_events.specs.declared.order.OrderRow.{OrderRow}
 use Rattle.forward_price.specs.declared.price_sheet.Sheet.{Sheet}
 use Rattle.household_fold.specs.Households.{orders_of}
-use Rattle.household_replay.specs.Replays.{NumberedOrder, orders_under}
+use Rattle.checkpoint_replay.specs.Replays.{NumberedOrder, orders_under}
 use Rattle.ledger_laws.specs.OrderRows.{RowsOfPartAreItsOrders, RowsOfSheetAreOfHouseholds, order_under}
 use Rattle.register_laws.proofs.ListParts.{filter-swap}
 use Rattle.register_laws.proofs.OrdersStanding.{orders-standing}

@@ -15,7 +15,7 @@ use Rattle.forward_price.specs.Sheets.{lists_all, lists_class}
 use Rattle.forward_price.specs.declared.price_sheet.Sheet.{Sheet}
 use Rattle.household_fold.specs.Facts.{Known, book_of_facts, sheet_at_hand}
 use Rattle.household_fold.specs.Households.{AreOrdersOf, IsOrderOf, IsOwnPlace}
-use Rattle.household_replay.specs.Replays.{known_on}
+use Rattle.checkpoint_replay.specs.Replays.{known_on}
 use Rattle.ledger_laws.proofs.StepsAsPart.{AreOf, IsOneOf, own-step}
 use Rattle.ledger_laws.specs.OwnedByAccounts.{SoundPartsAreOwned}
 use Rattle.ledger_laws.specs.SoundBooks.{HaveTerms, NamesItsClasses, has_class_in}

@@ -8,7 +8,7 @@ use Rattle.forward_price.proofs.NumberFacts.{numbered_at}
 use Rattle.forward_price.specs.PriceTables.{sheet_numbered}
 use Rattle.forward_price.specs.declared.price_sheet.Sheet.{Sheet}
 use Rattle.household_fold.specs.Facts.{Known, no_sheet}
-use Rattle.household_replay.specs.Replays.{NumberedOrder, day_behind, days_behind, known_on, orders_under}
+use Rattle.checkpoint_replay.specs.Replays.{NumberedOrder, day_behind, days_behind, known_on, orders_under}
 use Rattle.ledger_laws.proofs.StepsAsPart.{steps_as_part}
 use Rattle.ledger_laws.specs.PartsByFacts.{AreFactsOf, AreRowsOf, FactsReplayPart, SheetsGiveFacts, StandsInOrder, orders_of_part}
 use Rattle.register_laws.proofs.ReplayedAlone.{first-part, sheets-part}

@@ -4,8 +4,8 @@ use Rattle.std.proofs.lemmas.List.Elements.{All-append, All-map, All-nil, All-we
 use Rattle.std.specs.Prelude.{AllPairs}
 use Rattle.agent_events.specs.declared.order.Order.{Order}
 use Rattle.forward_price.specs.declared.price_sheet.Sheet.{Sheet}
-use Rattle.household_replay.proofs.NumberFacts.{under-append}
-use Rattle.household_replay.specs.Replays.{NumberedOrder, orders_under}
+use Rattle.checkpoint_replay.proofs.NumberFacts.{under-append}
+use Rattle.checkpoint_replay.specs.Replays.{NumberedOrder, orders_under}
 use Rattle.ledger_laws.specs.OrderRows.{under_number}
 use Rattle.register_laws.proofs.Comparisons.{eq-no, eq-yes}
 use Rattle.register_laws.proofs.ListParts.{pairs-append}

@@ -7,7 +7,7 @@ use Rattle.agent_events.specs.declared.order.OrderRow.{OrderRow}
 use Rattle.forward_price.specs.declared.price_sheet.Sheet.{Sheet}
 use Rattle.household_fold.specs.Facts.{Known, book_of_facts, sheet_at_hand}
 use Rattle.household_fold.specs.Households.{first_of, orders_of}
-use Rattle.household_replay.specs.Replays.{day_behind}
+use Rattle.checkpoint_replay.specs.Replays.{day_behind}
 use Rattle.ledger_laws.proofs.StepsAlone.{rows-alone, step-alone}
 use Rattle.ledger_laws.specs.PartsByFacts.{StepsAsPart}
 use Rattle.offering_price.specs.Accumulation.{credit}

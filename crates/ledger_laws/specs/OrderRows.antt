@@ -6,7 +6,7 @@ use Rattle.agent_events.specs.declared.order.OrderRow.{OrderRow}
 use Rattle.agent_events.specs.declared.request.AccountForm.{AccountForm}
 use Rattle.forward_price.specs.PriceTables.{AreNumbered}
 use Rattle.forward_price.specs.declared.price_sheet.Sheet.{Sheet}
-use Rattle.household_replay.specs.Replays.{NumberedOrder, orders_under}
+use Rattle.checkpoint_replay.specs.Replays.{NumberedOrder, orders_under}
 use Rattle.ledger_laws.specs.PartsByFacts.{AreRowsOf, orders_of_part}
 use Rattle.register_laws.specs.Households.{own_orders}
 use Rattle.register_machine.specs.journal.Kinds.{household_of}

@@ -6,7 +6,7 @@ use Rattle.household_fold.specs.Facts.{FactsFit, Known, rate_stands_before}
 use Rattle.household_fold.specs.Households.{AreOrdersOf, AreOwned, step_known}
 use Rattle.household_fold.specs.Limits.{AreLettersWithin, AreLotsWithin}
 use Rattle.household_fold.specs.Numbers.{AreNumbersWithin}
-use Rattle.household_replay.specs.Replays.{NumberedOrder, days_behind, known_on, orders_under}
+use Rattle.checkpoint_replay.specs.Replays.{NumberedOrder, days_behind, known_on, orders_under}
 use Rattle.ledger_laws.specs.PartsByFacts.{AreFactsOf, AreRowsOf, orders_of_part}
 use Rattle.ledger_laws.specs.SoundBooks.{HaveTerms, IsSoundBook}
 use Rattle.register_laws.specs.Households.{part_of}

@@ -5,7 +5,7 @@ use Rattle.forward_price.specs.PriceTables.{AreNumbered}
 use Rattle.forward_price.specs.declared.price_sheet.Sheet.{Sheet}
 use Rattle.household_fold.specs.Facts.{Known, book_of_facts, sheet_at_hand, sheets_known}
 use Rattle.household_fold.specs.Households.{orders_of}
-use Rattle.household_replay.specs.Replays.{NumberedOrder, day_behind, days_behind, known_on, orders_under}
+use Rattle.checkpoint_replay.specs.Replays.{NumberedOrder, day_behind, days_behind, known_on, orders_under}
 use Rattle.register_laws.specs.AlikeBooks.{BooksAlike}
 use Rattle.register_laws.specs.Households.{own_orders, part_of}
 use Rattle.register_laws.specs.ReplayKeeps.{AreInOrder}

@@ -1,7 +1,7 @@
 //! Laws of a household's part that its steps by facts want: whose it is, what it keeps within limits, and that it can step.
 ghost use Rattle.std.specs.Prelude.{List, ℕ};
 ghost use Rattle.household_fold.specs.Facts.{Known};
-ghost use Rattle.household_replay.specs.Replays.{NumberedOrder};
+ghost use Rattle.checkpoint_replay.specs.Replays.{NumberedOrder};
 ghost use Rattle.register_machine.specs.pricing.CorrectedBook.{Book};
 ghost use Rattle.ledger_laws.specs.OwnedByAccounts.{OrderlyNumbersWithin, SoundBooksLetReplay, SoundBooksLetStep, SoundPartsAreOwned};
 

@@ -2,7 +2,7 @@
 ghost use Rattle.std.specs.Prelude.{List, ℕ};
 ghost use Rattle.forward_price.specs.declared.price_sheet.Sheet.{Sheet};
 ghost use Rattle.household_fold.specs.Facts.{Known};
-ghost use Rattle.household_replay.specs.Replays.{NumberedOrder};
+ghost use Rattle.checkpoint_replay.specs.Replays.{NumberedOrder};
 ghost use Rattle.register_machine.specs.pricing.CorrectedBook.{Book};
 ghost use Rattle.register_machine.specs.replay.Trades.{Day};
 ghost use Rattle.ledger_laws.specs.OrderRows.{RowsOfPartAreItsOrders, RowsOfSheetAreOfHouseholds, RowsStandSheetBySheet};

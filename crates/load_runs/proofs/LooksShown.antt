@@ -8,7 +8,7 @@ use Rattle.agent_events.specs.declared.reply.Refusal.{Refusal}
 use Rattle.agent_events.specs.declared.reply.Reply.{Reply}
 use Rattle.agent_events.specs.declared.request.Request.{Request}
 use Rattle.agent_events.specs.declared.verdict.Caller.{Caller}
-use Rattle.event_laws.proofs.OrderTurns.{found-itself}
+use Rattle.register_laws.proofs.OrderTurns.{found-itself}
 use Rattle.forward_price.proofs.OrderlyFacts.{all_to}
 use Rattle.load_requests.specs.Summaries as summaries
 use Rattle.load_runs.specs.Looks.{classes_in, classes_shown, look_at, state_in, state_traced}

@@ -4,7 +4,7 @@ use Rattle.agent_events.specs.declared.reply_lists.ClassBooks.{ClassBooks}
 use Rattle.load_requests.specs.Runs.{LoadRun}
 use Rattle.load_requests.specs.Summaries.{Summary, classes_in, is_filled, is_unfilled, orders_in, summary_of}
 use Rattle.register_laws.specs.Lawful.{book_behind}
-use Rattle.desk_looks.specs.EventReplies.{CountsItsSheets}
+use Rattle.holder_statements.specs.EventReplies.{CountsItsSheets}
 use Rattle.register_machine.specs.journal.Journals.{Journal}
 use Rattle.register_machine.specs.journal.Kinds.{each_in, sheet_in}
 

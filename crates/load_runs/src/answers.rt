@@ -3,7 +3,7 @@ ghost use Rattle.std.specs.Prelude.{◌≡◌, ◌≤◌, ◌++◌, [], IfOk, On
 ghost use Rattle.agent_keeper.specs.Memory.{surely_kept};
 ghost use Rattle.agent_keeper.specs.declared.fault.KeepFault.TheVariants as kept;
 ghost use Rattle.agent_events.specs.declared.verdict.Caller.{Caller as AnyCaller};
-ghost use Rattle.register_desk.specs.desk_answers.Answered.{events_of};
+ghost use Rattle.register_desk.specs.Answered.{events_of};
 ghost use Rattle.register_desk.specs.PreparedAnswers.{IsPreparedAt};
 ghost use Rattle.register_desk.specs.Rows.{rows_of};
 ghost use Rattle.register_desk.specs.declared.faults.StartFault.TheVariants as start;

@@ -8,7 +8,7 @@ use crate::laws::classes_are_shown;
 use crate::looks::{classes_of, count_orders};
 use crate::running::Running;
 use agent_events::BooksOfClasses;
-use desk_looks::laws::sheets_are_counted;
+use holder_statements::look_laws::sheets_are_counted;
 use household_fold::Steps;
 use money_units::NoMemory;
 use std::alloc::Global;

@@ -3,8 +3,7 @@ ghost use Rattle.std.specs.Prelude.{◌≡◌, IfOk, true, unwrap_or};
 ghost use Rattle.agent_events.specs.Events.{event_of};
 ghost use Rattle.register_laws.specs.LawfulLimits.{has_list_forms};
 
-use agent_events::{EventKind, Placed, Request, Source};
-use event_copies::Copied;
+use agent_events::{Copied, EventKind, Placed, Request, Source};
 use money_units::{Moment, NoMemory};
 use std::alloc::Global;
 

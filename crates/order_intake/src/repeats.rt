@@ -5,9 +5,8 @@ ghost use Rattle.order_intake.specs.Requested.{identity_asked, place_asked};
 ghost use Rattle.register_laws.specs.Identities.{HasNoIdentityTwice};
 ghost use Rattle.register_machine.specs.run.Verdicts.{repeats};
 
-use agent_events::{Identifier, Reference, Request};
+use agent_events::{Identifier, Reference, Request, brought_by};
 use order_book::{Identity, OrderBook};
-use request_content::brought_by;
 
 fn reference_of(account: Identifier, ref_no: Reference) -> Identity
     ensures { result ≡ Identity.Reference account ref_no }

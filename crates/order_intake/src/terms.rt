@@ -5,9 +5,8 @@ ghost use Rattle.order_intake.specs.TermPlaces.{loads_place, place_checked};
 ghost use Rattle.register_machine.specs.rules.Situations.{Situation};
 ghost use Rattle.register_machine.specs.rules.Terms.{bad_terms, calendar_place};
 
-use agent_events::{CalendarForm, ClassForm, Refusal, Request};
+use agent_events::{CalendarForm, ClassForm, Copied, Refusal, Request};
 use class_terms::{TermFault, Terms, TermsForm, check};
-use event_copies::Copied;
 use fund_calendar::CalendarFault;
 use money_units::{Cents, List, NoMemory};
 use std::alloc::Global;

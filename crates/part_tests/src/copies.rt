@@ -1,12 +1,10 @@
 //! Copies: each list of rows is copied, item by item, and a request is.
 use agent_events::{
-    Amount, Body, Identifier, LotRow, LotRows, Order, OrderRow, PositionRow, PositionRows, RateRow,
-    Rates, Reference, Request,
+    Amount, Body, Copied, Identifier, LotRow, LotRows, Order, OrderRow, PositionRow, PositionRows,
+    RateRow, Rates, Reference, Request, same_request,
 };
-use event_copies::Copied;
 use fund_calendar::Day;
 use money_units::{Cents, Mils, Moment, NoMemory};
-use request_content::same_request;
 use std::alloc::Global;
 use std::test::Fail;
 

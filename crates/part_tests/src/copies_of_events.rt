@@ -1,6 +1,5 @@
 //! Copies of events: one of each kind, body and bearer is read, and its copy has the same row.
-use agent_events::Event;
-use event_copies::Copied;
+use agent_events::{Copied, Event};
 use event_rows::{decode, encode};
 use money_units::NoMemory;
 use std::alloc::Global;

@@ -8,11 +8,11 @@ use agent_events::{
     Amount, Asked, Bearer, Body, FixPriceForm, Identifier, LineForm, Order, Reference, Reply,
     Request,
 };
-use agent_http::reply_line;
 use agent_keeper::{KeepFault, Keeper, MemoryKeeper};
 use household_fold::Steps;
 use money_units::{Cents, Moment, Nav, NoMemory};
 use register_desk::Desk;
+use script_text::reply_line;
 use std::alloc::Global;
 use std::marker::Brand;
 use std::sync::ledger::{Blank, Ledger};

@@ -1,6 +1,6 @@
 //! Lines of a text, as they are written.
-use agent_http::{Fields, append_line, push_field};
 use money_units::NoMemory;
+use script_text::{Fields, append_line, push_field};
 use std::alloc::Global;
 use std::test::Fail;
 

@@ -1,5 +1,6 @@
 //! What no run of the program shows of its parts: a desk's own calls, copies, checkpoint rows by themselves, lines as they are
-//! written, replies that no request brings about, and long rows. What a run shows is a case of `scenarios`.
+//! written, replies that no request brings about, long rows, and the words of the command line. What a run shows is a case of
+//! `scenarios`.
 #![tactic(auto)]
 
 #[cfg(test)]
@@ -18,6 +19,8 @@ mod replies;
 mod rows_of_states;
 #[cfg(test)]
 mod scripts;
+#[cfg(test)]
+mod words;
 
 use std::process::ExitCode;
 

@@ -1,7 +1,9 @@
 //! Replies that no request over HTTP brings about: those of a line that is late and of a full journal, two faults, and a text past ASCII.
 use agent_events::{Identifier, Refusal, Reply};
-use agent_http::{HttpFault, fault_bytes, reply_bytes, reply_line};
+use agent_http::{fault_bytes, reply_bytes};
+use http_stream::HttpFault;
 use money_units::{Bytes, Moment, NoMemory};
+use script_text::reply_line;
 use std::alloc::{AllocError, Global};
 use std::test::Fail;
 

@@ -5,10 +5,10 @@ use Rattle.std.specs.Prelude.{IfOk, IfSome}
 use Rattle.agent_events.specs.Events.{Event}
 use Rattle.agent_keeper.specs.Calls.{Answer}
 use Rattle.agent_keeper.specs.Content.{Content}
-use Rattle.desk_answers.specs.StepBounds.{AreFewSteps, most_steps}
-use Rattle.desk_answers.specs.desk_books.ReadyChanges.{IsReady}
-use Rattle.desk_answers.specs.desk_books.declared.books.DeskBooks.{DeskBooks}
-use Rattle.desk_answers.specs.desk_books.declared.change.EventChange.{EventChange}
+use Rattle.register_desk.specs.StepBounds.{AreFewSteps, most_steps}
+use Rattle.desk_books.specs.ReadyChanges.{IsReady}
+use Rattle.desk_books.specs.declared.books.DeskBooks.{DeskBooks}
+use Rattle.desk_books.specs.declared.change.EventChange.{EventChange}
 use Rattle.event_rows.specs.InForm.{InForm}
 use Rattle.event_rows.specs.Rows.{event_row}
 use Rattle.register_desk.specs.Opening.{OpensRows}

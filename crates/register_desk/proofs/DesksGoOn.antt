@@ -3,10 +3,10 @@ use Rattle.std.proofs.Common.{List, Option, Some, [], subst, sym, ◌++◌, ◌�
 use Rattle.std.specs.Prelude.{All}
 use Rattle.std.proofs.lemmas.List.Elements.{All-append, All-head, All-push}
 use Rattle.agent_events.specs.Events.{Event}
-use Rattle.desk_answers.specs.Answered.{events_of}
-use Rattle.desk_answers.specs.desk_books.BooksOfJournals.{AreBooksOf, ShowTheSame}
-use Rattle.desk_answers.specs.desk_books.declared.books.DeskBooks.{DeskBooks}
-use Rattle.desk_answers.specs.desk_books.declared.change.EventChange.{EventChange}
+use Rattle.register_desk.specs.Answered.{events_of}
+use Rattle.desk_books.specs.BooksOfJournals.{AreBooksOf, ShowTheSame}
+use Rattle.desk_books.specs.declared.books.DeskBooks.{DeskBooks}
+use Rattle.desk_books.specs.declared.change.EventChange.{EventChange}
 use Rattle.event_rows.specs.InForm.{InForm}
 use Rattle.register_desk.specs.Rows.{IsDesk}
 use Rattle.register_machine.specs.journal.Journals.{Journal, with_event}

@@ -5,7 +5,7 @@ use Rattle.std.specs.Prelude.{bytes_eq, unwrap_or}
 use Rattle.std.proofs.lemmas.Option.{none-some, same_Some}
 use Rattle.agent_events.specs.declared.request.DealerForm.{DealerForm}
 use Rattle.agent_events.specs.declared.verdict.Caller.{Caller}
-use Rattle.desk_answers.specs.Answered.{IsCaller}
+use Rattle.register_desk.specs.Answered.{IsCaller}
 use Rattle.register_machine.specs.journal.Journals.{Journal}
 use Rattle.register_machine.specs.journal.Kinds.{dealer_numbered, dealers_of}
 use Rattle.register_machine.specs.rules.Callers.{caller_of, dealer_with_key, household_with_key, known_caller}

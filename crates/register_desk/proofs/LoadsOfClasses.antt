@@ -3,12 +3,12 @@ use Rattle.std.proofs.Common.{Bool, None, Option, Some, cond, false, is_none, re
 use Rattle.std.specs.Prelude.{IfSome}
 use Rattle.std.proofs.lemmas.Bool.{and_parts, true≢false}
 use Rattle.agent_events.specs.declared.event.EventKind.{EventKind}
-use Rattle.desk_answers.specs.Answered.{IsReadyToNote}
-use Rattle.desk_answers.specs.desk_books.declared.books.DeskBooks.{DeskBooks}
-use Rattle.desk_answers.specs.desk_books.declared.change.EventChange.{EventChange}
+use Rattle.register_desk.specs.Answered.{IsReadyToNote}
+use Rattle.desk_books.specs.declared.books.DeskBooks.{DeskBooks}
+use Rattle.desk_books.specs.declared.change.EventChange.{EventChange}
 use Rattle.event_rows.specs.InForm.{has_deferred_rates, has_front_rows, has_loads}
-use Rattle.journal_tables.proofs.EventTables.{brings_loads}
-use Rattle.journal_tables.specs.Tables.{brings_good_loads}
+use Rattle.reference_tables.proofs.EventTables.{brings_loads}
+use Rattle.reference_tables.specs.Tables.{brings_good_loads}
 
 -- good loads have their counts
 counted : (are : Bool) (found : Option ℕ) (place : ℕ) → is_none (cond are found (Some place)) ≡ true → are ≡ true

@@ -6,7 +6,7 @@ use Rattle.agent_events.specs.Events.{Event}
 use Rattle.agent_keeper.specs.Calls.{Answer, Gives, GoesOn, OnlyReads, Rose, length_is, row_is}
 use Rattle.agent_keeper.specs.Content.{Content}
 use Rattle.agent_keeper.specs.declared.fault.KeepFault.{KeepFault}
-use Rattle.desk_answers.specs.desk_books.declared.books.DeskBooks.{DeskBooks}
+use Rattle.desk_books.specs.declared.books.DeskBooks.{DeskBooks}
 use Rattle.event_rows.specs.Rows.{event_row}
 use Rattle.register_desk.proofs.RowsOfJournals.{last_or_before, length_more, rows_more, take_next}
 use Rattle.register_desk.specs.Opening.{AreAllGiven, AreGiven, FindsNone, IsGivenBadAt, OpensRow, OpensRows, ShowsRow, ShowsRowsOf, StopsAt}

@@ -8,5 +8,21 @@ pub mod Opening
 pub mod PreparedBatches
 -- how many steps the opening of a store takes at most
 pub mod OpeningBounds
--- passed on to the crates above, which so needn't name the libraries below
-pub use Rattle.desk_answers.specs as desk_answers
+-- what is asked and what is answered
+pub mod Replies
+-- what stands of the accounts that a look names
+pub mod NamedAccounts
+-- the numbers of classes and dealers as they are gathered
+pub mod GatheredNumbers
+-- what the books answer to a request
+pub mod Answered
+-- the answer to an event that a request brings
+pub mod Fresh
+-- how many steps an answer takes
+pub mod Steps
+-- how many steps an event takes at most
+pub mod StepBounds
+-- an event that is asked for again
+pub mod Asked
+-- when the orders of lines are ready to be noted in the books
+pub mod ReadyLines

@@ -4,7 +4,7 @@ use Rattle.agent_events.specs.Events.{Event}
 use Rattle.agent_keeper.specs.Calls.{Answer, Gives, length_is, row_is}
 use Rattle.agent_keeper.specs.Content.{Content}
 use Rattle.agent_keeper.specs.declared.fault.KeepFault.{KeepFault}
-use Rattle.desk_answers.specs.desk_books.declared.books.DeskBooks.{DeskBooks}
+use Rattle.desk_books.specs.declared.books.DeskBooks.{DeskBooks}
 use Rattle.event_rows.specs.Rows.{event_row}
 use Rattle.register_desk.specs.Rows.{FollowsAsNone, IsDesk, IsFirstBad, rows_of}
 use Rattle.register_desk.specs.declared.faults.StartFault.{StartFault}

@@ -2,7 +2,7 @@
 -- taken where the rows of a store end in a bad one.
 use Rattle.std.specs.Prelude.{All, List, None, Option, Some, [], slice_get, take, ℕ, ◌+◌, ◌∷◌, ◌≡◌, ◌≤◌, ◌⊎◌}
 use Rattle.agent_events.specs.Events.{Event}
-use Rattle.desk_answers.specs.StepBounds.{AreFewSteps, most_steps}
+use Rattle.register_desk.specs.StepBounds.{AreFewSteps, most_steps}
 use Rattle.event_rows.specs.InForm.{InForm}
 use Rattle.event_rows.specs.Rows.{event_row}
 use Rattle.register_desk.specs.Rows.{rows_of}

@@ -1,7 +1,7 @@
 -- What a prepared answer holds: its events with their rows, and all that they change.
 use Rattle.std.specs.Prelude.{All, [], length, ◌≡◌}
-use Rattle.desk_answers.specs.Answered.{IsReadyToNote, events_of}
-use Rattle.desk_answers.specs.desk_books.declared.books.DeskBooks.{DeskBooks}
+use Rattle.register_desk.specs.Answered.{IsReadyToNote, events_of}
+use Rattle.desk_books.specs.declared.books.DeskBooks.{DeskBooks}
 use Rattle.event_rows.specs.InForm.{InForm}
 use Rattle.register_desk.specs.Rows.{rows_of}
 use Rattle.register_desk.specs.declared.prepared.Prepared.{Prepared}

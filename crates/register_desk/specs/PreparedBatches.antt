@@ -4,8 +4,8 @@ use Rattle.agent_events.specs.Events.{Event}
 use Rattle.agent_events.specs.declared.reply.Refusal.{Refusal}
 use Rattle.agent_events.specs.declared.reply.Reply.{Reply}
 use Rattle.dealer_lines.specs.Lines.{line_events}
-use Rattle.desk_answers.specs.desk_books.declared.books.DeskBooks.{DeskBooks}
-use Rattle.desk_lines.specs.ReadyLines.{AreReadyToNote}
+use Rattle.desk_books.specs.declared.books.DeskBooks.{DeskBooks}
+use Rattle.register_desk.specs.ReadyLines.{AreReadyToNote}
 use Rattle.event_rows.specs.InForm.{InForm}
 use Rattle.register_desk.specs.Rows.{rows_of}
 use Rattle.register_desk.specs.declared.prepared_batch.PreparedBatch.{PreparedBatch}

@@ -2,8 +2,8 @@
 use Rattle.std.specs.Prelude.{All, List, Option, Some, length, map, slice_get, take, ℕ, ◌<◌, ◌≡◌}
 use Rattle.agent_events.specs.Events.{Event}
 use Rattle.agent_keeper.specs.Content.{Content}
-use Rattle.desk_answers.specs.desk_books.BooksOfJournals.{AreBooksOf}
-use Rattle.desk_answers.specs.desk_books.declared.books.DeskBooks.{DeskBooks}
+use Rattle.desk_books.specs.BooksOfJournals.{AreBooksOf}
+use Rattle.desk_books.specs.declared.books.DeskBooks.{DeskBooks}
 use Rattle.event_rows.specs.InForm.{InForm}
 use Rattle.event_rows.specs.Rows.{event_row}
 use Rattle.register_machine.specs.journal.Journals.{Journal, with_event}

@@ -3,7 +3,7 @@ ghost use Rattle.std.specs.Prelude.{◌≡◌, ◌≢◌, ◌⊎◌, ◌≤◌, 
 ghost use Rattle.agent_keeper.specs.Calls.{Counts, GoesOn};
 ghost use Rattle.agent_keeper.specs.Content.{Content, after};
 ghost use Rattle.dealer_lines.specs.Lines.{all_lines};
-ghost use Rattle.desk_answers.specs.Answered.{IsCaller};
+ghost use Rattle.register_desk.specs.Answered.{IsCaller};
 ghost use Rattle.register_desk.specs.PreparedBatches.{IsBatchPreparedAt, batch_given, batch_prepared, events_of_batch};
 ghost use Rattle.register_desk.specs.Rows.{TellsRowsOf, rows_of};
 ghost use Rattle.register_laws.specs.Lawful.{own_at};
@@ -12,10 +12,10 @@ ghost use Rattle.register_machine.specs.run.Batches.{batch_answer};
 
 use crate::desk::Desk;
 use crate::faults::LedgerFault;
+use crate::noted_lines::{note_lines, reserve_lines};
 use crate::prepared_batch::{PreparedBatch, answer_batch, batch_of_lines};
 use agent_events::{Asked, Caller};
 use agent_keeper::{KeepFault, Keeper};
-use desk_lines::{note_lines, reserve_lines};
 use money_units::Moment;
 
 impl Desk {

@@ -2,8 +2,8 @@
 ghost use Rattle.std.specs.Prelude.{◌≡◌, ◌≢◌, ◌⊎◌, ◌≤◌, ◌++◌, [], Contains, IfOk, OnOk, OnErr, Ok, IsTrue, length, ℕ};
 ghost use Rattle.agent_keeper.specs.Calls.{Counts, GoesOn};
 ghost use Rattle.agent_keeper.specs.Content.{Content, after};
-ghost use Rattle.desk_answers.specs.Answered.{IsCaller, events_of};
-ghost use Rattle.desk_answers.specs.Steps.{AreStepsOf};
+ghost use Rattle.register_desk.specs.Answered.{IsCaller, events_of};
+ghost use Rattle.register_desk.specs.Steps.{AreStepsOf};
 ghost use Rattle.register_desk.specs.PreparedAnswers.{IsPreparedAt};
 ghost use Rattle.register_desk.specs.Rows.{TellsRowsOf, rows_of};
 ghost use Rattle.register_laws.specs.Lawful.{book_behind, own_at};
@@ -15,11 +15,13 @@ ghost use Rattle.register_machine.specs.rules.Callers.{caller_of};
 ghost use Rattle.register_machine.specs.run.Answers.{answer};
 ghost use Rattle.register_machine.specs.run.Verdicts.{verdict};
 
+use crate::answering::answer_request;
 use crate::faults::LedgerFault;
+use crate::looks::order_state;
 use crate::prepared::{Prepared, batch_of, give_up_answer, give_up_change, give_up_reply};
 use agent_events::{Caller, OrderRow, OrderState, Request};
 use agent_keeper::{KeepFault, Keeper};
-use desk_answers::{DeskBooks, answer_request, order_state};
+use desk_books::DeskBooks;
 use household_fold::Steps;
 use money_units::{Moment, NoMemory};
 use std::alloc::Global;
@@ -34,7 +36,7 @@ pub struct Desk {
 }
 
 impl Model for Desk {
-    ghost use Rattle.desk_answers.specs.desk_books.declared.books.DeskBooks.{DeskBooks as Books};
+    ghost use Rattle.desk_books.specs.declared.books.DeskBooks.{DeskBooks as Books};
     ghost use Rattle.register_desk.specs.Rows.{IsDesk};
 
     ghost Value = { Books };

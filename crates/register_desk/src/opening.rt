@@ -15,7 +15,7 @@ use crate::faults::StartFault;
 use crate::laws::lawful_rows_are_not_damaged;
 use crate::stored::open_rows;
 use agent_keeper::Keeper;
-use desk_answers::DeskBooks;
+use desk_books::DeskBooks;
 use household_fold::Steps;
 use std::alloc::Global;
 use std::sync::ledger::Ledger as StepLedger;

@@ -1,12 +1,13 @@
 //! A prepared answer.
 ghost use Rattle.std.specs.Prelude.{◌≡◌, [], true, All, IfOk, IfSome};
-ghost use Rattle.desk_answers.specs.Answered.{events_of};
+ghost use Rattle.register_desk.specs.Answered.{events_of};
 ghost use Rattle.event_rows.specs.InForm.{InForm, has_loads};
 ghost use Rattle.register_desk.specs.Rows.{rows_of};
 
+use crate::answering::Answered;
+use crate::ready_change::ReadyChange;
 use agent_events::Reply;
 use agent_keeper::Batch;
-use desk_answers::{Answered, ReadyChange};
 use event_rows::encode;
 use money_units::{Bytes, NoMemory};
 use std::alloc::Global;

@@ -2,9 +2,9 @@
 ghost use Rattle.std.specs.Prelude.{◌≡◌, ◌≤◌, ◌<◌, ◌+◌, [], Err, None, Some, IfOk, IfSome, IsTrue, OnOk, slice_get, ℕ};
 ghost use Rattle.agent_keeper.specs.Calls.{GoesOn, OnlyReads, Rose};
 ghost use Rattle.agent_keeper.specs.Content.{Content};
-ghost use Rattle.desk_answers.specs.StepBounds.{most_steps};
-ghost use Rattle.desk_answers.specs.desk_books.BooksOfJournals.{AreBooksOf, ShowTheSame};
-ghost use Rattle.desk_answers.specs.desk_books.ReadyChanges.{IsReady};
+ghost use Rattle.register_desk.specs.StepBounds.{most_steps};
+ghost use Rattle.desk_books.specs.BooksOfJournals.{AreBooksOf, ShowTheSame};
+ghost use Rattle.desk_books.specs.ReadyChanges.{IsReady};
 ghost use Rattle.event_rows.specs.InForm.{InForm};
 ghost use Rattle.event_rows.specs.Rows.{event_row};
 ghost use Rattle.register_desk.specs.Opening.{FindsNone, OpensRow, OpensRows, StopsAt};
@@ -13,8 +13,10 @@ ghost use Rattle.register_desk.specs.Rows.{FollowsAsNone, IsDesk};
 ghost use Rattle.register_desk.specs.declared.faults.StartFault.{StartFault as Fault};
 
 use crate::faults::StartFault;
+use crate::following::follows;
+use crate::ready_change::ReadyChange;
 use agent_keeper::Keeper;
-use desk_answers::{DeskBooks, ReadyChange, follows};
+use desk_books::DeskBooks;
 use event_rows::decode;
 use household_fold::Steps;
 use money_units::NoMemory;

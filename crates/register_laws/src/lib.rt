@@ -11,5 +11,6 @@ pub mod journal_laws;
 pub mod machine_laws;
 pub mod pricing_laws;
 pub mod replay_laws;
+pub mod replays;
 pub mod row_laws;
 pub mod trade_laws;

@@ -1,5 +1,5 @@
-//! What no run and no clause shows of the rules' crates: units, dates, terms, words of the command line, lots, exchanges, dividends,
-//! offering prices and sheets. Printed texts, the greatest numbers, long lists, and what a call answers that no request asks for.
+//! What no run and no clause shows of the rules' crates: units, dates, terms, lots, exchanges, dividends, offering prices
+//! and sheets. Printed texts, the greatest numbers, long lists, and what a call answers that no request asks for.
 #![tactic(auto)]
 
 #[cfg(test)]
@@ -24,5 +24,3 @@ mod sheets;
 mod terms;
 #[cfg(test)]
 mod units;
-#[cfg(test)]
-mod words;

@@ -6,7 +6,7 @@ ghost use Rattle.script_answers.specs.declared.answering.AnswerFault.TheVariants
 ghost use Rattle.agent_events.specs.declared.item.ScriptItem.{ScriptItem as Item};
 ghost use Rattle.agent_events.specs.declared.reply.Reply.{Reply as Said};
 ghost use Rattle.agent_keeper.specs.Calls.{Counts};
-ghost use Rattle.register_desk.specs.desk_answers.Answered.{IsCaller, events_of};
+ghost use Rattle.register_desk.specs.Answered.{IsCaller, events_of};
 ghost use Rattle.register_desk.specs.Rows.{TellsRowsOf};
 ghost use Rattle.register_laws.specs.Lawful.{own_at};
 ghost use Rattle.register_machine.specs.journal.Journals.{Journal, last_moment};
@@ -14,12 +14,12 @@ ghost use Rattle.register_machine.specs.run.Answers.{answer};
 ghost use Rattle.register_machine.specs.run.Scripts as run;
 
 use agent_edge::{Sink, write_whole};
-use agent_events::{Caller, Refusal, Reply, Request};
-use agent_http::{ScriptItem, ScriptItems, reply_line};
+use agent_events::{Caller, Refusal, Reply, Request, ScriptItem};
 use agent_keeper::{KeepFault, Keeper};
 use household_fold::Steps;
 use money_units::{Moment, NoMemory};
 use register_desk::{Desk, LedgerFault};
+use script_text::{ScriptItems, reply_line};
 use std::alloc::Global;
 use std::sync::ledger::Ledger as StepLedger;
 

@@ -5,8 +5,8 @@ use Rattle.std.proofs.lemmas.List.Elements.{All-map, filter_map-append}
 use Rattle.std.specs.List.{cons_option}
 use Rattle.std.specs.List.Sorted.{IsNonDecreasingBy}
 use Rattle.standing_orders.specs.Entries.{order_of}
-use Rattle.household_replay.specs.NumberedRows.{AreUpTo}
-use Rattle.household_replay.specs.Replays.{NumberedOrder}
+use Rattle.checkpoint_replay.specs.NumberedRows.{AreUpTo}
+use Rattle.checkpoint_replay.specs.Replays.{NumberedOrder}
 use Rattle.standing_orders.specs.declared.entries.NumberedRow.{NumberedRow}
 
 -- one place more of those that are walked over

@@ -13,3 +13,6 @@ pub mod RisingPlaces
 pub mod SettledPlaces
 pub mod SortedEntries
 pub mod WaitingKept
+-- the index of a journal's orders, event by event
+pub mod IndexSteps
+pub mod SettledStay

@@ -30,7 +30,7 @@ use Rattle.register_machine.specs.replay.Replay.{all_in_turn, is_priced_on, orde
 use Rattle.standing_orders.proofs.InTurn.{head-same, no-cons, tail-same}
 use Rattle.standing_orders.proofs.PricedOrders.{filter-both, found-all, mapped-found, under-number}
 use Rattle.standing_orders.specs.Entries.{is_under, numbered_at, numbered_begun, numbered_on, order_of, row_of, rows_of}
-use Rattle.household_replay.specs.Replays.{NumberedOrder}
+use Rattle.checkpoint_replay.specs.Replays.{NumberedOrder}
 use Rattle.standing_orders.proofs.LateOrders.{late-gathered}
 use Rattle.standing_orders.specs.Places.{not_before, places_from, places_where}
 use Rattle.standing_orders.specs.Priced.{AreOwnOnTrial, own_on}

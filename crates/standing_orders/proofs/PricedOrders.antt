@@ -20,7 +20,7 @@ use Rattle.register_machine.specs.pricing.CorrectedOrders.{stands}
 use Rattle.register_machine.specs.replay.Replay.{all_in_turn, is_priced_on, orders_on, priced_in, priced_orders}
 use Rattle.standing_orders.proofs.PickedRows.{chosen_at, picked-all}
 use Rattle.standing_orders.specs.Entries.{is_priced, is_under, order_of, owned_at, row_of, rows_of}
-use Rattle.household_replay.specs.Replays.{NumberedOrder, orders_under}
+use Rattle.checkpoint_replay.specs.Replays.{NumberedOrder, orders_under}
 use Rattle.standing_orders.specs.Places.{RisesWithin, is_among}
 use Rattle.standing_orders.specs.Priced.{ArePricedOn}
 use Rattle.standing_orders.specs.Rows.{AreOwners, is_taken}

@@ -14,7 +14,7 @@ use Rattle.register_laws.proofs.ListParts.{filter-map}
 use Rattle.register_machine.specs.replay.Replay.{all_in_turn}
 use Rattle.standing_orders.proofs.InTurn.{are-in-turn, received_at}
 use Rattle.standing_orders.specs.Entries.{is_under, order_of, row_of, rows_of}
-use Rattle.household_replay.specs.Replays.{NumberedOrder}
+use Rattle.checkpoint_replay.specs.Replays.{NumberedOrder}
 use Rattle.standing_orders.specs.declared.entries.NumberedRow.{NumberedRow}
 
 lt-of-cmp : (a b : ℕ) → is_lt (nat_cmp a b) ≡ nat_lt a b

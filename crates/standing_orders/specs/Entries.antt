@@ -10,7 +10,7 @@ use Rattle.register_laws.specs.Households.{is_of_household}
 use Rattle.register_machine.specs.journal.Choices.{when}
 use Rattle.register_machine.specs.pricing.CorrectedOrders.{stands}
 use Rattle.register_machine.specs.replay.Replay.{is_priced_on, priced_in}
-use Rattle.household_replay.specs.Replays.{NumberedOrder}
+use Rattle.checkpoint_replay.specs.Replays.{NumberedOrder}
 use Rattle.standing_orders.specs.Rows.{sheet_number}
 use Rattle.standing_orders.specs.declared.entries.NumberedRow.{NumberedRow}
 

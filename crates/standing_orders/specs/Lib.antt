@@ -17,3 +17,7 @@ pub mod Entries
 pub mod Priced
 -- what keeps the index enough
 pub mod WaitingLaws
+-- the index of a journal's orders, event by event
+pub mod IndexOfJournals
+-- the orders of a household that are settled up to a sheet, event by event
+pub mod SettledOrders

@@ -13,7 +13,7 @@ use Rattle.register_machine.specs.pricing.CorrectedBook.{Book}
 use Rattle.register_machine.specs.pricing.CorrectedOrders.{orders_of}
 use Rattle.register_machine.specs.replay.Replay.{orders_on, priced_orders}
 use Rattle.standing_orders.specs.Entries.{is_priced}
-use Rattle.household_replay.specs.Replays.{NumberedOrder, orders_under}
+use Rattle.checkpoint_replay.specs.Replays.{NumberedOrder, orders_under}
 use Rattle.standing_orders.specs.Places.{is_among}
 use Rattle.standing_orders.specs.Rows.{AreOwners, HasEach, is_settled, is_taken}
 

@@ -5,7 +5,7 @@ ghost use Rattle.register_machine.specs.replay.Replay.{all_in_turn};
 ghost use Rattle.standing_orders.specs.Entries.{is_under, order_of, rows_of};
 
 use agent_events::OrderRow;
-use household_replay::NumberedOrders;
+use checkpoint_replay::NumberedOrders;
 use money_units::NoMemory;
 use std::alloc::Global;
 

@@ -12,9 +12,9 @@ mod own_orders;
 mod row_sheet;
 mod sheet_orders;
 mod waiting;
+pub mod waiting_laws;
 
 pub use crate::class_households::ClassHouseholds;
 pub use crate::household_orders::HouseholdOrders;
 pub use crate::own_orders::orders_of_household;
 pub use crate::sheet_orders::orders_priced;
-pub use household_replay::NumberedOrders;

@@ -8,11 +8,11 @@ use Rattle.std.proofs.lemmas.Option.{same_Some}
 use Rattle.agent_events.specs.declared.checkpoint.LetterRow.{LetterRow}
 use Rattle.agent_events.specs.declared.checkpoint.PositionRow.{PositionRow}
 use Rattle.agent_events.specs.declared.checkpoint.StateRow.{StateRow}
-use Rattle.row_fields.specs.Exact.{IsBytes, IsField}
-use Rattle.row_fields.specs.Reading.{byte_at}
-use Rattle.row_fields.specs.Spelling.{four_bytes, list_bytes}
-use Rattle.row_fields.proofs.Fields.{IsBytes-rest, read_some, map_some, both, shaped, tested, byte_takes, whole_some, tagged, chosen}
-use Rattle.row_fields.proofs.EachField.{respelled, four_field, eight_field, sixteen_field, flag_field, day_field, rate_field, listed_field}
+use Rattle.event_rows.specs.Exact.{IsBytes, IsField}
+use Rattle.event_rows.specs.FieldReading.{byte_at}
+use Rattle.event_rows.specs.Spelling.{four_bytes, list_bytes}
+use Rattle.event_rows.proofs.Fields.{IsBytes-rest, read_some, map_some, both, shaped, tested, byte_takes, whole_some, tagged, chosen}
+use Rattle.event_rows.proofs.EachField.{respelled, four_field, eight_field, sixteen_field, flag_field, day_field, rate_field, listed_field}
 use Rattle.state_rows.specs.InForm.{IsLotRow, IsLetterRow, IsOpenLetter, IsPositionRow, IsKept, fits_lots, fits_lists}
 use Rattle.state_rows.specs.Rows.{lot, letter, open_letter, position, state_row}
 use Rattle.state_rows.specs.Rules.{keeps_rules}

@@ -7,7 +7,7 @@ use Rattle.agent_events.specs.declared.checkpoint.LotRow.{LotRow}
 use Rattle.agent_events.specs.declared.checkpoint.PositionRow.{PositionRow}
 use Rattle.agent_events.specs.declared.checkpoint.StateRow.{StateRow}
 use Rattle.agent_events.specs.Events.{fits_count}
-use Rattle.row_fields.specs.Ranges.{IsDay, IsBps, AreListed}
+use Rattle.event_rows.specs.Ranges.{IsDay, IsBps, AreListed}
 use Rattle.state_rows.specs.Rules.{keeps_rules}
 
 abbrev pub IsLotRow : LotRow → Type 0

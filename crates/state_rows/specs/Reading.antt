@@ -5,8 +5,8 @@ use Rattle.agent_events.specs.declared.checkpoint.LetterRow.{LetterRow}
 use Rattle.agent_events.specs.declared.checkpoint.LotRow.{LotRow}
 use Rattle.agent_events.specs.declared.checkpoint.PositionRow.{PositionRow}
 use Rattle.agent_events.specs.declared.checkpoint.StateRow.{StateRow}
-use Rattle.row_fields.specs.Reading.{◌&◌, map_read, kept, behind, byte_at, number_at, list_at, if_whole}
-use Rattle.row_fields.specs.Readers.{flag_at, sixteen_at, day_at, rate_at}
+use Rattle.event_rows.specs.FieldReading.{◌&◌, map_read, kept, behind, byte_at, number_at, list_at, if_whole}
+use Rattle.event_rows.specs.Readers.{flag_at, sixteen_at, day_at, rate_at}
 use Rattle.state_rows.specs.Rules.{keeps_rules}
 
 abbrev pub lot_of : ℕ × (ℕ × (ℕ × (ℕ × (ℕ × Bool)))) → LotRow

@@ -4,7 +4,7 @@ use Rattle.agent_events.specs.declared.checkpoint.LetterRow.{LetterRow}
 use Rattle.agent_events.specs.declared.checkpoint.LotRow.{LotRow}
 use Rattle.agent_events.specs.declared.checkpoint.PositionRow.{PositionRow}
 use Rattle.agent_events.specs.declared.checkpoint.StateRow.{StateRow}
-use Rattle.row_fields.specs.Spelling.{one_byte, two_bytes, four_bytes, eight_bytes, sixteen_bytes, flag, list_bytes}
+use Rattle.event_rows.specs.Spelling.{one_byte, two_bytes, four_bytes, eight_bytes, sixteen_bytes, flag, list_bytes}
 
 -- a lot: number, date, loose and held mils, cost, and whether it is free
 unfoldable pub lot : LotRow → List ℕ

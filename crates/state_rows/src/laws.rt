@@ -1,7 +1,7 @@
 //! Laws of checkpoint rows.
 ghost use Rattle.std.specs.Prelude.{◌≡◌, ◌++◌, ℕ, List};
 ghost use Rattle.agent_events.specs.declared.checkpoint.StateRow.{StateRow};
-ghost use Rattle.row_fields.specs.Exact.{IsField};
+ghost use Rattle.event_rows.specs.Exact.{IsField};
 ghost use Rattle.state_rows.specs.InForm.{IsKept};
 ghost use Rattle.state_rows.specs.Rows.{state_row};
 ghost use Rattle.state_rows.specs.Reading.{versioned_at};

@@ -1,13 +1,13 @@
 //! The readers of the parts of a checkpoint row. The items of a list are read one by one, so a count that the bytes don't
 //! bear out takes no memory.
 ghost use Rattle.std.specs.Prelude.{◌≡◌};
-ghost use Rattle.row_fields.specs.Reading.{Reads, items_at, list_at};
+ghost use Rattle.event_rows.specs.FieldReading.{Reads, items_at, list_at};
 ghost use Rattle.state_rows.specs.Reading as part;
 
 use crate::rules::keeps_rules;
 use agent_events::{LetterRow, LotRow, LotRows, PositionRow, PositionRows, StateRow};
+use event_rows::{RowFault, RowReader};
 use money_units::{Cents, Mils};
-use row_fields::{RowFault, RowReader};
 use std::alloc::Global;
 
 #[tactic(auto, unfolding(crate::specs::Reading::lot_at))]
@@ -63,7 +63,7 @@ fn read_open_letter(row: &mut RowReader) -> Result<Option<LetterRow>, RowFault>
 }
 
 // The lots behind their count.
-#[tactic(auto, unfolding(row_fields::specs::Reading::list_at))]
+#[tactic(auto, unfolding(event_rows::specs::FieldReading::list_at))]
 fn read_listed_lots(alloc: Global, row: &mut RowReader) -> Result<LotRows, RowFault>
     ensures { Reads result row.new (list_at part.lot_at row.old) }
 {
@@ -98,7 +98,7 @@ fn read_positions(alloc: Global, row: &mut RowReader, count: u16) -> Result<Posi
 }
 
 // The positions behind their count.
-#[tactic(auto, unfolding(row_fields::specs::Reading::list_at))]
+#[tactic(auto, unfolding(event_rows::specs::FieldReading::list_at))]
 fn read_listed_positions(alloc: Global, row: &mut RowReader) -> Result<PositionRows, RowFault>
     ensures { Reads result row.new (list_at part.position_at row.old) }
 {

@@ -1,7 +1,7 @@
 //! The checkpoint row of a state, and the state of a row.
 ghost use Rattle.std.specs.Prelude.{◌≡◌, true, Some, IfOk, IfSome};
 ghost use Rattle.agent_events.specs.declared.checkpoint.StateRow.{StateRow};
-ghost use Rattle.row_fields.specs.Reading.{Reads};
+ghost use Rattle.event_rows.specs.FieldReading.{Reads};
 ghost use Rattle.state_rows.specs.InForm.{IsKept, fits_lists};
 ghost use Rattle.state_rows.specs.Reading.{versioned_at, state_of_row};
 ghost use Rattle.state_rows.specs.Rows.{state_row};
@@ -9,8 +9,8 @@ ghost use Rattle.state_rows.specs.Rows.{state_row};
 use crate::readers::read_state;
 use crate::writers::put_state;
 use agent_events::StateRow;
+use event_rows::{RowFault, RowReader, RowWriter};
 use money_units::NoMemory;
-use row_fields::{RowFault, RowReader, RowWriter};
 use std::alloc::Global;
 
 /// The version of the rows that are written.

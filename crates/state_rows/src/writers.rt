@@ -2,14 +2,14 @@
 ghost use Rattle.std.specs.Prelude.{◌≡◌, ◌++◌, true, OnOk};
 ghost use Rattle.std.specs.List.{flat_map, list_all};
 ghost use Rattle.agent_events.specs.Events.{fits_count};
-ghost use Rattle.row_fields.specs.Spelling.{list_bytes, four_bytes};
+ghost use Rattle.event_rows.specs.Spelling.{list_bytes, four_bytes};
 ghost use Rattle.state_rows.specs.InForm.{fits_lots, fits_lists};
 ghost use Rattle.state_rows.specs.Rows as spelled;
 
 use agent_events::{LetterRow, LotRow, PositionRow, StateRow};
+use event_rows::RowWriter;
 use fund_calendar::Day;
 use money_units::NoMemory;
-use row_fields::RowWriter;
 
 // A date as its day number.
 fn put_day(row: &mut RowWriter, day: Day) -> Result<(), NoMemory>
@@ -41,7 +41,7 @@ fn put_each_lot(row: &mut RowWriter, lots: &[LotRow]) -> Result<(), NoMemory>
     Ok(())
 }
 
-#[tactic(auto, unfolding(row_fields::specs::Spelling::list_bytes))]
+#[tactic(auto, unfolding(event_rows::specs::Spelling::list_bytes))]
 fn put_lots(row: &mut RowWriter, lots: &[LotRow]) -> Result<(), NoMemory>
     requires { fits_count lots.now ≡ true }
     ensures { OnOk result (row.new ≡ row.old ++ list_bytes spelled.lot lots.now) }
@@ -102,7 +102,7 @@ fn put_each_position(row: &mut RowWriter, positions: &[PositionRow]) -> Result<(
     Ok(())
 }
 
-#[tactic(auto, unfolding(row_fields::specs::Spelling::list_bytes))]
+#[tactic(auto, unfolding(event_rows::specs::Spelling::list_bytes))]
 fn put_positions(row: &mut RowWriter, positions: &[PositionRow]) -> Result<(), NoMemory>
     requires count { fits_count positions.now ≡ true }
     requires lots { list_all fits_lots positions.now ≡ true }

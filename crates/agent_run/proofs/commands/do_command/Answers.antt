@@ -4,8 +4,8 @@ use Rattle.std.specs.Prelude.{Some}
 use Rattle.agent_run.proofs.EndsOfLoads.{load-ends}
 use Rattle.agent_run.proofs.EndsOfServing.{serve-ends}
 use Rattle.agent_run.specs.Ends.{Ends, Sides, sides_of}
-use Rattle.command_words.specs.Views.{command_view}
-use Rattle.command_words.specs.declared.command.Command.{Command}
+use Rattle.agent_run.specs.Views.{command_view}
+use Rattle.agent_run.specs.declared.command.Command.{Command}
 use Rattle.connection_service.specs.Answers.{clock_at}
 use Rattle.connection_service.specs.InTurn.{door_at}
 use Rattle.agent_run.proofs.commands.do_command.Goals as goal

@@ -5,8 +5,8 @@ use Rattle.std.specs.String.{string_bytes}
 use Rattle.agent_run.proofs.CommandBounds.{found-in-range}
 use Rattle.agent_run.proofs.EndsOfLoads.{ends-at-once}
 use Rattle.agent_run.specs.Ends.{Sides, sides_of}
-use Rattle.command_words.specs.Commands.{command_of}
-use Rattle.command_words.specs.Views.{command_view}
+use Rattle.agent_run.specs.Commands.{command_of}
+use Rattle.agent_run.specs.Views.{command_view}
 use Rattle.connection_service.specs.Answers.{clock_at}
 use Rattle.connection_service.specs.InTurn.{door_at}
 use Rattle.agent_run.proofs.commands.run.Goals as goal

@@ -6,7 +6,7 @@ use Rattle.checkpoint_replay.specs.Moves.{AreMoves, day_if_moved}
 use Rattle.checkpoint_replay.specs.Parts.{part_in}
 use Rattle.checkpoint_replay.specs.Sheets.{IsReached}
 use Rattle.checkpoint_replay.specs.declared.change.HouseholdMove.{HouseholdMove}
-use Rattle.household_replay.specs.NumberedRows.{numbers_met}
+use Rattle.checkpoint_replay.specs.NumberedRows.{numbers_met}
 use Rattle.std.proofs.Common.{All, List, ap, fold, subst, sym, ◌∙◌}
 use Rattle.std.proofs.lemmas.Result.{IfOk-weaker}
 use Rattle.checkpoint_replay.proofs.sheet.moves_of_sheet.Goals as goal

@@ -1,6 +1,6 @@
 -- That `push_moves_of_others` keeps its contract.
 use Rattle.checkpoint_replay.specs.Sheets.{moves_of_other, moves_of_others}
-use Rattle.household_replay.specs.NumberedRows.{numbers_met}
+use Rattle.checkpoint_replay.specs.NumberedRows.{numbers_met}
 use Rattle.std.proofs.Common.{ap, arith, drop, length, length-append, sym, ◌+◌, ◌∙◌, ◌≡◌}
 use Rattle.std.proofs.lemmas.List.Concat.{flat_map-cons}
 use Rattle.checkpoint_replay.proofs.sheet.push_moves_of_others.Goals as goal

@@ -1,6 +1,6 @@
 -- The moves of the households so far and those of the others that are left are those of all.
 use Rattle.checkpoint_replay.specs.Sheets.{moves_of_others}
-use Rattle.household_replay.specs.NumberedRows.{numbers_met}
+use Rattle.checkpoint_replay.specs.NumberedRows.{numbers_met}
 use Rattle.std.proofs.Common.{drop, length, ◌++◌, ◌+◌, ◌-◌, ◌≡◌}
 use Rattle.checkpoint_replay.proofs.sheet.push_moves_of_others.Given as goal
 

@@ -3,7 +3,7 @@ use Rattle.std.proofs.Common.{ap, subst, true, ◌∙◌, ◌≡◌}
 use Rattle.connection_service.proofs.answering.answer_call.Goals as goal
 use Rattle.connection_service.specs.Answers.{batch_asks_lines}
 use Rattle.dealer_lines.specs.Lines.{all_lines}
-use Rattle.http_calls.specs.declared.calls.CallAsk.{CallAsk}
+use Rattle.agent_http.specs.declared.calls.CallAsk.{CallAsk}
 
 pub answer_batch-requires-clause-lines : goal.answer_batch-requires-clause-lines
 answer_batch-requires-clause-lines g c =

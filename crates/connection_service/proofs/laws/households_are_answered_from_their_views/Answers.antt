@@ -2,7 +2,7 @@
 use Rattle.std.proofs.Common.{ap, max, subst}
 use Rattle.connection_service.proofs.laws.households_are_answered_from_their_views.Goals as goal
 use Rattle.connection_service.specs.Answers.{AnswersBy, Gets, IsAnswered, Said, said_once, said_to_request}
-use Rattle.http_calls.specs.Calls.{item_key}
+use Rattle.agent_http.specs.Calls.{item_key}
 use Rattle.register_machine.specs.journal.Journals.{last_moment}
 
 pub returns : goal.returns

@@ -7,8 +7,8 @@ use Rattle.agent_events.specs.declared.request.Request.{Request}
 use Rattle.connection_service.proofs.laws.requests_that_break_no_rule_are_accepted.Goals as goal
 use Rattle.connection_service.specs.Answers.{AnswersBy, Gets, IsAnswered, Kept, kept_at, said_to_request, situation_read}
 use Rattle.connection_service.specs.Requests.{IsRuled, SaysUnkept}
-use Rattle.http_calls.specs.Calls.{item_key}
-use Rattle.http_replies.specs.Bytes.{bytes_of}
+use Rattle.agent_http.specs.Calls.{item_key}
+use Rattle.agent_http.specs.Bytes.{bytes_of}
 use Rattle.register_laws.proofs.Choosing.{none_some}
 use Rattle.register_laws.specs.Completeness.{BringsItsEvent, IsRefusedByFirst, is_refusal, refusal_of}
 use Rattle.register_machine.specs.journal.Journals.{Journal}

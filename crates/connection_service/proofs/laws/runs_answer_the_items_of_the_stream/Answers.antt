@@ -1,6 +1,6 @@
 -- The proof of the law `runs_answer_the_items_of_the_stream`.
 use Rattle.std.proofs.Common.{List, [], ap, length, length-append, refl, sym, ℕ, ◌+◌, ◌++◌, ◌∙◌, ◌∷◌, ◌≡◌}
-use Rattle.http_calls.specs.Calls.{ends}
+use Rattle.agent_http.specs.Calls.{ends}
 use Rattle.http_stream.proofs.ItemLaws.{items-then}
 use Rattle.http_stream.specs.Stream.{Items, Stream, StreamItem}
 use Rattle.connection_service.proofs.laws.runs_answer_the_items_of_the_stream.Goals as goal

@@ -1,5 +1,5 @@
 -- The proof of the law `no_row_begins_another`.
-use Rattle.row_fields.proofs.Fields.{one_reading}
+use Rattle.event_rows.proofs.Fields.{one_reading}
 use Rattle.event_rows.proofs.WholeRows.{event_field}
 use Rattle.event_rows.proofs.laws.no_row_begins_another.Goals as goal
 

@@ -1,6 +1,6 @@
 -- What was read so far and what is still read make all of it.
 use Rattle.std.proofs.Common.{◌≡◌, ◌-◌}
-use Rattle.row_fields.specs.Reading.{with_front, items_at}
+use Rattle.event_rows.specs.FieldReading.{with_front, items_at}
 use Rattle.event_rows.specs.Reading.{price_at}
 use Rattle.event_rows.proofs.list_readers.read_prices.Given as goal
 

@@ -1,7 +1,7 @@
 -- That `read_rates` keeps its contract.
-use Rattle.row_fields.specs.Reading.{items_at}
-use Rattle.row_fields.proofs.Loops.{goes_on, ends, is_done, items_count}
-use Rattle.row_fields.specs.Readers.{rate_at}
+use Rattle.event_rows.specs.FieldReading.{items_at}
+use Rattle.event_rows.proofs.Loops.{goes_on, ends, is_done, items_count}
+use Rattle.event_rows.specs.Readers.{rate_at}
 use Rattle.std.proofs.lemmas.Result.{err_from_is_err_and}
 use Rattle.event_rows.proofs.list_readers.read_rates.Goals as goal
 

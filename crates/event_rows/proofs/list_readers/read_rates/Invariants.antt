@@ -1,7 +1,7 @@
 -- What was read so far and what is still read make all of it.
 use Rattle.std.proofs.Common.{◌≡◌, ◌-◌}
-use Rattle.row_fields.specs.Reading.{with_front, items_at}
-use Rattle.row_fields.specs.Readers.{rate_at}
+use Rattle.event_rows.specs.FieldReading.{with_front, items_at}
+use Rattle.event_rows.specs.Readers.{rate_at}
 use Rattle.event_rows.proofs.list_readers.read_rates.Given as goal
 
 abbrev pub invariant-loop : goal.invariant-loop

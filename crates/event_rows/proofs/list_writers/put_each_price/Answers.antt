@@ -1,5 +1,5 @@
 -- That `put_each_price` keeps its contract.
-use Rattle.row_fields.proofs.Loops.{written_more, all_more}
+use Rattle.event_rows.proofs.Loops.{written_more, all_more}
 use Rattle.event_rows.specs.InForm.{IsListedPrice}
 use Rattle.event_rows.specs.Rows.{price}
 use Rattle.event_rows.proofs.list_writers.put_each_price.Goals as goal

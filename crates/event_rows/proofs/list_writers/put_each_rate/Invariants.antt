@@ -1,8 +1,8 @@
 -- What is written is the items before this one, each in its range.
 use Rattle.std.proofs.Common.{◌≡◌, ◌++◌, take}
 use Rattle.std.specs.List.{flat_map, AllByRecursion}
-use Rattle.row_fields.specs.Ranges.{IsBps}
-use Rattle.row_fields.specs.Spelling.{two_bytes}
+use Rattle.event_rows.specs.Ranges.{IsBps}
+use Rattle.event_rows.specs.Spelling.{two_bytes}
 use Rattle.event_rows.proofs.list_writers.put_each_rate.Given as goal
 
 abbrev pub invariant-loop-rate : goal.invariant-loop-rate

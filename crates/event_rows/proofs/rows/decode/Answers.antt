@@ -3,7 +3,7 @@ use Rattle.std.proofs.Common.{◌≡◌, List, Option, Some, None, Result, Ok, E
 use Rattle.std.specs.Prelude.{ℕ, IfOk, IfSome}
 use Rattle.money_units.specs.declared.faults.NoMemory.{NoMemory}
 use Rattle.agent_events.specs.Events.{Event}
-use Rattle.row_fields.specs.Exact.{IsBytes}
+use Rattle.event_rows.specs.Exact.{IsBytes}
 use Rattle.event_rows.specs.InForm.{InForm}
 use Rattle.event_rows.specs.Reading.{event_of_row}
 use Rattle.event_rows.specs.Rows.{event_row}

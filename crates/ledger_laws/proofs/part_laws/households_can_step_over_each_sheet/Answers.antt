@@ -5,7 +5,7 @@ use Rattle.ledger_laws.proofs.OwnedParts.{owned_by_accounts}
 use Rattle.ledger_laws.proofs.part_laws.households_can_step_over_each_sheet.Goals as goal
 use Rattle.register_laws.specs.Households.{part_of}
 use Rattle.register_machine.specs.replay.Replay.{replay_to}
-use Rattle.household_replay.proofs.PremiseFacts.{owned_on}
+use Rattle.checkpoint_replay.proofs.PremiseFacts.{owned_on}
 
 pub returns : goal.returns
 returns c known book household sound facts have stand place d short =

@@ -1,7 +1,7 @@
 -- That `send` keeps its contract.
 use Rattle.std.proofs.Common.{Bool, List, ap, cond, ℕ, ◌++◌, ◌+◌, ◌∙◌}
 use Rattle.agent_events.specs.Events.{Event}
-use Rattle.register_desk.specs.desk_answers.Answered.{events_of}
+use Rattle.register_desk.specs.Answered.{events_of}
 use Rattle.load_requests.specs.Runs.{is_refusal}
 use Rattle.load_runs.proofs.Sending.{step_is}
 use Rattle.load_runs.specs.Running.{run_at}

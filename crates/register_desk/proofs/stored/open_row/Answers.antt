@@ -1,8 +1,8 @@
 -- That `open_row` keeps its contract.
 use Rattle.std.proofs.Common.{List, Option, Some, ap, subst, sym, ℕ, ◌≡◌, ◌∙◌}
 use Rattle.agent_keeper.specs.Calls.{Gives, row_is}
-use Rattle.desk_answers.specs.desk_books.BooksOfJournals.{AreBooksOf}
-use Rattle.desk_answers.specs.desk_books.declared.change.EventChange.{EventChange}
+use Rattle.desk_books.specs.BooksOfJournals.{AreBooksOf}
+use Rattle.desk_books.specs.declared.change.EventChange.{EventChange}
 use Rattle.event_rows.specs.InForm.{InForm}
 use Rattle.event_rows.specs.Rows.{event_row}
 use Rattle.register_desk.proofs.BoundsGoOn.{grows_by}

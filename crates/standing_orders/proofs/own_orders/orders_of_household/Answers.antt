@@ -6,7 +6,7 @@ use Rattle.register_machine.specs.pricing.CorrectedOrders.{orders_of}
 use Rattle.standing_orders.proofs.OwnOrders.{own-by-sheet}
 use Rattle.standing_orders.proofs.SortedEntries.{orders-rise}
 use Rattle.standing_orders.specs.Entries.{numbered_at, order_of}
-use Rattle.household_replay.specs.Replays.{NumberedOrder}
+use Rattle.checkpoint_replay.specs.Replays.{NumberedOrder}
 use Rattle.standing_orders.specs.Places.{not_before, places_where}
 use Rattle.standing_orders.specs.Rows.{is_owner}
 use Rattle.standing_orders.specs.declared.entries.NumberedRow.{NumberedRow}

@@ -5,7 +5,7 @@ use Rattle.register_machine.specs.pricing.CorrectedOrders.{orders_of}
 use Rattle.standing_orders.proofs.PricedOrders.{priced-on}
 use Rattle.standing_orders.proofs.SortedEntries.{orders-rise}
 use Rattle.standing_orders.specs.Entries.{order_of}
-use Rattle.household_replay.specs.Replays.{NumberedOrder}
+use Rattle.checkpoint_replay.specs.Replays.{NumberedOrder}
 use Rattle.standing_orders.specs.declared.entries.NumberedRow.{NumberedRow}
 use Rattle.standing_orders.proofs.sheet_orders.orders_priced.Goals as goal
 

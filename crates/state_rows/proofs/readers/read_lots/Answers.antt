@@ -1,6 +1,6 @@
 -- That `read_lots` keeps its contract.
-use Rattle.row_fields.specs.Reading.{items_at}
-use Rattle.row_fields.proofs.Loops.{goes_on, ends, is_done}
+use Rattle.event_rows.specs.FieldReading.{items_at}
+use Rattle.event_rows.proofs.Loops.{goes_on, ends, is_done}
 use Rattle.state_rows.specs.Reading.{lot_at}
 use Rattle.std.proofs.lemmas.Result.{err_from_is_err_and}
 use Rattle.state_rows.proofs.readers.read_lots.Goals as goal

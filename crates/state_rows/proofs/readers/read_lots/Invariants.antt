@@ -1,6 +1,6 @@
 -- What was read so far and what is still read make all of it.
 use Rattle.std.proofs.Common.{◌≡◌, ◌-◌}
-use Rattle.row_fields.specs.Reading.{with_front, items_at}
+use Rattle.event_rows.specs.FieldReading.{with_front, items_at}
 use Rattle.state_rows.specs.Reading.{lot_at}
 use Rattle.state_rows.proofs.readers.read_lots.Given as goal
 

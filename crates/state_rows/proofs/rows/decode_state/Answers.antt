@@ -3,7 +3,7 @@ use Rattle.std.proofs.Common.{◌≡◌, List, true, Option, Some, None, Result,
 use Rattle.std.specs.Prelude.{ℕ, IfOk, IfSome}
 use Rattle.money_units.specs.declared.faults.NoMemory.{NoMemory}
 use Rattle.agent_events.specs.declared.checkpoint.StateRow.{StateRow}
-use Rattle.row_fields.specs.Exact.{IsBytes}
+use Rattle.event_rows.specs.Exact.{IsBytes}
 use Rattle.state_rows.specs.InForm.{IsKept, fits_lists}
 use Rattle.state_rows.specs.Reading.{state_of_row}
 use Rattle.state_rows.specs.Rows.{state_row}

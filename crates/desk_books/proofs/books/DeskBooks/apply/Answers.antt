@@ -8,8 +8,8 @@ use Rattle.desk_books.specs.LedgerChanges.{IsPosted}
 use Rattle.desk_books.specs.OrderChanges.{waiting_after}
 use Rattle.order_book.proofs.BroughtFits.{lawful_fits}
 use Rattle.order_book.specs.Books.{NotedJournal}
-use Rattle.price_changes.proofs.LawfulChanges.{changes_prices}
-use Rattle.price_changes.specs.Changes.{CanChange}
+use Rattle.reference_tables.proofs.LawfulChanges.{changes_prices}
+use Rattle.reference_tables.specs.PriceChanges.{CanChange}
 use Rattle.register_laws.specs.OneEventMore.{corrected_table_by}
 use Rattle.register_machine.specs.pricing.CorrectedOrders.{orders_of}
 

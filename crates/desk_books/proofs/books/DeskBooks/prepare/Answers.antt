@@ -9,13 +9,13 @@ use Rattle.desk_books.specs.LedgerChanges.{IsLedgerChange}
 use Rattle.desk_books.specs.NotedClasses.{NotesOrder}
 use Rattle.desk_books.specs.OrderChanges.{ChangesOrders, NamesItsOrder}
 use Rattle.desk_books.specs.ReadyChanges.{HasItsMinute}
-use Rattle.journal_tables.proofs.EventTables.{brings_loads}
-use Rattle.journal_tables.specs.Tables.{IsInRange, brings_good_loads, tables_after}
-use Rattle.kept_of_journals.specs.KeptOfBooks.{AreKeptOf}
+use Rattle.reference_tables.proofs.EventTables.{brings_loads}
+use Rattle.reference_tables.specs.Tables.{IsInRange, brings_good_loads, tables_after}
+use Rattle.ledger_laws.specs.KeptOfBooks.{AreKeptOf}
 use Rattle.register_laws.specs.Lawful.{book_behind}
 use Rattle.order_book.specs.Books.{NotedJournal}
-use Rattle.price_changes.proofs.LawfulChanges.{changes_prices}
-use Rattle.price_changes.specs.Changes.{HasGoodCalendar, HasRoomFor, listing_brought}
+use Rattle.reference_tables.proofs.LawfulChanges.{changes_prices}
+use Rattle.reference_tables.specs.PriceChanges.{HasGoodCalendar, HasRoomFor, listing_brought}
 use Rattle.register_machine.specs.journal.Journals.{with_event}
 use Rattle.register_machine.specs.journal.Kinds.{accounts_of}
 use Rattle.register_machine.specs.journal.Lawful.{IsLawful}

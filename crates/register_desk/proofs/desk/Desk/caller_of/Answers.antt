@@ -1,7 +1,7 @@
 -- That `Desk::caller_of` keeps its contract.
 use Rattle.std.proofs.Common.{subst}
-use Rattle.desk_answers.specs.Answered.{IsCaller}
-use Rattle.desk_answers.specs.desk_books.declared.books.DeskBooks.{DeskBooks}
+use Rattle.register_desk.specs.Answered.{IsCaller}
+use Rattle.desk_books.specs.declared.books.DeskBooks.{DeskBooks}
 use Rattle.register_desk.proofs.KeysOfDealers.{caller_known}
 use Rattle.register_desk.proofs.desk.Desk.caller_of.Goals as goal
 

@@ -1,7 +1,7 @@
 -- That `Desk::commit` keeps its contract.
 use Rattle.std.proofs.Common.{subst}
-use Rattle.desk_answers.specs.desk_books.BooksOfJournals.{AreBooksOf}
-use Rattle.desk_answers.specs.desk_books.declared.change.EventChange.{EventChange}
+use Rattle.desk_books.specs.BooksOfJournals.{AreBooksOf}
+use Rattle.desk_books.specs.declared.change.EventChange.{EventChange}
 use Rattle.register_desk.proofs.DesksGoOn.{desk_more, noted_fits}
 use Rattle.register_desk.proofs.desk.Desk.commit.Goals as goal
 use Rattle.register_machine.specs.journal.Journals.{with_event}

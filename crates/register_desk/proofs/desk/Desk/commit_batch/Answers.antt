@@ -2,7 +2,7 @@
 use Rattle.std.proofs.Common.{List, subst, ◌++◌}
 use Rattle.agent_events.specs.declared.event.Placed.{Placed}
 use Rattle.dealer_lines.specs.Lines.{line_events}
-use Rattle.desk_answers.specs.desk_books.BooksOfJournals.{AreBooksOf}
+use Rattle.desk_books.specs.BooksOfJournals.{AreBooksOf}
 use Rattle.register_desk.proofs.DesksGoOn.{desk_behind}
 use Rattle.register_desk.proofs.desk.Desk.commit_batch.Goals as goal
 

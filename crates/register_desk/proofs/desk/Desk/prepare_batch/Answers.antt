@@ -1,7 +1,7 @@
 -- That `Desk::prepare_batch` keeps its contract.
 use Rattle.std.proofs.Common.{Ok, subst, ◌≡◌}
 use Rattle.dealer_lines.specs.Answers.{lines_given}
-use Rattle.desk_answers.specs.desk_books.declared.books.DeskBooks.{DeskBooks}
+use Rattle.desk_books.specs.declared.books.DeskBooks.{DeskBooks}
 use Rattle.register_desk.proofs.DesksGoOn.{desk_same}
 use Rattle.register_desk.specs.PreparedBatches.{batch_given}
 use Rattle.register_laws.specs.Lawful.{own_at}

@@ -1,0 +1,7 @@
+-- That `Digits::new` keeps its contract.
+use Rattle.std.proofs.Common.{rules}
+use Rattle.std.proofs.lemmas.Fmt.{length-decimal-le}
+use Rattle.agent_http.proofs.members.Digits.new.Goals as goal
+
+pub write_digits-start-requires : goal.write_digits-start-requires
+write_digits-start-requires c = search (rules, length-decimal-le 20)

@@ -1,6 +1,0 @@
--- The proof of the law `the_least_turn_is_kept`.
-use Rattle.correction_effects.proofs.LeastTurn.{least_stays}
-use Rattle.correction_effects.proofs.laws.the_least_turn_is_kept.Goals as goal
-
-pub returns-clause-more : goal.returns-clause-more
-returns-clause-more c = least_stays

@@ -1,3 +1,0 @@
--- The lemmas of this crate, file by file.
-pub mod RecordLaws
-pub mod RecordsToCome

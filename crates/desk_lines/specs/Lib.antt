@@ -1,2 +1,0 @@
--- when the orders of lines are ready to be noted in the books
-pub mod ReadyLines

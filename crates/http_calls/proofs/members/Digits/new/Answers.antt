@@ -1,7 +1,0 @@
--- That `Digits::new` keeps its contract.
-use Rattle.std.proofs.Common.{rules}
-use Rattle.std.proofs.lemmas.Fmt.{length-decimal-le}
-use Rattle.http_calls.proofs.members.Digits.new.Goals as goal
-
-pub write_digits-start-requires : goal.write_digits-start-requires
-write_digits-start-requires c = search (rules, length-decimal-le 20)

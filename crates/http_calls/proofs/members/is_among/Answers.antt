@@ -1,8 +1,0 @@
--- That `is_among` keeps its contract.
-use Rattle.std.proofs.Common.{◌∙◌, sym}
-use Rattle.std.specs.Prelude.{bytes_eq}
-use Rattle.http_calls.proofs.MemberLaws.{list_any-map}
-use Rattle.http_calls.proofs.members.is_among.Goals as goal
-
-pub returns : goal.returns
-returns c = c.is_one_of.ensures ∙ sym (list_any-map (bytes_eq c.args.text.now) (λ name. name.now) c.args.names.now)

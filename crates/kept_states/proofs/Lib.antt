@@ -1,2 +1,0 @@
--- The lemmas of this crate, file by file.
-pub mod StateFacts

@@ -1,8 +1,0 @@
--- What is found so far is the last one of those before this place.
-use Rattle.std.proofs.Common.{take, ◌≡◌}
-use Rattle.std.specs.Option.{option_copied}
-use Rattle.kept_states.specs.KeptStates.{last_before}
-use Rattle.kept_states.proofs.states.last_before.Given as goal
-
-abbrev pub invariant-loop-kept : goal.invariant-loop-kept
-invariant-loop-kept l = option_copied l.found ≡ last_before l.sheet (take l.kept-index l.states)

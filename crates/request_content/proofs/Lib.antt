@@ -1,2 +1,0 @@
--- parts that are compared in another shape
-pub mod SameParts

@@ -1,0 +1,4 @@
+-- The lemmas of this crate, file by file.
+pub mod RecordLaws
+pub mod RecordsToCome
+pub mod ItemLists

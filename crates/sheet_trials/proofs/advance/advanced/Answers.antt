@@ -1,6 +1,0 @@
--- That `advanced` keeps its contract.
-use Rattle.sheet_trials.proofs.advance.advanced.Goals as goal
-
-pub advance_all-requires-clause-households : goal.advance_all-requires-clause-households
-advance_all-requires-clause-households g c =
-    rw (c.terms.ensures.value, c.accounts.ensures.value, c.rates.ensures.value) c.requires.households

@@ -1,2 +1,0 @@
--- the statements of a lawful journal
-pub mod LawfulStatements

@@ -1,4 +1,0 @@
-//! Laws of the statements of a lawful journal.
-#![tactic(auto)]
-
-pub mod laws;

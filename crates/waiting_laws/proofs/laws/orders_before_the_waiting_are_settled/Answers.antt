@@ -1,9 +1,0 @@
--- The proof of the law `orders_before_the_waiting_are_settled`.
-use Rattle.waiting_laws.proofs.SettledStay.{begun-before, settled-before}
-use Rattle.waiting_laws.proofs.laws.orders_before_the_waiting_are_settled.Goals as goal
-
-pub returns : goal.returns
-returns c journal owners waiting lawful is = record {
-  begun = begun-before journal owners waiting is;
-  settled = settled-before journal owners waiting lawful is;
-}
