@@ -55,7 +55,7 @@ use Rattle.ledger_laws.proofs.MovedDays.{differences-by-days}
 use Rattle.standing_orders.proofs.IndexSteps.{last-found}
 use Rattle.desk_books.proofs.QuietSheets.{reached-by-book}
 use Rattle.desk_books.specs.SheetReach.{IsReached, TakeOneStepEach}
-use Rattle.desk_books.specs.SheetTrials.{IsOnTrial, known_in}
+use Rattle.desk_books.specs.SheetTrials.{IsOnTrial, known_on_sheet}
 use Rattle.standing_orders.proofs.PricedLast.{last_takes, priced_after_waiting}
 use Rattle.standing_orders.specs.Entries.{is_priced}
 use Rattle.standing_orders.specs.Priced.{ArePricedOn, IsOfBook}
@@ -149,14 +149,14 @@ module _ (books : DeskBooks) (number : ℕ) (event : Event) (on : IsOnTrial book
   abbrev known_with : Table → Known
   known_with table = record { table = table; terms = books.tables.terms; accounts = books.tables.accounts; rates = books.tables.rates; patch = None; sheet = number }
 
-  served : ServeLastSheet (known_in books number) (book_behind (with_event books.book.journal event))
+  served : ServeLastSheet (known_on_sheet books number) (book_behind (with_event books.book.journal event))
   served =
       subst (λ (table : Table). ServeLastSheet (known_with table) (book_behind (with_event books.book.journal event))) (sym on.prices)
       (new_sheet_served books.book.journal books.tables event on.form number on.follows on.sheet on.tables (on.last ∙ ap (λ (t : Table). length t.sheets) on.prices))
 
-  at-hand : sheet_at_hand (known_in books number) ≡ sheet_behind books.book.journal on.form
+  at-hand : sheet_at_hand (known_on_sheet books number) ≡ sheet_behind books.book.journal on.form
   at-hand =
-      let known = known_in books number in
+      let known = known_on_sheet books number in
       let sheets = (book_behind books.book.journal).table.sheets in
       let new = sheet_behind books.book.journal on.form in
       let later = (book_behind (with_event books.book.journal event)).table.sheets in
@@ -167,9 +167,9 @@ module _ (books : DeskBooks) (number : ℕ) (event : Event) (on : IsOnTrial book
       ap (λ n. sheet_at_hand (known_on known n)) (sym same)
       ∙ (served.serve.facts.at_hand (length sheets) no_sheet (omega (arith, many)) ∙ last)
 
-  pub advances : (rows : List NumberedOrder) → ArePriced books number rows → AdvancesTo (known_in books number) rows (book_behind (with_event books.book.journal event)) books.ledger.parts
+  pub advances : (rows : List NumberedOrder) → ArePriced books number rows → AdvancesTo (known_on_sheet books number) rows (book_behind (with_event books.book.journal event)) books.ledger.parts
   advances rows priced =
-      ledger_advances (known_in books number) rows books.book.journal event on.form books.ledger.parts on.follows on.sheet served (rows-on rows priced) on.ledger
+      ledger_advances (known_on_sheet books number) rows books.book.journal event on.form books.ledger.parts on.follows on.sheet served (rows-on rows priced) on.ledger
 
   -- ---- what the sheet makes of each household
 
@@ -179,12 +179,12 @@ module _ (books : DeskBooks) (number : ℕ) (event : Event) (on : IsOnTrial book
       ∙ sym (on.ledger.part household)
 
   -- the day that a step leaves is the household's in the book behind the sheet
-  pub step-leads : (rows : List NumberedOrder) → ArePriced books number rows → (household : ℕ) → day_behind (known_in books number) (orders_under household rows) (part_in books.ledger.parts household) ≡ part_of (book_behind (with_event books.book.journal event)).accounts household (replay (book_behind (with_event books.book.journal event)))
+  pub step-leads : (rows : List NumberedOrder) → ArePriced books number rows → (household : ℕ) → day_behind (known_on_sheet books number) (orders_under household rows) (part_in books.ledger.parts household) ≡ part_of (book_behind (with_event books.book.journal event)).accounts household (replay (book_behind (with_event books.book.journal event)))
   step-leads rows priced household =
       let journal = books.book.journal in
       let old = replay (book_behind journal) in
       let book = book_behind (with_event journal event) in
-      let known = known_in books number in
+      let known = known_on_sheet books number in
       let new = sheet_behind journal on.form in
       let day = part_of book.accounts household old in
       let step = steps_as_part book known household new old served.serve.facts.alike at-hand (in-order (book_behind journal)) in
@@ -195,31 +195,31 @@ module _ (books : DeskBooks) (number : ℕ) (event : Event) (on : IsOnTrial book
 
   -- ---- whom the sheet reaches
 
-  reached-once : (rows : List NumberedOrder) → ArePriced books number rows → (household : ℕ) → is_quiet_for (known_in books number) (orders_under household rows) (part_in books.ledger.parts household).register ≡ false → IsReached books.book.journal event on.form household
+  reached-once : (rows : List NumberedOrder) → ArePriced books number rows → (household : ℕ) → is_quiet_for (known_on_sheet books number) (orders_under household rows) (part_in books.ledger.parts household).register ≡ false → IsReached books.book.journal event on.form household
   reached-once rows priced household fails =
       let journal = books.book.journal in
       let book = book_behind (with_event journal event) in
-      let known = known_in books number in
+      let known = known_on_sheet books number in
       let new = sheet_behind journal on.form in
       let here = ap (λ (day : Day). is_quiet_for known (orders_under household rows) day.register) (part-before household) in
       reached-by-book known book new (own_orders book.accounts household (orders_on (priced_orders book) new)) (orders_under household rows) (part_of book.accounts household (replay (book_behind journal))).register
       served.serve.facts.alike at-hand (rows-on rows priced household) (here ∙ fails)
 
-  pub steps-taken : (rows : List NumberedOrder) → ArePriced books number rows → (moves : List HouseholdMove) → AreApart moves → All (IsMoved (known_in books number) rows books.ledger.parts) moves → (before after : ℕ) → after ≡ before + length moves → TakeOneStepEach books.book.journal event (households_of moves) before after
+  pub steps-taken : (rows : List NumberedOrder) → ArePriced books number rows → (moves : List HouseholdMove) → AreApart moves → All (IsMoved (known_on_sheet books number) rows books.ledger.parts) moves → (before after : ℕ) → after ≡ before + length moves → TakeOneStepEach books.book.journal event (households_of moves) before after
   steps-taken rows priced moves apart reached before after count = record {
     apart = apart;
     reached = λ form is.
         let same : on.form ≡ form = some-same (sym (ap sheet_in on.sheet) ∙ ap sheet_in is) in
         subst (λ (f : SheetForm). All (IsReached books.book.journal event f) (households_of moves)) same
         (All-map (IsReached books.book.journal event on.form) (λ (change : HouseholdMove). change.household) moves
-        (All-weaker (IsMoved (known_in books number) rows books.ledger.parts) (λ (change : HouseholdMove). IsReached books.book.journal event on.form change.household)
+        (All-weaker (IsMoved (known_on_sheet books number) rows books.ledger.parts) (λ (change : HouseholdMove). IsReached books.book.journal event on.form change.household)
         (λ change moved. reached-once rows priced change.household moved) moves reached));
     count = count ∙ ap (λ n. before + n) (sym (length-map moves (λ (change : HouseholdMove). change.household)));
   }
 
   -- ---- what the sheet makes of the ledger
 
-  pub moves-ledger : (rows : List NumberedOrder) → ArePriced books number rows → (change : LedgerChange) → AreApart change.change.moves → ((household : ℕ) → part_after change.change.moves books.ledger.parts household ≡ day_behind (known_in books number) (orders_under household rows) (part_in books.ledger.parts household)) → AreChangesOf change.change.changes books.ledger.parts change.change.moves → change.correction ≡ None → size_of_cash change.change.changes.cash ≤ most_cash → size_of_mils change.change.changes.outstanding ≤ most_mils → IsLedgerChange books.book.journal event books.ledger.parts (Some change)
+  pub moves-ledger : (rows : List NumberedOrder) → ArePriced books number rows → (change : LedgerChange) → AreApart change.change.moves → ((household : ℕ) → part_after change.change.moves books.ledger.parts household ≡ day_behind (known_on_sheet books number) (orders_under household rows) (part_in books.ledger.parts household)) → AreChangesOf change.change.changes books.ledger.parts change.change.moves → change.correction ≡ None → size_of_cash change.change.changes.cash ≤ most_cash → size_of_mils change.change.changes.outstanding ≤ most_mils → IsLedgerChange books.book.journal event books.ledger.parts (Some change)
   moves-ledger rows priced change apart days changes none cash mils =
       let journal = books.book.journal in
       let before = book_behind journal in

@@ -14,8 +14,8 @@ use Rattle.register_machine.specs.journal.Lawful.{IsLawful}
 use Rattle.standing_orders.specs.IndexOfJournals.{IsIndexOf}
 
 -- what a step reads of the books, with the sheet of this number at hand
-abbrev pub known_in : DeskBooks → ℕ → Known
-known_in books number = record {
+abbrev pub known_on_sheet : DeskBooks → ℕ → Known
+known_on_sheet books number = record {
   table = books.prices.table;
   terms = books.tables.terms;
   accounts = books.tables.accounts;

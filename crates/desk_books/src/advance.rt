@@ -11,7 +11,7 @@ ghost use Rattle.gain_loss_book.specs.Posted.{most_cash, size_of_cash};
 ghost use Rattle.household_fold.specs.Facts.{FactsFit};
 ghost use Rattle.checkpoint_replay.specs.Replays.{day_behind, orders_under};
 ghost use Rattle.desk_books.specs.SheetReach.{TakeOneStepEach};
-ghost use Rattle.desk_books.specs.SheetTrials.{IsOnTrial, known_in};
+ghost use Rattle.desk_books.specs.SheetTrials.{IsOnTrial, known_on_sheet};
 
 use crate::books::DeskBooks;
 use crate::change::LedgerChange;
@@ -56,15 +56,15 @@ fn advanced<L: StepLedger>(
     orders: &NumberedOrders,
     steps: &mut Steps<L>,
 ) -> Result<Change, NoMemory>
-    requires facts { FactsFit (known_in books.now number) }
-    requires households { CanAdvance (known_in books.now number) orders.now
+    requires facts { FactsFit (known_on_sheet books.now number) }
+    requires households { CanAdvance (known_on_sheet books.now number) orders.now
         books.now.ledger.parts }
     ensures days { IfOk result (λ change. (household : ℕ)
         → part_after change.moves books.now.ledger.parts household
-        ≡ day_behind (known_in books.now number) (orders_under household orders.now)
+        ≡ day_behind (known_on_sheet books.now number) (orders_under household orders.now)
         (part_in books.now.ledger.parts household)) }
     ensures reached { IfOk result (λ change.
-        All (IsReached (known_in books.now number) orders.now books.now.ledger.parts)
+        All (IsReached (known_on_sheet books.now number) orders.now books.now.ledger.parts)
         change.moves) }
     ensures differences { IfOk result (λ change.
         AreChangesOf change.changes books.now.ledger.parts change.moves) }

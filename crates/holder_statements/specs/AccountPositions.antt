@@ -1,11 +1,12 @@
 -- What an account holds, found class by class in the register of its household.
 use Rattle.std.specs.List.{list_any}
-use Rattle.std.specs.Prelude.{AllPairs, All, List, None, Option, Some, [], find, if◌then◌else◌, length, map, nat_eq, option_and_then, option_map, true, ℕ, ◌==◌, ◌<◌, ◌≡◌}
+use Rattle.std.specs.Prelude.{AllPairs, All, List, None, Option, Some, [], if◌then◌else◌, length, map, nat_eq, option_and_then, true, ℕ, ◌==◌, ◌<◌, ◌≡◌}
 use Rattle.agent_events.specs.declared.reply.Reply.{Reply}
 use Rattle.agent_events.specs.declared.reply_lists.PositionText.{PositionText}
+use Rattle.holder_statements.specs.Holdings.{holding_in}
 use Rattle.household_fold.specs.Households.{Household}
 use Rattle.register_machine.specs.queries.Show.{position_text, positions_of}
-use Rattle.register_machine.specs.replay.Positions.{Register, is_position}
+use Rattle.register_machine.specs.replay.Positions.{Register}
 use Rattle.share_lots.specs.Lots.{Holding, cost_total, held_total, loose_total}
 
 -- the register of a household, empty where nothing is kept of it
@@ -23,9 +24,6 @@ text_of_holding class holding =
       held = held_total holding;
       cost = cost_total holding;
     })
-
-abbrev pub holding_in : Register → ℕ → ℕ → Option Holding
-holding_in register account class = option_map (λ position. position.holding) (find (is_position account class) register)
 
 abbrev pub text_in : Register → ℕ → ℕ → Option PositionText
 text_in register account class = option_and_then (text_of_holding class) (holding_in register account class)

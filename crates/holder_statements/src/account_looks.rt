@@ -2,7 +2,8 @@
 ghost use Rattle.std.specs.Prelude.{◌≡◌, filter_map, option_and_then, IfOk};
 ghost use Rattle.std.specs.Option.{option_copied};
 ghost use Rattle.household_positions.specs.Register.{AreInOrder};
-ghost use Rattle.holder_statements.specs.AccountPositions.{AreListedOf, AreRising, holding_in, register_in, reply_of_holdings, text_in, text_of_holding};
+ghost use Rattle.holder_statements.specs.AccountPositions.{AreListedOf, AreRising, register_in, reply_of_holdings, text_in, text_of_holding};
+ghost use Rattle.holder_statements.specs.Holdings.{holding_in};
 
 use agent_events::{Identifier, PositionText, Positions, Reply};
 use household_fold::HouseholdState;
