@@ -16,7 +16,7 @@ use money_units::{Bytes, NoMemory};
 use std::alloc::Global;
 
 /// The texts of a reply: `ok`, the reply's name and its texts, or `no`, the number of the refusal and its values.
-pub(crate) fn reply_fields(alloc: Global, reply: &Reply) -> Result<Fields, NoMemory>
+pub fn reply_fields(alloc: Global, reply: &Reply) -> Result<Fields, NoMemory>
     ensures { IfOk result (λ fields. fields ≡ answer_texts reply.now) }
 {
     match reply {
