@@ -1,5 +1,5 @@
 -- The path of a look at an account has four parts, and the last of them is digits alone.
-use Rattle.std.proofs.Common.{◌≡◌, ◌≤◌, ℕ, ◌+◌, Bool, true, false, not, cond, eqb, List, [], ◌∷◌, ◌++◌, length, take, drop, Option, Some, None, Ok, codes, refl, sym, ap, ◌∙◌, arith}
+use Rattle.std.proofs.Common.{◌≡◌, ◌≤◌, ℕ, ◌+◌, Bool, true, false, not, cond, eqb, List, [], ◌∷◌, ◌++◌, length, take, drop, Option, Some, None, codes, refl, sym, ap, ◌∙◌, arith}
 use Rattle.std.specs.Prelude.{IfSome, bytes_eq}
 use Rattle.std.specs.Char.{is_ascii_digit}
 use Rattle.std.specs.List.{list_all, onto_first, position_or_len, slice_split}
@@ -58,12 +58,12 @@ is-number text account is = by (is_whole 19 text) refl
 
 answered-show : (text method : List ℕ) (account : ℕ) (size : Option ℕ) (body : List ℕ) → is_filled text ≡ true → bytes_eq method (codes "GET") ≡ true
     → identifier text ≡ Some account
-    → answered_by ([] ∷ codes "v1" ∷ codes "show" ∷ text ∷ []) method size body ≡ Ok (CallAsk.One (Ok (Request.Show account)))
+    → answered_by ([] ∷ codes "v1" ∷ codes "show" ∷ text ∷ []) method size body ≡ CallAsk.Request (Request.Show account)
 answered-show text method account size body filled get is = rw (filled, get, is) refl
 
 shows-account : (target method : List ℕ) (account : ℕ) → bytes_eq (take 9 target) (codes "/v1/show/") ≡ true
     → bytes_eq method (codes "GET") ≡ true → identifier (drop 9 target) ≡ Some account
-    → (size : Option ℕ) (body : List ℕ) → target_answer target method size body ≡ Ok (CallAsk.One (Ok (Request.Show account)))
+    → (size : Option ℕ) (body : List ℕ) → target_answer target method size body ≡ CallAsk.Request (Request.Show account)
 shows-account target method account path get is size body =
     let text = drop 9 target in
     let front : take 9 target ≡ codes "/v1/show/" = (bytes_eq-Decides (take 9 target) (codes "/v1/show/")).0 path in
@@ -77,6 +77,6 @@ shows-account target method account path get is size body =
 
 pub shown : (target method : List ℕ) (found : Option ℕ) → bytes_eq (take 9 target) (codes "/v1/show/") ≡ true → bytes_eq method (codes "GET") ≡ true
     → found ≡ identifier (drop 9 target)
-    → IfSome found (λ account. (size : Option ℕ) (body : List ℕ) → target_answer target method size body ≡ Ok (CallAsk.One (Ok (Request.Show account))))
+    → IfSome found (λ account. (size : Option ℕ) (body : List ℕ) → target_answer target method size body ≡ CallAsk.Request (Request.Show account))
 shown target method None path get is = tt
 shown target method (Some account) path get is = shows-account target method account path get (sym is)

@@ -1,5 +1,5 @@
 -- A whole message gives the next item of its stream.
-use Rattle.std.proofs.Common.{◌≡◌, ◌≤◌, ℕ, ◌+◌, Bool, true, false, cond, leb, ◌||◌, List, length, take, drop, Some, None, Result, Ok, Err, refl, sym, ap, ◌∙◌, arith}
+use Rattle.std.proofs.Common.{◌≡◌, ◌≤◌, ℕ, ◌+◌, Bool, true, false, cond, leb, List, length, take, drop, Some, None, refl, sym, ap, ◌∙◌, arith}
 use Rattle.std.specs.Option.{unwrap_or}
 use Rattle.std.proofs.lemmas.Bool.Decides.{nat_tests}
 use Rattle.httparse.specs.Grammar.{RequestHead, print_request}
@@ -10,7 +10,7 @@ use Rattle.http_stream.specs.Kept.{StandsAt}
 use Rattle.http_stream.specs.Stream.{IsHeadAt, IsItem, Message, Shown, Shows, Stream, StreamItem, after_item, behind, body_at, found_of, message_of, size_of}
 use Rattle.agent_http.specs.declared.calls.CallAsk.{CallAsk}
 use Rattle.agent_http.specs.declared.feed.Step.{Step}
-use Rattle.agent_http.specs.Calls.{answer, target_answer, closes_by, ends, fault_closes}
+use Rattle.agent_http.specs.Calls.{answer, target_answer, closes_by, ends}
 use Rattle.agent_http.specs.Steps.{StepsAs, answer_at}
 
 abbrev message_at : RequestHead → HeadAt → List ℕ → Message
@@ -30,45 +30,45 @@ found-is rest head at is within =
     ap (λ said. behind head said rest) is.length
     ∙ ap (λ b. cond b (Some (StreamItem.Whole (message_at head at rest), size_of head at.length)) None) test
 
-the-item : (stream : Stream) (head : RequestHead) (at : HeadAt) (result : Result CallAsk HttpFault) (after : Stream) → stream.closed ≡ false
+the-item : (stream : Stream) (head : RequestHead) (at : HeadAt) (ask : CallAsk) (after : Stream) → stream.closed ≡ false
     → Shows stream.rest (Shown.Head head) → IsHeadAt stream.rest head at → at.size + unwrap_or at.length 0 ≤ length stream.rest
-    → answer (message_at head at stream.rest) ≡ result → after ≡ after_item (closes_by at.closes result) (at.size + unwrap_or at.length 0) stream
+    → answer (message_at head at stream.rest) ≡ ask → after ≡ after_item (closes_by at.closes ask) (at.size + unwrap_or at.length 0) stream
     → IsItem ends stream (StreamItem.Whole (message_at head at stream.rest)) after
-the-item stream head at result after unclosed shows is within asks then_ = record {
+the-item stream head at ask after unclosed shows is within asks then_ = record {
   shown = Shown.Head head;
   used = size_of head at.length;
   is_open = unclosed;
   shows = shows;
   found = found-is stream.rest head at is within;
   after_is = then_
-      ∙ ap (λ size. after_item (closes_by at.closes result) (size + unwrap_or at.length 0) stream) is.size
-      ∙ ap (λ closes. after_item (closes_by closes result) (size_of head at.length) stream) is.closes
+      ∙ ap (λ size. after_item (closes_by at.closes ask) (size + unwrap_or at.length 0) stream) is.size
+      ∙ ap (λ closes. after_item (closes_by closes ask) (size_of head at.length) stream) is.closes
       ∙ ap (λ said. after_item (closes_by (message_at head at stream.rest).closes said) (size_of head at.length) stream) (sym asks);
 }
 
 pub call-step : (stream : Stream) (at : HeadAt) (ask : CallAsk) (key : List ℕ) (last : Bool) (after : Stream) → stream.closed ≡ false
-    → StandsAt stream.rest (Some at) → at.size + unwrap_or at.length 0 ≤ length stream.rest → Ok ask ≡ answer_at stream.rest at
-    → key ≡ span_bytes stream.rest at.key → after ≡ after_item at.closes (at.size + unwrap_or at.length 0) stream → last ≡ after.closed
+    → StandsAt stream.rest (Some at) → at.size + unwrap_or at.length 0 ≤ length stream.rest → ask ≡ answer_at stream.rest at
+    → key ≡ span_bytes stream.rest at.key → after ≡ after_item (closes_by at.closes ask) (at.size + unwrap_or at.length 0) stream → last ≡ after.closed
     → StepsAs stream (Step.Call (record { key = key; ask = ask; last = last })) after
 call-step stream at ask key last after unclosed stands within asks named then_ ends_so =
     let head = stands.0 in
-    let said : answer (message_at head at stream.rest) ≡ Ok ask = sym (answer-is stream.rest head at stands.2) ∙ sym asks in (
+    let said : answer (message_at head at stream.rest) ≡ ask = sym (answer-is stream.rest head at stands.2) ∙ sym asks in (
       StreamItem.Whole (message_at head at stream.rest),
-      the-item stream head at (Ok ask) after unclosed stands.1 stands.2 within said then_,
+      the-item stream head at ask after unclosed stands.1 stands.2 within said then_,
       said,
       named ∙ stands.2.key,
       ends_so,
     )
 
 pub fault-step : (stream : Stream) (at : HeadAt) (fault : HttpFault) (last : Bool) (after : Stream) → stream.closed ≡ false
-    → StandsAt stream.rest (Some at) → at.size + unwrap_or at.length 0 ≤ length stream.rest → Err fault ≡ answer_at stream.rest at
-    → after ≡ after_item (at.closes || fault_closes fault) (at.size + unwrap_or at.length 0) stream → last ≡ after.closed
+    → StandsAt stream.rest (Some at) → at.size + unwrap_or at.length 0 ≤ length stream.rest → CallAsk.Fault fault ≡ answer_at stream.rest at
+    → after ≡ after_item (closes_by at.closes (CallAsk.Fault fault)) (at.size + unwrap_or at.length 0) stream → last ≡ after.closed
     → StepsAs stream (Step.Fault fault last) after
 fault-step stream at fault last after unclosed stands within asks then_ ends_so =
     let head = stands.0 in
-    let said : answer (message_at head at stream.rest) ≡ Err fault = sym (answer-is stream.rest head at stands.2) ∙ sym asks in (
+    let said : answer (message_at head at stream.rest) ≡ CallAsk.Fault fault = sym (answer-is stream.rest head at stands.2) ∙ sym asks in (
       StreamItem.Whole (message_at head at stream.rest),
-      the-item stream head at (Err fault) after unclosed stands.1 stands.2 within said then_,
+      the-item stream head at (CallAsk.Fault fault) after unclosed stands.1 stands.2 within said then_,
       said,
       ends_so,
     )

@@ -1,10 +1,11 @@
 -- What an item of a stream asks: its route by the path and the method, and then the verb by its body or by the parts of the path.
-use Rattle.std.specs.Prelude.{ℕ, Bool, true, false, ◌&&◌, ◌||◌, not, ◌==◌, nat_le, List, [], length, drop, map, if◌then◌else◌, Option, Result, Ok, Err, codes, bytes_eq, is_some}
+use Rattle.std.specs.Prelude.{ℕ, Bool, true, false, ◌&&◌, ◌||◌, not, ◌==◌, nat_le, List, [], length, drop, map, if◌then◌else◌, Option, Ok, Err, codes, bytes_eq, is_some}
 use Rattle.std.specs.List.{before_first, list_all, slice_split}
 use Rattle.script_text.specs.Rows.{records_of}
 use Rattle.agent_events.specs.Forms.{field}
 use Rattle.agent_events.specs.Items.{asked_by, batch_line}
 use Rattle.agent_events.specs.JsonForms.{is_posted}
+use Rattle.agent_events.specs.VerbForms.{Asked}
 use Rattle.http_stream.specs.declared.fault.HttpFault.{HttpFault}
 use Rattle.http_stream.specs.Stream.{Message, StreamItem}
 use Rattle.agent_http.specs.Bodies.{asked_by_body}
@@ -57,36 +58,41 @@ abbrev pub route_of : List (List ℕ) → Route
 route_of parts =
     if is_rooted parts && list_all is_filled (drop 2 parts) then route_in (drop 2 parts) else Route.Missing
 
+-- a request, or the place of the first field that isn't in its form
+abbrev pub ask_of : Asked → CallAsk
+ask_of (Ok request) = CallAsk.Request request
+ask_of (Err place) = CallAsk.BadForm place
+
 -- a batch of at most 4,096 lines, each by itself; more are no batch
 abbrev pub batch_ask : List ℕ → CallAsk
 batch_ask body =
     if nat_le (length (records_of body)) 4096
     then CallAsk.Batch (map batch_line (records_of body))
-    else CallAsk.One (Err 0)
+    else CallAsk.BadForm 0
 
 -- a POST says how long its body is
-abbrev pub with_length : Option ℕ → CallAsk → Result CallAsk HttpFault
-with_length size asks = if is_some size then Ok asks else Err HttpFault.S411
+abbrev pub with_length : Option ℕ → CallAsk → CallAsk
+with_length size asks = if is_some size then asks else CallAsk.Fault HttpFault.S411
 
 -- what a request asks, or its fault: no route has the path, the route hasn't the method, a POST has no length
-abbrev pub answered_at : Route → List (List ℕ) → List ℕ → Option ℕ → List ℕ → Result CallAsk HttpFault
-answered_at Route.Missing parts method size body = Err HttpFault.S404
+abbrev pub answered_at : Route → List (List ℕ) → List ℕ → Option ℕ → List ℕ → CallAsk
+answered_at Route.Missing parts method size body = CallAsk.Fault HttpFault.S404
 answered_at Route.Batch parts method size body =
-    if bytes_eq method (codes "POST") then with_length size (batch_ask body) else Err HttpFault.S405
+    if bytes_eq method (codes "POST") then with_length size (batch_ask body) else CallAsk.Fault HttpFault.S405
 answered_at Route.Posted parts method size body =
     if bytes_eq method (codes "POST")
-    then with_length size (CallAsk.One (asked_by_body (field parts 3) body))
-    else Err HttpFault.S405
+    then with_length size (ask_of (asked_by_body (field parts 3) body))
+    else CallAsk.Fault HttpFault.S405
 answered_at Route.Look parts method size body =
-    if bytes_eq method (codes "GET") then Ok (CallAsk.One (asked_by (field parts 3) (drop 3 parts))) else Err HttpFault.S405
+    if bytes_eq method (codes "GET") then ask_of (asked_by (field parts 3) (drop 3 parts)) else CallAsk.Fault HttpFault.S405
 
-abbrev pub answered_by : List (List ℕ) → List ℕ → Option ℕ → List ℕ → Result CallAsk HttpFault
+abbrev pub answered_by : List (List ℕ) → List ℕ → Option ℕ → List ℕ → CallAsk
 answered_by parts method size body = answered_at (route_of parts) parts method size body
 
-abbrev pub target_answer : List ℕ → List ℕ → Option ℕ → List ℕ → Result CallAsk HttpFault
+abbrev pub target_answer : List ℕ → List ℕ → Option ℕ → List ℕ → CallAsk
 target_answer target method size body = answered_by (parts_of (path_of target)) method size body
 
-abbrev pub answer : Message → Result CallAsk HttpFault
+abbrev pub answer : Message → CallAsk
 answer message = target_answer message.target message.method message.length message.body
 
 -- a fault that closes the connection
@@ -95,16 +101,16 @@ fault_closes HttpFault.S404 = false
 fault_closes HttpFault.S405 = false
 fault_closes fault = true
 
-abbrev pub closes_by : Bool → Result CallAsk HttpFault → Bool
-closes_by closes (Ok asks) = closes
-closes_by closes (Err fault) = closes || fault_closes fault
+abbrev pub closes_by : Bool → CallAsk → Bool
+closes_by closes (CallAsk.Fault fault) = closes || fault_closes fault
+closes_by closes asks = closes
 
 -- whether a message closes the connection
 abbrev pub ends : Message → Bool
 ends message = closes_by message.closes (answer message)
 
-abbrev pub item_answer : StreamItem → Result CallAsk HttpFault
-item_answer (StreamItem.Closing fault) = Err fault
+abbrev pub item_answer : StreamItem → CallAsk
+item_answer (StreamItem.Closing fault) = CallAsk.Fault fault
 item_answer (StreamItem.Whole message) = answer message
 
 abbrev pub item_key : StreamItem → List ℕ

@@ -1,7 +1,6 @@
 -- What the feed gives of a stream.
-use Rattle.std.specs.Prelude.{◌≡◌, ℕ, List, take, drop, unwrap_or, Result, Ok, Err}
+use Rattle.std.specs.Prelude.{◌≡◌, ℕ, List, take, drop, unwrap_or}
 use Rattle.httparse.specs.Spans.{span_bytes}
-use Rattle.http_stream.specs.declared.fault.HttpFault.{HttpFault}
 use Rattle.http_stream.specs.declared.head.HeadAt.{HeadAt}
 use Rattle.http_stream.specs.Stream.{IsItem, Stream, StreamItem, Undecided}
 use Rattle.agent_http.specs.declared.feed.Step.{Step}
@@ -12,12 +11,12 @@ use Rattle.agent_http.specs.Calls.{target_answer, ends, item_answer, item_key}
 abbrev pub StepsAs : Stream → Step → Stream → Type 0
 StepsAs stream Step.Need after = Undecided stream × (after ≡ stream)
 StepsAs stream (Step.Call call) after =
-    (item : StreamItem) × IsItem ends stream item after × (item_answer item ≡ Ok call.ask) × (call.key ≡ item_key item)
+    (item : StreamItem) × IsItem ends stream item after × (item_answer item ≡ call.ask) × (call.key ≡ item_key item)
     × (call.last ≡ after.closed)
 StepsAs stream (Step.Fault fault last) after =
-    (item : StreamItem) × IsItem ends stream item after × (item_answer item ≡ Err fault) × (last ≡ after.closed)
+    (item : StreamItem) × IsItem ends stream item after × (item_answer item ≡ CallAsk.Fault fault) × (last ≡ after.closed)
 
 -- what the message asks whose head stands here
-abbrev pub answer_at : List ℕ → HeadAt → Result CallAsk HttpFault
+abbrev pub answer_at : List ℕ → HeadAt → CallAsk
 answer_at rest at =
     target_answer (span_bytes rest at.target) (span_bytes rest at.method) at.length (take (unwrap_or at.length 0) (drop at.size rest))

@@ -1,5 +1,5 @@
 //! What a request asks.
-ghost use Rattle.std.specs.Prelude.{◌≡◌, ℕ, Result, Ok, Err, map, drop, bytes_eq, codes, if◌then◌else◌, IfOk};
+ghost use Rattle.std.specs.Prelude.{◌≡◌, ℕ, Result, map, drop, bytes_eq, codes, if◌then◌else◌, IfOk};
 ghost use Rattle.agent_events.specs.Forms as form;
 ghost use Rattle.agent_events.specs.Items.{asked_by, batch_line};
 ghost use Rattle.request_fields.specs.Reading.{Gives};
@@ -19,15 +19,19 @@ use std::alloc::Global;
 /// What the lines of a batch ask in order.
 pub type BatchAsks = List<Asked>;
 
-/// What a request over HTTP asks.
+/// What a request over HTTP asks, or why it asks nothing.
 #[derive(Debug, Drop)]
 pub enum CallAsk {
-    One(Asked),
+    Request(Request),
+    /// The place of the first field that isn't in its form.
+    BadForm(u8),
     /// A dealer's lines, each by itself.
     Batch(BatchAsks),
+    /// Its route, its method or its length is none of the house's: the fault, whose reply is fixed.
+    Fault(HttpFault),
 }
 
-/// What a request asks, or its fault.
+/// What a request asks.
 pub(crate) fn answered(
     alloc: Global,
     scratch: &mut Scratch,
@@ -35,7 +39,7 @@ pub(crate) fn answered(
     method: &[u8],
     size: Option<usize>,
     body: &[u8],
-) -> Result<Result<CallAsk, HttpFault>, NoMemory>
+) -> Result<CallAsk, NoMemory>
     ensures { IfOk result
         (λ answer. answer ≡ spec.target_answer target.now method.now size body.now) }
 {
@@ -51,14 +55,14 @@ fn answered_by(
     method: &[u8],
     size: Option<usize>,
     body: &[u8],
-) -> Result<Result<CallAsk, HttpFault>, NoMemory>
+) -> Result<CallAsk, NoMemory>
     ensures { IfOk result
         (λ answer.
         answer
         ≡ spec.answered_by (map (λ part. part.now) parts.now) method.now size body.now) }
 {
     match route_of(parts) {
-        Route::Missing => Ok(Err(HttpFault::S404)),
+        Route::Missing => Ok(CallAsk::Fault(HttpFault::S404)),
         Route::Batch => batch_answer(alloc, method, size, body),
         Route::Posted => posted_answer(alloc, scratch, parts, method, size, body),
         Route::Look => look_answer(alloc, parts, method),
@@ -72,19 +76,19 @@ fn batch_answer(
     method: &[u8],
     size: Option<usize>,
     body: &[u8],
-) -> Result<Result<CallAsk, HttpFault>, NoMemory>
+) -> Result<CallAsk, NoMemory>
     ensures { IfOk result
         (λ answer.
         answer
         ≡ (if bytes_eq method.now (codes "POST") then spec.with_length size
-        (spec.batch_ask body.now) else Err HttpFault.S405)) }
+        (spec.batch_ask body.now) else CallAsk.Fault HttpFault.S405)) }
 {
     if !same_bytes(method, b"POST") {
-        Ok(Err(HttpFault::S405))
+        Ok(CallAsk::Fault(HttpFault::S405))
     } else if size.is_none() {
-        Ok(Err(HttpFault::S411))
+        Ok(CallAsk::Fault(HttpFault::S411))
     } else {
-        Ok(Ok(batch_ask(alloc, body)?))
+        batch_ask(alloc, body)
     }
 }
 
@@ -96,47 +100,47 @@ fn posted_answer(
     method: &[u8],
     size: Option<usize>,
     body: &[u8],
-) -> Result<Result<CallAsk, HttpFault>, NoMemory>
+) -> Result<CallAsk, NoMemory>
     ensures { IfOk result (λ answer. answer ≡ (if bytes_eq method.now (codes "POST")
-        then spec.with_length size (CallAsk.One
+        then spec.with_length size (spec.ask_of
         (asked_by_body (form.field (map (λ part. part.now) parts.now) 3) body.now))
-        else Err HttpFault.S405)) }
+        else CallAsk.Fault HttpFault.S405)) }
 {
     if !same_bytes(method, b"POST") {
-        Ok(Err(HttpFault::S405))
+        Ok(CallAsk::Fault(HttpFault::S405))
     } else if size.is_none() {
-        Ok(Err(HttpFault::S411))
+        Ok(CallAsk::Fault(HttpFault::S411))
     } else {
-        match asked_by_body(alloc, scratch, part(parts, 3), body) {
-            Ok(request) => Ok(Ok(CallAsk::One(Ok(request)))),
-            Err(FormFault::Place(place)) => Ok(Ok(CallAsk::One(Err(place)))),
-            Err(FormFault::NoMemory) => Err(NoMemory),
-        }
+        ask_of(asked_by_body(alloc, scratch, part(parts, 3), body))
     }
 }
 
-fn look_answer(
-    alloc: Global,
-    parts: &[&[u8]],
-    method: &[u8],
-) -> Result<Result<CallAsk, HttpFault>, NoMemory>
+fn look_answer(alloc: Global, parts: &[&[u8]], method: &[u8]) -> Result<CallAsk, NoMemory>
     ensures { IfOk result (λ answer. answer ≡ (if bytes_eq method.now (codes "GET")
-        then Ok (CallAsk.One (asked_by (form.field (map (λ part. part.now) parts.now) 3)
-        (drop 3 (map (λ part. part.now) parts.now))))
-        else Err HttpFault.S405)) }
+        then spec.ask_of (asked_by (form.field (map (λ part. part.now) parts.now) 3)
+        (drop 3 (map (λ part. part.now) parts.now)))
+        else CallAsk.Fault HttpFault.S405)) }
 {
     if !same_bytes(method, b"GET") {
-        return Ok(Err(HttpFault::S405));
+        return Ok(CallAsk::Fault(HttpFault::S405));
     }
-    match asked_by(alloc, part(parts, 3), behind(parts, 3)) {
-        Ok(request) => Ok(Ok(CallAsk::One(Ok(request)))),
-        Err(FormFault::Place(place)) => Ok(Ok(CallAsk::One(Err(place)))),
+    ask_of(asked_by(alloc, part(parts, 3), behind(parts, 3)))
+}
+
+// What was read is what is asked.
+fn ask_of(read: Result<Request, FormFault>) -> Result<CallAsk, NoMemory>
+    ensures { (want : Result Request ℕ) → Gives read want
+        → IfOk result (λ ask. ask ≡ spec.ask_of want) }
+{
+    match read {
+        Ok(request) => Ok(CallAsk::Request(request)),
+        Err(FormFault::Place(place)) => Ok(CallAsk::BadForm(place)),
         Err(FormFault::NoMemory) => Err(NoMemory),
     }
 }
 
-// What was read is asked, or the place of the field that isn't in its form.
-fn asked(read: Result<Request, FormFault>) -> Result<Asked, NoMemory>
+// What was read is a line of a batch, or the place of the field that isn't in its form.
+fn line_of(read: Result<Request, FormFault>) -> Result<Asked, NoMemory>
     ensures { (want : Result Request ℕ) → Gives read want → IfOk result (λ asks. asks ≡ want) }
 {
     match read {
@@ -151,7 +155,7 @@ fn batch_ask(alloc: Global, body: &[u8]) -> Result<CallAsk, NoMemory>
 {
     let rows = records_of(alloc, body)?;
     if rows.len() > 4096 {
-        return Ok(CallAsk::One(Err(0)));
+        return Ok(CallAsk::BadForm(0));
     }
     Ok(CallAsk::Batch(line_asks(alloc, &rows)?))
 }
@@ -170,5 +174,5 @@ fn line_ask(alloc: Global, row: &Fields) -> Result<Asked, NoMemory>
     ensures { IfOk result (λ asks. asks ≡ batch_line row.now) }
 {
     let texts = slices_of(alloc, row.as_slice())?;
-    asked(line_asked(&texts))
+    line_of(line_asked(&texts))
 }

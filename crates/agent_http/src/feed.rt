@@ -1,9 +1,9 @@
 //! The calls of a connection, one after another.
-ghost use Rattle.std.specs.Prelude.{◌≡◌, ◌≤◌, ◌+◌, ◌||◌, [], Some, Ok, false, length, take, drop, IfOk, IfSome, OnOk, OnErr, unwrap_or};
+ghost use Rattle.std.specs.Prelude.{◌≡◌, ◌≤◌, ◌+◌, [], Some, false, length, take, drop, IfOk, IfSome, OnOk, OnErr, unwrap_or};
 ghost use Rattle.httparse.specs.Spans.{span_bytes};
 ghost use Rattle.http_stream.specs.Kept.{StandsAt};
 ghost use Rattle.http_stream.specs.Stream.{LooksAs, with_more};
-ghost use Rattle.agent_http.specs.Calls.{fault_closes};
+ghost use Rattle.agent_http.specs.Calls.{closes_by, fault_closes};
 ghost use Rattle.agent_http.specs.Steps.{StepsAs, answer_at};
 
 use crate::calls::{CallAsk, answered};
@@ -115,15 +115,14 @@ impl Feed {
         requires is_open { self.old.closed ≡ false }
         requires stands { StandsAt self.old.rest (Some head) }
         requires within { head.size + unwrap_or head.length 0 ≤ length self.old.rest }
-        requires asked { answer_at self.old.rest head
-            ≡ Ok (CallAsk.One (Ok (Request.Show account))) }
+        requires asked { answer_at self.old.rest head ≡ CallAsk.Request (Request.Show account) }
         ensures ok { IfOk result (λ step. StepsAs self.old step self.new) }
         ensures err { OnErr result (self.new ≡ self.old) }
     {
         let key = message_key(alloc, self.intake.rest(), head)?;
         let size = size_at(self.intake.rest(), head);
         self.intake.take(size, head.closes);
-        let ask = CallAsk::One(Ok(Request::Show(account)));
+        let ask = CallAsk::Request(Request::Show(account));
         let last = self.intake.is_closed();
         Ok(Step::Call(Call { key, ask, last }))
     }
@@ -154,21 +153,17 @@ impl Feed {
         ensures err { OnErr result (self.new ≡ self.old) }
     {
         let size = size_at(self.intake.rest(), head);
-        let answer = message_answer(alloc, &mut self.room.scratch, self.intake.rest(), head)?;
-        match answer {
-            Ok(ask) => {
-                let key = message_key(alloc, self.intake.rest(), head)?;
-                self.intake.take(size, head.closes);
-                let last = self.intake.is_closed();
-                Ok(Step::Call(Call { key, ask, last }))
-            }
-            Err(fault) => {
-                let closes = either(head.closes, fault_closes(fault));
-                self.intake.take(size, closes);
-                let last = self.intake.is_closed();
-                Ok(Step::Fault { fault, last })
-            }
+        let ask = message_ask(alloc, &mut self.room.scratch, self.intake.rest(), head)?;
+        let closes = closes_by(head.closes, &ask);
+        if let CallAsk::Fault(fault) = ask {
+            self.intake.take(size, closes);
+            let last = self.intake.is_closed();
+            return Ok(Step::Fault { fault, last });
         }
+        let key = message_key(alloc, self.intake.rest(), head)?;
+        self.intake.take(size, closes);
+        let last = self.intake.is_closed();
+        Ok(Step::Call(Call { key, ask, last }))
     }
 }
 
@@ -184,21 +179,21 @@ fn size_at(rest: &[u8], head: HeadAt) -> usize
 fn account_shown(rest: &[u8], head: HeadAt) -> Option<Identifier>
     requires stands { StandsAt rest.now (Some head) }
     ensures { IfSome result
-        (λ account. answer_at rest.now head ≡ Ok (CallAsk.One (Ok (Request.Show account)))) }
+        (λ account. answer_at rest.now head ≡ CallAsk.Request (Request.Show account)) }
 {
     shown_account(head.target.of(rest), head.method.of(rest))
 }
 
 // What the message asks whose head stands here.
-fn message_answer(
+fn message_ask(
     alloc: Global,
     scratch: &mut Scratch,
     rest: &[u8],
     head: HeadAt,
-) -> Result<Result<CallAsk, HttpFault>, NoMemory>
+) -> Result<CallAsk, NoMemory>
     requires stands { StandsAt rest.now (Some head) }
     requires within { head.size + unwrap_or head.length 0 ≤ length rest.now }
-    ensures { IfOk result (λ answer. answer ≡ answer_at rest.now head) }
+    ensures { IfOk result (λ ask. ask ≡ answer_at rest.now head) }
 {
     let body = body_of(rest, head.size, head.length.unwrap_or(0));
     answered(
@@ -225,10 +220,16 @@ fn message_key(alloc: Global, rest: &[u8], head: HeadAt) -> Result<KeyText, NoMe
     KeyText::from_slice(alloc, head.key.of(rest))
 }
 
-fn either(a: bool, b: bool) -> bool
-    ensures { result ≡ (a || b) }
+// Whether the connection closes behind what a message asks that says itself whether it closes it.
+fn closes_by(closes: bool, ask: &CallAsk) -> bool
+    ensures { result ≡ closes_by closes ask.now }
 {
-    a || b
+    match ask {
+        CallAsk::Request(_) => closes,
+        CallAsk::BadForm(_) => closes,
+        CallAsk::Batch(_) => closes,
+        CallAsk::Fault(fault) => closes || fault_closes(*fault),
+    }
 }
 
 fn fault_closes(fault: HttpFault) -> bool

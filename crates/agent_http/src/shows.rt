@@ -1,5 +1,5 @@
 //! Looks at an account. They come most often, and so are read from the target at once, without its parts.
-ghost use Rattle.std.specs.Prelude.{◌≡◌, ℕ, List, Option, Ok, IfSome};
+ghost use Rattle.std.specs.Prelude.{◌≡◌, ℕ, List, Option, IfSome};
 ghost use Rattle.agent_events.specs.Fields as form;
 ghost use Rattle.agent_events.specs.declared.request.Request.{Request};
 ghost use Rattle.agent_http.specs.Calls.{target_answer};
@@ -14,7 +14,7 @@ pub(crate) fn shown_account(target: &[u8], method: &[u8]) -> Option<Identifier>
     ensures { IfSome result
         (λ account. (size : Option ℕ) (body : List ℕ)
         → target_answer target.now method.now size body
-        ≡ Ok (CallAsk.One (Ok (Request.Show account)))) }
+        ≡ CallAsk.Request (Request.Show account)) }
 {
     if target.len() < 9 {
         return None;

@@ -9,7 +9,6 @@ use Rattle.connection_service.specs.Runs.{Run}
 use Rattle.agent_http.specs.Calls.{item_answer, item_key}
 use Rattle.agent_http.specs.declared.calls.CallAsk.{CallAsk}
 use Rattle.http_stream.specs.Stream.{Stream}
-use Rattle.http_stream.specs.declared.fault.HttpFault.{HttpFault}
 use Rattle.register_laws.proofs.RunsAreLawful.{answer_is_lawful, keyed-among}
 use Rattle.register_laws.specs.Lawful.{own_at}
 use Rattle.register_laws.specs.LawfulBatches.{BatchLeavesLawful, batch_events}
@@ -34,22 +33,22 @@ lines-events : (last : Bool) (answered : Result BatchAnswer Refusal) → batch_e
 lines-events last (Ok answered) = refl
 lines-events last (Err why) = refl
 
-by-lawful : BatchesLeaveLawful → (operator key : List ℕ) (last : Bool) (answer : Result CallAsk HttpFault) (old : At) (bytes : List ℕ) (new : At)
-    → AnswersBy operator key last answer old bytes new → IsLawful old.kept.journal → IsLawful new.kept.journal
-by-lawful batches operator key last (Ok (CallAsk.One (Ok request))) old bytes new is lawful =
+by-lawful : BatchesLeaveLawful → (operator key : List ℕ) (last : Bool) (ask : CallAsk) (old : At) (bytes : List ℕ) (new : At)
+    → AnswersBy operator key last ask old bytes new → IsLawful old.kept.journal → IsLawful new.kept.journal
+by-lawful batches operator key last (CallAsk.Request request) old bytes new is lawful =
     let journal = old.kept.journal in
     gets-lawful last _ old.kept bytes new.kept is.gets lawful
     (answer_is_lawful journal (max is.reading (last_moment journal)) (caller_of journal operator key) request (keyed-among journal operator key)
     (later is.reading (last_moment journal)) lawful)
-by-lawful batches operator key last (Ok (CallAsk.One (Err place))) old bytes new is lawful =
+by-lawful batches operator key last (CallAsk.BadForm place) old bytes new is lawful =
     gets-lawful last _ old.kept bytes new.kept is.gets lawful (subst IsLawful (sym (append-nil old.kept.journal)) lawful)
-by-lawful batches operator key last (Ok (CallAsk.Batch lines)) old bytes new is lawful =
+by-lawful batches operator key last (CallAsk.Batch lines) old bytes new is lawful =
     let journal = old.kept.journal in
     let now = max is.reading (last_moment journal) in
     gets-lawful last _ old.kept bytes new.kept is.gets lawful
     (subst (λ (events : List Event). IsLawful (journal ++ events)) (lines-events last (batch_answer (own_at journal now (caller_of journal operator key)) (Ok lines)))
     (batches operator journal now key (Ok lines) lawful (later is.reading (last_moment journal))))
-by-lawful batches operator key last (Err fault) old bytes new is lawful = subst (λ (at : At). IsLawful at.kept.journal) (sym is.1) lawful
+by-lawful batches operator key last (CallAsk.Fault fault) old bytes new is lawful = subst (λ (at : At). IsLawful at.kept.journal) (sym is.1) lawful
 
 pub run-lawful : BatchesLeaveLawful → (operator : List ℕ) (stream : Stream) (opened : At) (left : Stream) (at : At) (texts : List (List ℕ))
     → IsLawful opened.kept.journal → Run operator stream opened left at texts → IsLawful at.kept.journal

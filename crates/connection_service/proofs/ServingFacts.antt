@@ -118,26 +118,26 @@ goes-item operator opened before mid now left after at new item text (Err fault)
     served-cut operator opened before mid now left after at new item text count serving is answers less next
 
 pub goes-call : (operator : List ℕ) (opened : At) (before mid now : Option Links) (left after : Stream) (at new : At) (item : StreamItem) (key : List ℕ) (last : Bool) (ask : CallAsk) (going : Going)
-    → IsServing operator opened before mid left at → IsItem ends left item after → item_answer item ≡ Ok ask → key ≡ item_key item → last ≡ after.closed
+    → IsServing operator opened before mid left at → IsItem ends left item after → item_answer item ≡ ask → key ≡ item_key item → last ≡ after.closed
     → IsReplied operator key last ask at new mid now going → GoesAs operator opened before now after new going
 goes-call operator opened before mid now left after at new item key last ask going serving is asks keys lasts replied =
-    let by_key : AnswersBy operator (item_key item) last (Ok ask) at replied.text new =
-    subst (λ (k : List ℕ). AnswersBy operator k last (Ok ask) at replied.text new) keys replied.answers in
-    let by_last : AnswersBy operator (item_key item) after.closed (Ok ask) at replied.text new =
-    subst (λ (b : Bool). AnswersBy operator (item_key item) b (Ok ask) at replied.text new) lasts by_key in
+    let by_key : AnswersBy operator (item_key item) last ask at replied.text new =
+    subst (λ (k : List ℕ). AnswersBy operator k last ask at replied.text new) keys replied.answers in
+    let by_last : AnswersBy operator (item_key item) after.closed ask at replied.text new =
+    subst (λ (b : Bool). AnswersBy operator (item_key item) b ask at replied.text new) lasts by_key in
     let answers : Answers operator item after.closed at replied.text new =
-    subst (λ (a : Result CallAsk HttpFault). AnswersBy operator (item_key item) after.closed a at replied.text new) (sym asks) by_last in
+    subst (λ (a : CallAsk). AnswersBy operator (item_key item) after.closed a at replied.text new) (sym asks) by_last in
     subst (λ (g : Going). GoesAs operator opened before now after new g) (sym replied.goes)
     (goes-item operator opened before mid now left after at new item replied.text replied.written serving is answers replied.writes)
 
 pub goes-fault : (operator : List ℕ) (opened : At) (before mid now : Option Links) (left after : Stream) (at : At) (item : StreamItem) (fault : HttpFault) (last : Bool) (going : Going)
-    → IsServing operator opened before mid left at → IsItem ends left item after → item_answer item ≡ Err fault → last ≡ after.closed
+    → IsServing operator opened before mid left at → IsItem ends left item after → item_answer item ≡ CallAsk.Fault fault → last ≡ after.closed
     → GoesOnBehind (fault_bytes fault last) mid now going → GoesAs operator opened before now after at going
 goes-fault operator opened before mid now left after at item fault last going serving is asks lasts (written, writes, goes) =
-    let by_last : AnswersBy operator (item_key item) after.closed (Err fault) at (fault_bytes fault last) at =
+    let by_last : AnswersBy operator (item_key item) after.closed (CallAsk.Fault fault) at (fault_bytes fault last) at =
     (ap (fault_bytes fault) lasts, refl) in
     let answers : Answers operator item after.closed at (fault_bytes fault last) at =
-    subst (λ (a : Result CallAsk HttpFault). AnswersBy operator (item_key item) after.closed a at (fault_bytes fault last) at) (sym asks) by_last in
+    subst (λ (a : CallAsk). AnswersBy operator (item_key item) after.closed a at (fault_bytes fault last) at) (sym asks) by_last in
     subst (λ (g : Going). GoesAs operator opened before now after at g) (sym goes)
     (goes-item operator opened before mid now left after at at item (fault_bytes fault last) written serving is answers writes)
 

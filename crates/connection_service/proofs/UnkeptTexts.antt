@@ -10,7 +10,6 @@ use Rattle.connection_service.specs.Requests.{SaysUnkept}
 use Rattle.agent_http.specs.declared.calls.CallAsk.{CallAsk}
 use Rattle.agent_http.specs.ReplyBodies.{json_body}
 use Rattle.agent_http.specs.Bytes.{bytes_of, json_kind, refusal_status, reply_of}
-use Rattle.http_stream.specs.declared.fault.HttpFault.{HttpFault}
 use Rattle.register_machine.specs.run.Batches.{BatchAnswer}
 
 -- the status of a text is 500 or above, by its first digit, which is a 5 behind `HTTP/1.1 `
@@ -44,12 +43,12 @@ gets-unkept last said old bytes new plain (Gets.Answered is next) unkept =
 gets-unkept last said old bytes new plain (Gets.NoMemory is next) unkept = ap (λ (kept : Kept). kept.journal) next
 gets-unkept last said old bytes new plain (Gets.NotKept is some rose next) unkept = next
 
-pub by-unkept : (operator key : List ℕ) (last : Bool) (answer : Result CallAsk HttpFault) (old : At) (bytes : List ℕ) (new : At)
-    → AnswersBy operator key last answer old bytes new → SaysUnkept last bytes → new.kept.journal ≡ old.kept.journal
-by-unkept operator key last (Ok (CallAsk.One (Ok request))) old bytes new is unkept =
+pub by-unkept : (operator key : List ℕ) (last : Bool) (ask : CallAsk) (old : At) (bytes : List ℕ) (new : At)
+    → AnswersBy operator key last ask old bytes new → SaysUnkept last bytes → new.kept.journal ≡ old.kept.journal
+by-unkept operator key last (CallAsk.Request request) old bytes new is unkept =
     gets-unkept last _ old.kept bytes new.kept (reply-no_fault _ last) is.gets unkept
-by-unkept operator key last (Ok (CallAsk.One (Err place))) old bytes new is unkept =
+by-unkept operator key last (CallAsk.BadForm place) old bytes new is unkept =
     gets-unkept last _ old.kept bytes new.kept (reply-no_fault (Reply.Refused (Refusal.BadForm place)) last) is.gets unkept
-by-unkept operator key last (Ok (CallAsk.Batch lines)) old bytes new is unkept =
+by-unkept operator key last (CallAsk.Batch lines) old bytes new is unkept =
     gets-unkept last _ old.kept bytes new.kept (lines-no_fault last _) is.gets unkept
-by-unkept operator key last (Err fault) old bytes new is unkept = ap (λ (at : At). at.kept.journal) is.1
+by-unkept operator key last (CallAsk.Fault fault) old bytes new is unkept = ap (λ (at : At). at.kept.journal) is.1

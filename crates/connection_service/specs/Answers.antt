@@ -93,23 +93,19 @@ pub record IsRefused (last : Bool) (place : ℕ) (old : At) (bytes : List ℕ) (
   pub unread : new.clock ≡ old.clock
   pub gets : Gets last (said_to_bad_form last place) old.kept bytes new.kept
 
-abbrev pub AnswersOne : List ℕ → List ℕ → Bool → Asked → At → List ℕ → At → Type 0
-AnswersOne operator key last (Ok request) old bytes new = IsAnswered operator key last (said_to_request last request) old bytes new
-AnswersOne operator key last (Err place) old bytes new = IsRefused last place old bytes new
-
-abbrev pub AnswersAsk : List ℕ → List ℕ → Bool → CallAsk → At → List ℕ → At → Type 0
-AnswersAsk operator key last (CallAsk.One asked) old bytes new = AnswersOne operator key last asked old bytes new
-AnswersAsk operator key last (CallAsk.Batch lines) old bytes new = IsAnswered operator key last (said_to_batch last lines) old bytes new
-
 -- what a batch asks are lines, or fields that aren't in their form
 abbrev pub batch_asks_lines : CallAsk → Bool
-batch_asks_lines (CallAsk.One asked) = true
 batch_asks_lines (CallAsk.Batch lines) = all_lines lines
+batch_asks_lines ask = true
 
--- a fault of the stream takes no reading, and nothing is kept of it
-abbrev pub AnswersBy : List ℕ → List ℕ → Bool → Result CallAsk HttpFault → At → List ℕ → At → Type 0
-AnswersBy operator key last (Ok ask) old bytes new = AnswersAsk operator key last ask old bytes new
-AnswersBy operator key last (Err fault) old bytes new = (bytes ≡ fault_bytes fault last) × (new ≡ old)
+-- the answer to what is asked; a fault takes no reading, and nothing is kept of it
+abbrev pub AnswersBy : List ℕ → List ℕ → Bool → CallAsk → At → List ℕ → At → Type 0
+AnswersBy operator key last (CallAsk.Request request) old bytes new =
+    IsAnswered operator key last (said_to_request last request) old bytes new
+AnswersBy operator key last (CallAsk.BadForm place) old bytes new = IsRefused last place old bytes new
+AnswersBy operator key last (CallAsk.Batch lines) old bytes new =
+    IsAnswered operator key last (said_to_batch last lines) old bytes new
+AnswersBy operator key last (CallAsk.Fault fault) old bytes new = (bytes ≡ fault_bytes fault last) × (new ≡ old)
 
 -- the answer to an item of the stream; `last` says that the connection closes behind it
 abbrev pub Answers : List ℕ → StreamItem → Bool → At → List ℕ → At → Type 0

@@ -22,7 +22,7 @@ use Rattle.register_machine.specs.run.Batches.{batch_after_lines, situation_behi
 
 -- an item of the stream asks this request
 abbrev pub Asks : StreamItem → Request → Type 0
-Asks item request = item_answer item ≡ Ok (CallAsk.One (Ok request))
+Asks item request = item_answer item ≡ CallAsk.Request request
 
 -- a text says that nothing was kept: the keeper failed, or memory was wanting
 abbrev pub SaysUnkept : Bool → List ℕ → Type 0

@@ -8,7 +8,7 @@ use Rattle.agent_http.specs.declared.calls.CallAsk.{CallAsk}
 use Rattle.agent_http.specs.Bytes.{fault_bytes}
 use Rattle.http_stream.specs.Stream.{Stream, Undecided, item_limit}
 use Rattle.http_stream.specs.declared.fault.HttpFault.{HttpFault}
-use Rattle.connection_service.specs.Answers.{AnswersAsk, At, clock_at, kept_at}
+use Rattle.connection_service.specs.Answers.{AnswersBy, At, clock_at, kept_at}
 use Rattle.connection_service.specs.Runs.{Run, stream_of}
 use Rattle.connection_service.specs.declared.serving.Going.{Going}
 use Rattle.connection_service.specs.declared.serving.Served.{Served}
@@ -93,7 +93,7 @@ going_over (Err fault) = Going.Over Served.LinkFailed
 -- A call was answered with a text, and the text was written.
 pub record IsReplied (operator key : List ℕ) (last : Bool) (ask : CallAsk) (old new : At) (before now : Option Links) (going : Going) : Type 0 where
   pub text : List ℕ
-  pub answers : AnswersAsk operator key last ask old text new
+  pub answers : AnswersBy operator key last ask old text new
   pub written : Result Unit LinkFault
   pub writes : IsWritten text before now written
   pub goes : going ≡ going_on written

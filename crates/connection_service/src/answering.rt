@@ -2,7 +2,7 @@
 ghost use Rattle.std.specs.Prelude.{◌≡◌, ◌≢◌, ◌≤◌, ◌++◌, ℕ, [], IfOk, IsErrOf, IsTrue, OnErr, OnOk, max, true};
 ghost use Rattle.agent_keeper.specs.Calls.{Counts, GoesOn};
 ghost use Rattle.agent_keeper.specs.declared.fault.KeepFault.{KeepFault as Fault};
-ghost use Rattle.connection_service.specs.Answers.{AnswersAsk, AnswersOne, Gets, IsAnswered, batch_asks_lines, kept_at, said_to_bad_form, said_to_request, text_of};
+ghost use Rattle.connection_service.specs.Answers.{AnswersBy, Gets, IsAnswered, batch_asks_lines, kept_at, said_to_bad_form, said_to_request, text_of};
 ghost use Rattle.connection_service.specs.Serving.{at_of};
 ghost use Rattle.register_desk.specs.Answered.{IsCaller};
 ghost use Rattle.agent_http.specs.Bytes.{bytes_of};
@@ -14,7 +14,7 @@ ghost use Rattle.register_machine.specs.run.Answers.{answer};
 use crate::batches::answer_batch;
 use crate::texts::{Text, kept_text, reply_text};
 use agent_edge::Clock;
-use agent_events::{Asked, Caller, Refusal, Reply, Request};
+use agent_events::{Caller, Refusal, Reply, Request};
 use agent_http::{Call, CallAsk};
 use agent_keeper::{KeepFault, Keeper};
 use household_fold::Steps;
@@ -153,39 +153,6 @@ fn bad_form(alloc: Global, place: u8, last: bool) -> Text
     }
 }
 
-// Answers what one request asks.
-fn answer_one<K: Keeper, C: Clock, L: StepLedger>(
-    alloc: Global,
-    desk: &mut Desk,
-    keeper: &mut K,
-    clock: &mut C,
-    operator: &[u8],
-    key: &[u8],
-    asked: &Asked,
-    last: bool,
-    steps: &mut Steps<L>,
-) -> Text
-    requires attached { IsTrue (K.is_attached keeper.old) }
-    requires told { TellsRowsOf (K.tells keeper.old) desk.old.book.journal }
-    ensures answers { AnswersOne operator.now key.now last asked.now
-        (at_of desk.old.book.journal (K.faults keeper.old) (C.last clock.old) (C.coming clock.old))
-        (text_of last result)
-        (at_of desk.new.book.journal (K.faults keeper.new)
-        (C.last clock.new) (C.coming clock.new)) }
-    ensures grown { (more : Journal) × (desk.new.book.journal ≡ desk.old.book.journal ++ more) }
-    ensures told { TellsRowsOf (K.tells keeper.new) desk.new.book.journal }
-    ensures attached { IsTrue (K.is_attached keeper.new) }
-    ensures was_honest { K.is_honest keeper.new → K.is_honest keeper.old }
-    ensures goes_on { GoesOn K.moment K.gave keeper.old keeper.new }
-{
-    match asked {
-        Ok(request) => answer_read(
-            alloc, desk, keeper, clock, operator, key, request, last, steps,
-        ),
-        Err(place) => bad_form(alloc, *place, last),
-    }
-}
-
 /// Answers what a call asks, with the text that is to be written.
 pub(crate) fn answer_call<K: Keeper, C: Clock, L: StepLedger>(
     alloc: Global,
@@ -199,7 +166,7 @@ pub(crate) fn answer_call<K: Keeper, C: Clock, L: StepLedger>(
     requires attached { IsTrue (K.is_attached keeper.old) }
     requires told { TellsRowsOf (K.tells keeper.old) desk.old.book.journal }
     requires lines { batch_asks_lines call.now.ask ≡ true }
-    ensures answers { AnswersAsk operator.now call.now.key call.now.last call.now.ask
+    ensures answers { AnswersBy operator.now call.now.key call.now.last call.now.ask
         (at_of desk.old.book.journal (K.faults keeper.old) (C.last clock.old) (C.coming clock.old))
         (text_of call.now.last result)
         (at_of desk.new.book.journal (K.faults keeper.new)
@@ -212,9 +179,10 @@ pub(crate) fn answer_call<K: Keeper, C: Clock, L: StepLedger>(
 {
     let key = call.key.as_slice();
     match &call.ask {
-        CallAsk::One(asked) => answer_one(
-            alloc, desk, keeper, clock, operator, key, asked, call.last, steps,
+        CallAsk::Request(request) => answer_read(
+            alloc, desk, keeper, clock, operator, key, request, call.last, steps,
         ),
+        CallAsk::BadForm(place) => bad_form(alloc, *place, call.last),
         CallAsk::Batch(lines) => answer_batch(
             alloc,
             desk,
@@ -225,5 +193,6 @@ pub(crate) fn answer_call<K: Keeper, C: Clock, L: StepLedger>(
             lines.as_slice(),
             call.last,
         ),
+        CallAsk::Fault(fault) => Err(*fault),
     }
 }

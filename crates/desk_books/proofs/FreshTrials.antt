@@ -1,16 +1,22 @@
 -- A correction that no rule before the last one refuses, on trial behind a lawful journal.
-use Rattle.std.proofs.Common.{None, Option, Some, ap, is_none, is_some, position, refl, sym, true, ℕ, ◌∙◌, ◌≡◌}
+use Rattle.std.proofs.Common.{None, Option, Some, ap, is_none, is_some, position, refl, subst, sym, true, ℕ, ◌∙◌, ◌≡◌}
 use Rattle.std.proofs.lemmas.Bool.{true≢false}
+use Rattle.std.specs.List.{list_any}
 use Rattle.agent_events.specs.Events.{Event, event_of, request_of}
 use Rattle.agent_events.specs.declared.event.EventKind.{EventKind}
 use Rattle.agent_events.specs.declared.order.Order.{Order}
 use Rattle.agent_events.specs.declared.order.OrderRow.{OrderRow}
 use Rattle.agent_events.specs.declared.reply.Refusal.{Refusal}
 use Rattle.agent_events.specs.declared.request.EntryForm.{EntryForm}
+use Rattle.agent_events.specs.declared.request.FixPriceForm.{FixPriceForm}
 use Rattle.agent_events.specs.declared.request.Request.{Request}
 use Rattle.agent_events.specs.declared.verdict.Caller.{Caller}
 use Rattle.agent_events.specs.declared.verdict.Verdict.{Verdict}
+use Rattle.desk_books.specs.BooksOfJournals.{AreBooksOf}
+use Rattle.desk_books.specs.CorrectionTrials.{IsFresh}
 use Rattle.desk_books.specs.Fresh.{FreshIsOnTrial, KnowsItsAccount}
+use Rattle.desk_books.specs.declared.books.DeskBooks.{DeskBooks}
+use Rattle.forward_price.specs.PriceTables.{Table}
 use Rattle.register_laws.proofs.TriedCorrections.{tried_has_a_book}
 use Rattle.register_laws.specs.EventReplays.{is_correction}
 use Rattle.ledger_laws.proofs.TrialBooks.{trial_is_sound}
@@ -20,15 +26,18 @@ use Rattle.order_book.specs.Books.{Fits, begins_new_name}
 use Rattle.register_laws.proofs.AnswersByCases.{asks}
 use Rattle.register_laws.proofs.NothingBefore.{all-named}
 use Rattle.register_laws.proofs.OrderReach.{tried_event_reach}
+use Rattle.register_laws.proofs.Choosing.{some_none}
 use Rattle.register_laws.proofs.RulesByName.{not_broken}
 use Rattle.register_laws.specs.Lawful.{own_at}
-use Rattle.register_laws.specs.OneEventMore.{TouchesNothing, is_unfixed}
+use Rattle.register_laws.specs.OneEventMore.{TouchesNothing, corrected_table, is_unfixed}
 use Rattle.register_machine.specs.journal.Choices.{first_some}
 use Rattle.register_machine.specs.journal.Journals.{Journal}
+use Rattle.reference_tables.proofs.PricedSheets.{listed-patch}
+use Rattle.reference_tables.specs.TablesOfJournals.{patch_on}
 use Rattle.register_machine.specs.journal.Kinds.{account_numbered, accounts_of, household_of}
 use Rattle.register_machine.specs.pricing.CorrectedOrders.{order_named, orders_of}
 use Rattle.register_machine.specs.rules.InOrder.{Rule, broken_rule, first_rules}
-use Rattle.register_machine.specs.rules.NamedThings.{none_such, things_named}
+use Rattle.register_machine.specs.rules.NamedThings.{lists_at, none_such, things_named}
 use Rattle.register_machine.specs.rules.Situations.{Situation, event_at}
 use Rattle.register_machine.specs.run.Verdicts.{due_now, repeats, verdict_by_event, verdict_by_place, verdict_by_right, verdict_by_rule}
 
@@ -109,3 +118,18 @@ fresh_is_on_trial journal event lawful corrects fresh =
       orders = tried_has_a_book journal event lawful (record { correction = corrects; touches = touches; new = entered-new journal event fits });
       owned = knows-account journal event.moment fresh.caller event.kind corrects (not_broken situation (request_of event.kind) clear Rule.NoSuch);
     }
+
+-- ---- the patch of a corrected price
+
+-- a sheet lists its class at its moment
+price-there : (journal : Journal) (event : Event) (form : FixPriceForm) → event.kind ≡ EventKind.FixPrice form → IsFresh journal event → list_any (lists_at form.class form.moment) (corrected_table journal).sheets ≡ true
+price-there journal event form kind fresh =
+    let situation = own_at journal event.moment fresh.caller in
+    (all-named (things_named situation (Request.FixPrice form))
+    (not_broken situation (Request.FixPrice form)
+    (subst (λ (k : EventKind). broken_rule situation (request_of k) ≡ None) kind (fresh-clear situation fresh.request event fresh.fresh)) Rule.NoSuch)).1.1.0
+
+pub price_patched : (books : DeskBooks) (event : Event) (form : FixPriceForm) → AreBooksOf books.book.journal books → event.kind ≡ EventKind.FixPrice form → IsFresh books.book.journal event → patch_on books.prices.table.sheets form ≡ None → ⊥
+price_patched books event form are kind fresh none =
+    let found = listed-patch books.book.journal form (price-there books.book.journal event form kind fresh) in
+    some_none (sym found.1.patch ∙ (sym (ap (λ (table : Table). patch_on table.sheets form) are.prices) ∙ none))

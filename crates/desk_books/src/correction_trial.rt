@@ -136,7 +136,7 @@ fn try_kind<L: StepLedger>(
         EventKind::Enter(_) => try_order(alloc, books, event, steps),
         EventKind::Replace(_) => try_order(alloc, books, event, steps),
         EventKind::Void(_) => try_order(alloc, books, event, steps),
-        _ => Err(NoMemory),
+        _ => unreachable!(),
     }
 }
 
@@ -169,7 +169,7 @@ fn try_price<L: StepLedger>(
                 steps,
             )
         }
-        None => Err(NoMemory),
+        None => unreachable!(),
     }
 }
 
@@ -313,7 +313,8 @@ fn moved(
     patch: Option<Patch>,
     moves: Vec<HouseholdMove>,
 ) -> Result<Tried, NoMemory>
-    requires { AreMoves moves.items }
+    requires moves { AreMoves moves.items }
+    requires correction { is_correction event.now.kind ≡ true }
     ensures { IfOk result (AreMovesOf event.now
         (sheets_on_trial patch books.now.prices.table.sheets)
         books.now.ledger.parts moves.items) }
@@ -321,7 +322,7 @@ fn moved(
     let made = books.ledger.change_of(alloc, moves)?;
     match bearer_of(event.kind()) {
         Some(bearer) => moved_with(alloc, made, bearer, &books.prices, patch),
-        None => Err(NoMemory),
+        None => unreachable!(),
     }
 }
 

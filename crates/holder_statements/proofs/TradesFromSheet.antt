@@ -1,11 +1,11 @@
 -- The place of a sheet among trades that never fall by sheet, and what is found from it on.
-use Rattle.std.proofs.Common.{Bool, List, Option, Some, [], ap, arith, cond, drop, false, find, get_or, inl, inr, length, nat_lt, not, refl, suc, sym, true, zero, ℕ, ◌&&◌, ◌-◌, ◌<◌, ◌==◌, ◌||◌, ◌∙◌, ◌∷◌, ◌≡◌, ◌≤◌}
+use Rattle.std.proofs.Common.{Bool, List, Option, Some, [], ap, arith, cond, drop, false, find, get_or, inl, inr, length, nat_lt, not, refl, suc, sym, true, zero, ℕ, ◌-◌, ◌<◌, ◌==◌, ◌||◌, ◌∙◌, ◌∷◌, ◌≡◌, ◌≤◌}
 use Rattle.std.proofs.lemmas.Bool.{and_parts, cases_lt, true≢false}
 use Rattle.std.proofs.lemmas.Bool.Decides.{eqb_tells, nat_tests}
 use Rattle.std.proofs.lemmas.Option.{slice_get-get_or, slice_get_past}
 use Rattle.std.specs.List.Sorted.{IsPartitionedBy}
 use Rattle.std.specs.Option.{option_map_or}
-use Rattle.std.specs.Prelude.{option_map, slice_get, unwrap_or}
+use Rattle.std.specs.Prelude.{option_map, unwrap_or}
 use Rattle.agent_events.specs.declared.trade.Trade.{Trade}
 use Rattle.holder_statements.specs.OrderTraces.{NeverFall}
 use Rattle.holder_statements.specs.SheetPlaces.{IsPlaceOf, IsTradedOn, follows_earlier, is_earlier_at, parts_at}

@@ -1,6 +1,6 @@
 -- What became of an order, by the trades of a list; its own, if there is one, is on the sheet of its next price.
 use Rattle.std.specs.Option.{option_map_or}
-use Rattle.std.specs.Prelude.{AllPairs, List, Option, [], find, if◌then◌else◌, unwrap_or, ℕ, ◌≡◌, ◌≤◌}
+use Rattle.std.specs.Prelude.{AllPairs, List, Option, [], find, if◌then◌else◌, unwrap_or, ◌≡◌, ◌≤◌}
 use Rattle.agent_events.specs.declared.order.OrderRow.{OrderRow}
 use Rattle.agent_events.specs.declared.reply.OrderState.{OrderState}
 use Rattle.agent_events.specs.declared.reply.TraceReply.{TraceReply}

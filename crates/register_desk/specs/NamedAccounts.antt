@@ -13,9 +13,10 @@ HasAccount journal account = is_some (account_numbered (accounts_of journal) acc
 abbrev pub IsOfHousehold : Journal → ℕ → ℕ → Type 0
 IsOfHousehold journal household account = is_of_household (accounts_of journal) household account ≡ true
 
--- the account that a look names stands
+-- the request is a look, and the account that it names stands
 abbrev pub NamesAnAccount : Journal → Request → Type 0
 NamesAnAccount journal (Request.Show account) = HasAccount journal account
 NamesAnAccount journal (Request.Trace form) = HasAccount journal form.account
 NamesAnAccount journal (Request.Statement form) = HasAccount journal form.account
-NamesAnAccount journal _ = Unit {0}
+NamesAnAccount journal Request.Books = Unit {0}
+NamesAnAccount journal _ = ⊥

@@ -7,7 +7,7 @@ ghost use Rattle.gain_loss_book.specs.Booked.{correction_at};
 ghost use Rattle.register_machine.specs.run.Answers.{repeat_answer, says};
 ghost use Rattle.register_machine.specs.run.Replies.{first_reply};
 
-use agent_events::{ClassGains, Event, Refusal, Reply};
+use agent_events::{ClassGains, Event, Reply};
 use desk_books::DeskBooks;
 use gain_loss_book::Correction;
 use money_units::NoMemory;
@@ -56,7 +56,7 @@ pub fn repeat_reply(alloc: Global, books: &DeskBooks, place: u64) -> Result<Repl
 {
     match books.book.event(place) {
         Some(event) => reply_again(alloc, books, place, event),
-        None => Ok(Reply::Refused(Refusal::BadForm(0))),
+        None => unreachable!(),
     }
 }
 

@@ -41,7 +41,7 @@ fn reply_by_verb(alloc: Global, books: &DeskBooks, request: &Request) -> Result<
         Request::Trace(form) => Ok(trace_reply(books, form)),
         Request::Statement(form) => statement_reply(alloc, books, form),
         Request::Books => books_reply(alloc, books),
-        _ => Ok(Reply::Refused(Refusal::BadForm(0))),
+        _ => unreachable!(),
     }
 }
 

@@ -1,11 +1,16 @@
 -- That `moved` keeps its contract.
-use Rattle.std.proofs.Common.{ap, sym, ◌∙◌}
+use Rattle.std.proofs.Common.{ap, is_some, sym, ◌∙◌}
+use Rattle.std.proofs.lemmas.Bool.{true≢false}
 use Rattle.std.proofs.lemmas.Result.{IfOk-weaker}
 use Rattle.register_machine.specs.corrections.Payments.{bearer_in}
 use Rattle.desk_books.proofs.correction_trial.moved.Goals as goal
 
-pub returns-in-Some : goal.returns-in-Some
-returns-in-Some c =
+pub unreachable-requires : goal.unreachable-requires
+unreachable-requires c =
+    true≢false (sym (ap (λ kind. is_some (bearer_in kind)) c.kind.ensures.kind ∙ c.requires.correction) ∙ ap is_some (sym c.bearer_of.ensures ∙ c.in-None.is))
+
+pub returns : goal.returns
+returns c =
     IfOk-weaker c.moved_with.result _ _
     (λ tried is. record {
       made = c.in_ok-made.made;

@@ -9,8 +9,11 @@ use Rattle.desk_books.specs.CorrectionTrials.{Says}
 use Rattle.forward_price.specs.PriceTables.{sheets_on_trial}
 use Rattle.desk_books.proofs.correction_trial.said.Goals as goal
 
-pub moved-requires : goal.moved-requires
-moved-requires c = are_moves c.args.books.now c.args.event.now c.args.facts.now c.args.reopened.moves.items c.args.reopened.first.least c.requires.reached
+pub moved-requires-clause-moves : goal.moved-requires-clause-moves
+moved-requires-clause-moves c = are_moves c.args.books.now c.args.event.now c.args.facts.now c.args.reopened.moves.items c.args.reopened.first.least c.requires.reached
+
+pub moved-requires-clause-correction : goal.moved-requires-clause-correction
+moved-requires-clause-correction c = c.requires.tried.corrects
 
 pub returns-in-Some : goal.returns-in-Some
 returns-in-Some c =
