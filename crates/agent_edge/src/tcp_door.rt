@@ -1,23 +1,65 @@
 //! The door on the system's sockets. It tells no content: what the system gives and takes is trusted.
-ghost use Rattle.std.specs.Prelude.{◌≡◌, is_some, false, None};
+ghost use Rattle.std.specs.Prelude.{◌≡◌, ◌≤◌, is_some, false, length, IfOk, None};
 
 use super::{Door, DoorFault, LinkFault};
-use std::io::{Read, Write};
+use std::io;
+use std::io::{ErrorKind, Read, Write};
 use std::net::{
     Ipv4Addr, Net, OpenListener, OpenStream, Shutdown, SocketAddr, SocketAddrV4, TcpListener,
 };
+use std::time::{Clock, Duration, Instant};
+
+// How many seconds a connection may go without an answer, and how long a reply may take to be taken.
+const PATIENCE: u64 = 30;
+
+// From when on the time of a connection counts, by the system's clock: from its accept or its last answer on while a request is awaited,
+// from the begin of a reply on while that is written. It isn't known where the clock couldn't be read, and then the time is up.
+#[derive(Clone, Copy)]
+struct Turn {
+    since: Option<Instant>,
+    writes: bool,
+}
+
+impl Turn {
+    fn new<R: Clock>(clock: &R, writes: bool) -> Turn {
+        Turn {
+            since: Instant::now(clock).ok(),
+            writes,
+        }
+    }
+
+    // The turn of a read or a write: this one, where it is of that kind already.
+    fn goes_on<R: Clock>(self, clock: &R, writes: bool) -> Turn {
+        if self.writes == writes {
+            self
+        } else {
+            Turn::new(clock, writes)
+        }
+    }
+
+    // What is left of the time, where something is.
+    fn left<R: Clock>(self, clock: &R) -> Option<Duration> {
+        let passed = self.since?.elapsed(clock).ok()?;
+        let left = Duration::from_secs(PATIENCE).checked_sub(passed)?;
+        if left.is_zero() { None } else { Some(left) }
+    }
+}
 
 /// Connections to a port of this machine, at 127.0.0.1 alone.
+///
+/// A connection that gets no answer for 30 seconds since it was accepted or last answered, however its bytes trickle in, is given up: its
+/// next read is a fault of the link. So is one that doesn't take a reply within 30 seconds: the write that waits for it is a fault.
 #[derive(Drop)]
-pub struct TcpDoor<R: Net> {
+pub struct TcpDoor<R: Net + Clock> {
     net: R,
     listener: Option<R::Listener>,
     stream: Option<R::Stream>,
+    turn: Turn,
     door_faults: u64,
     link_faults: u64,
 }
 
-impl<R: Net> TcpDoor<R> {
+impl<R: Net + Clock> TcpDoor<R> {
     /// A door that doesn't listen yet.
     pub fn new(net: R) -> TcpDoor<R>
         ensures connected { ⟦<TcpDoor<R> as Door>⟧.is_connected result ≡ false }
@@ -28,6 +70,10 @@ impl<R: Net> TcpDoor<R> {
             net,
             listener: None,
             stream: None,
+            turn: Turn {
+                since: None,
+                writes: false,
+            },
             door_faults: 0,
             link_faults: 0,
         }
@@ -51,6 +97,36 @@ where
     }
 }
 
+// Reads what comes within this time; where none is left nothing is waited for.
+fn read_within<S: Read + OpenStream>(
+    stream: &mut S,
+    left: Option<Duration>,
+    into: &mut [u8],
+) -> io::Result<usize>
+    ensures within { IfOk result (λ count. count ≤ length into.new) }
+{
+    let Some(left) = left else {
+        return Err(io::Error::from(ErrorKind::TimedOut));
+    };
+    stream.set_read_timeout(Some(left))?;
+    stream.read(into)
+}
+
+// Writes what is taken within this time.
+fn write_within<S: Write + OpenStream>(
+    stream: &mut S,
+    left: Option<Duration>,
+    from: &[u8],
+) -> io::Result<usize>
+    ensures within { IfOk result (λ count. count ≤ length from.now) }
+{
+    let Some(left) = left else {
+        return Err(io::Error::from(ErrorKind::TimedOut));
+    };
+    stream.set_write_timeout(Some(left))?;
+    stream.write(from)
+}
+
 // Reads what has come and passes it over, without waiting for more: a connection that is closed over bytes which
 // nobody read may lose the reply on its way.
 fn pass_over<S: Read + OpenStream>(stream: &mut S) {
@@ -66,7 +142,7 @@ fn pass_over<S: Read + OpenStream>(stream: &mut S) {
     }
 }
 
-impl<R: Net> Door for TcpDoor<R> {
+impl<R: Net + Clock> Door for TcpDoor<R> {
     ghost told = { λ _. None };
 
     ghost is_connected = { λ door. is_some door.stream };
@@ -93,6 +169,7 @@ impl<R: Net> Door for TcpDoor<R> {
         match next_stream(&self.listener) {
             Some(stream) => {
                 self.stream = Some(stream);
+                self.turn = Turn::new(&self.net, false);
                 Ok(true)
             }
             None => {
@@ -103,8 +180,10 @@ impl<R: Net> Door for TcpDoor<R> {
     }
 
     fn read(&mut self, into: &mut [u8]) -> Result<usize, LinkFault> {
+        self.turn = self.turn.goes_on(&self.net, false);
+        let left = self.turn.left(&self.net);
         let read = match &mut self.stream {
-            Some(stream) => stream.read(into),
+            Some(stream) => read_within(stream, left, into),
             None => unreachable!(),
         };
         match read {
@@ -117,8 +196,10 @@ impl<R: Net> Door for TcpDoor<R> {
     }
 
     fn write(&mut self, from: &[u8]) -> Result<usize, LinkFault> {
+        self.turn = self.turn.goes_on(&self.net, true);
+        let left = self.turn.left(&self.net);
         let written = match &mut self.stream {
-            Some(stream) => stream.write(from),
+            Some(stream) => write_within(stream, left, from),
             None => unreachable!(),
         };
         match written {
